@@ -1,0 +1,4 @@
+pub mod Days
+pub mod Fields
+pub mod Order
+pub mod Table

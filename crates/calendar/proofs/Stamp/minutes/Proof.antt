@@ -1,0 +1,41 @@
+-- `calendar::Stamp::minutes` meets its contract: the day's number stands for its definition, and no stamp passes the last minute.
+-- Assumes nothing.
+use mathlib.Core.Path.{refl}
+use borrow.Author.Needs.{needs}
+use Rattle.calendar.specs.Stamps.{minuteNumber}
+use Rattle.calendar.proofs.Fields.{stamp-parts}
+use Rattle.calendar.proofs.Order.{within}
+use Rattle.calendar.proofs.Stamp.minutes.Statement.{statement}
+use Rattle.calendar.proofs.Stamp.minutes.Tie as tie
+
+day-number-requires : tie.Need-day-number-requires
+day-number-requires c κs = stamp-parts (c .args .self) (c .pre) .0
+
+mul-t3 : tie.Need-mul-t3
+mul-t3 c = search needs
+
+cast-t4 : tie.Need-cast-t4
+cast-t4 c = search needs
+
+mul-t5 : tie.Need-mul-t5
+mul-t5 c = search needs
+
+add-t6 : tie.Need-add-t6
+add-t6 c = search needs
+
+cast-t7 : tie.Need-cast-t7
+cast-t7 c = search needs
+
+add-t8 : tie.Need-add-t8
+add-t8 c = search needs
+
+returns : tie.Need-returns
+unfolding minuteNumber
+returns c =
+    let s = c .before .before .before .args .self in
+    rw (c .before .before .day-number .ensures .value)
+    record { value = refl; range = within s (c .before .before .before .pre) }
+
+pub minutes-spec : {M : Type 1} → statement M
+minutes-spec =
+    tie.close (tie.spec day-number-requires mul-t3 cast-t4 mul-t5 add-t6 cast-t7 add-t8 returns)

@@ -1,0 +1,115 @@
+// Stamps and minute numbers: a moment of 2000 to 2099 as its date and clock time, and as minutes since 2000-01-01 00:00.
+// Every day has 1,440 minutes. The days before each month stand as a table, one row for common and one for leap years.
+use units::Minutes;
+ghost use mathlib.Core.Path.{_≡_};
+ghost use mathlib.Core.Bool.{true};
+ghost use Prim.Native.Nat.{_≤_};
+ghost use Rattle.calendar.specs.Days.{leap, monthDays, DaysBefore, DayNumber};
+ghost use Rattle.calendar.specs.Stamps.{isDate, isClock, isStamp, stampOf, MinuteNumber};
+
+// The days before each month: of a common year, and of a leap year.
+const COMMON: [u32; 12] = [0, 31, 59, 90, 120, 151, 181, 212, 243, 273, 304, 334];
+
+const LEAP: [u32; 12] = [0, 31, 60, 91, 121, 152, 182, 213, 244, 274, 305, 335];
+
+pub struct Stamp {
+    pub year: u16,
+    pub month: u8,
+    pub day: u8,
+    pub hour: u8,
+    pub minute: u8,
+}
+
+// What the maker answers: the stamp, or that the fields are no date 2000..2099 or no clock time.
+pub enum Made {
+    Good(Stamp),
+    Refused,
+}
+
+fn is_leap(year: u16) -> bool
+    ensures { λ r. ⌜ r ≡ leap year ⌝ }
+{
+    (year % 4 == 0) & ((year % 100 != 0) | (year % 400 == 0))
+}
+
+fn month_days(leap_year: bool, month: u8) -> u8
+    ensures { λ r. ⌜ r ≡ monthDays «leap_year» month ⌝ }
+{
+    match month {
+        2 => { if leap_year { 29 } else { 28 } }
+        4 | 6 | 9 | 11 => 30,
+        _ => 31,
+    }
+}
+
+fn is_date(year: u16, month: u8, day: u8) -> bool
+    ensures { λ r. ⌜ r ≡ isDate year month day ⌝ }
+{
+    (Stamp::FIRST_YEAR <= year)
+        & (year <= Stamp::LAST_YEAR)
+        & (1 <= month)
+        & (month <= 12)
+        & (1 <= day)
+        & (day <= month_days(is_leap(year), month))
+}
+
+fn is_clock(hour: u8, minute: u8) -> bool
+    ensures { λ r. ⌜ r ≡ isClock hour minute ⌝ }
+{
+    (hour <= 23) & (minute <= 59)
+}
+
+// The days of the year that go before a month's first.
+fn days_before(leap_year: bool, month: u8) -> u32
+    requires { ⌜ (1 ≤ month) × (month ≤ 12) ⌝ }
+    ensures { λ r. ⌜ DaysBefore «leap_year» month r ⌝ }
+{
+    let at = (month - 1) as usize;
+    if leap_year { LEAP[at] } else { COMMON[at] }
+}
+
+// The days from 2000-01-01 to a date. Of the years 2000 to 2099 every fourth is a leap year, the first among them.
+fn day_number(year: u16, month: u8, day: u8) -> u32
+    requires { ⌜ isDate year month day ≡ true ⌝ }
+    ensures { λ r. ⌜ DayNumber year month day r ⌝ }
+{
+    let years = (year - Stamp::FIRST_YEAR) as u32;
+    let in_year = days_before(is_leap(year), month) + (day - 1) as u32;
+    365 * years + (years + 3) / 4 + in_year
+}
+
+impl Stamp {
+    // A stamp's bytes in a record.
+    pub const SIZE: usize = 6;
+
+    pub const FIRST_YEAR: u16 = 2000;
+
+    pub const LAST_YEAR: u16 = 2099;
+    // 2099-12-31 23:59.
+    pub const LAST_MINUTE: u32 = 52_595_999;
+
+    pub fn make(year: u16, month: u8, day: u8, hour: u8, minute: u8) -> Made
+        ensures { λ r. ⌜ r ≡ stampOf year month day hour minute ⌝ }
+    {
+        if is_date(year, month, day) & is_clock(hour, minute) {
+            Made::Good(Stamp {
+                year,
+                month,
+                day,
+                hour,
+                minute,
+            })
+        } else {
+            Made::Refused
+        }
+    }
+
+    // The minutes from 2000-01-01 00:00 to the stamp.
+    pub fn minutes(self) -> Minutes
+        requires { ⌜ isStamp self ≡ true ⌝ }
+        ensures { λ r. ⌜ MinuteNumber self (r .0) ⌝ }
+    {
+        let day = day_number(self.year, self.month, self.day);
+        Minutes(1440 * day + 60 * self.hour as u32 + self.minute as u32)
+    }
+}

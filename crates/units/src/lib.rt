@@ -1,0 +1,55 @@
+// The four units that the papers count in, and the two roundings that a price is made with.
+// All money is whole cents. A count in one unit is never taken where another belongs.
+ghost use mathlib.Core.Path.{_≡_};
+ghost use Prim.Native.Nat.{_≤_, _<_};
+ghost use Rattle.units.specs.Rounding.{dividedUp, hundredthsOf, roundable, Raised, Reduced, Started};
+
+pub struct Cents(pub u32);
+
+pub struct Km(pub u32);
+
+pub struct Metres(pub u32);
+
+pub struct Minutes(pub u32);
+
+// n ÷ d, rounded up: the one place where anything is rounded.
+fn divided_up(n: u32, d: u32) -> u32
+    requires { ⌜ 0 < d ⌝ }
+    ensures { λ r. ⌜ r ≡ dividedUp n d ⌝ }
+{
+    let whole = n / d;
+    if n % d == 0 { whole } else { whole + 1 }
+}
+
+// amount × hundredths ÷ 100, rounded up: what both percentages come to.
+fn hundredths_of(amount: Cents, hundredths: u32) -> Cents
+    requires { ⌜ (amount .0 ≤ roundable) × (hundredths ≤ 200) ⌝ }
+    ensures { λ r. ⌜ r .0 ≡ hundredthsOf hundredths (amount .0) ⌝ }
+{
+    Cents(divided_up(amount.0 * hundredths, 100))
+}
+
+// What first class costs: × (100 + percent) ÷ 100, rounded up.
+pub fn raised(amount: Cents, percent: u8) -> Cents
+    requires { ⌜ (amount .0 ≤ roundable) × (percent ≤ 100) ⌝ }
+    ensures { λ r. ⌜ Raised (amount .0) percent (r .0) ⌝ }
+{
+    hundredths_of(amount, 100 + percent as u32)
+}
+
+// What a child pays: × (100 − percent) ÷ 100, rounded up.
+pub fn reduced(amount: Cents, percent: u8) -> Cents
+    requires { ⌜ (amount .0 ≤ roundable) × (percent ≤ 100) ⌝ }
+    ensures { λ r. ⌜ Reduced (amount .0) percent (r .0) ⌝ }
+{
+    hundredths_of(amount, 100 - percent as u32)
+}
+
+// Started periods: duration ÷ validity, rounded up, at least 1.
+pub fn started_periods(duration: Minutes, validity: Minutes) -> u32
+    requires { ⌜ 0 < validity .0 ⌝ }
+    ensures { λ r. ⌜ Started (duration .0) (validity .0) r ⌝ }
+{
+    let periods = divided_up(duration.0, validity.0);
+    if periods == 0 { 1 } else { periods }
+}

@@ -1,0 +1,95 @@
+-- What a frame is, by its bytes: a whole record with its four facts, or a broken frame, and never both.
+-- Assumes nothing.
+use Prim.Native.Nat.{ℕ, _+_, _-_, _≤_, _<_}
+use native.Mathlib.Omega.{arith}
+use mathlib.Core.Path.{_≡_, refl, sym, _∙_}
+use mathlib.Core.Bool.{Bool, true, false, _||_, false≢true}
+use mathlib.Core.List.{List}
+use borrow.Author.Tests.{lt-ltb, le-ltb, ltb-false}
+use lib.ListN.{length}
+use lib.Dec.{ltb}
+use Rattle.wire.specs.Number.{getLe}
+use Rattle.wire.specs.Frame.{broken, frameAt}
+use Rattle.wire.specs.declared.Frame.the-variants.{Whole, Broken}
+
+-- A whole record at a place: its kind, its body's length, and that it ends within the bytes.
+pub record WholeAt (b : List ℕ) (p kind body : ℕ) : Type 0 where
+  pub kind-is : kind ≡ getLe 2 b (p + 2)
+  pub length-is : getLe 2 b p ≡ 2 + body
+  pub fits : p + 4 + body ≤ length b
+  pub short : body ≤ 1022
+
+-- Where fewer than 4 bytes remain, the frame is broken.
+pub cut-broken : (b : List ℕ) (p : ℕ) → length b - p < 4 → broken b p ≡ true
+unfolding broken
+cut-broken b p h = rw (lt-ltb (length b - p) 4 h)
+
+-- Where 4 bytes remain, it is broken as the three other tests say.
+pub tested :
+    (b : List ℕ) (p long : ℕ) → long ≡ getLe 2 b p → 4 ≤ length b - p
+    → broken b p ≡ (ltb long 2 || ltb 1024 long) || ltb (length b - p) (2 + long)
+unfolding broken
+tested b p long e h = rw (le-ltb (length b - p) 4 h, e)
+
+-- where neither of two tests holds, each fails
+neither : (s t : Bool) → s || t ≡ false → (s ≡ false) × (t ≡ false)
+neither true t e = absurd (false≢true (sym e))
+neither false t e = (refl, e)
+
+-- A frame that is not broken has the facts of a whole record.
+pub unbroken : (b : List ℕ) (p : ℕ) → broken b p ≡ false → WholeAt b p (getLe 2 b (p + 2)) (getLe 2 b p - 2)
+unfolding broken
+unbroken b p e =
+    let head = neither (ltb (length b - p) 4) _ e in
+    let rest = neither (ltb (getLe 2 b p) 2 || ltb 1024 (getLe 2 b p)) _ (head .1) in
+    let range = neither (ltb (getLe 2 b p) 2) _ (rest .0) in
+    let remain = ltb-false (length b - p) 4 (head .0) in
+    let least = ltb-false (getLe 2 b p) 2 (range .0) in
+    let most = ltb-false 1024 (getLe 2 b p) (range .1) in
+    let within = ltb-false (length b - p) (2 + getLe 2 b p) (rest .1) in
+    record { kind-is = refl; length-is = omega arith; fits = omega arith; short = omega arith }
+
+-- A frame that is not broken is given as whole.
+pub unbroken-given : (b : List ℕ) (p : ℕ) → broken b p ≡ false → frameAt b p ≡ Whole (getLe 2 b (p + 2)) (getLe 2 b p - 2)
+unfolding frameAt
+unbroken-given b p e = rw e
+
+-- A frame that is broken by the paper's words is given as broken.
+pub broken-back : (b : List ℕ) (p : ℕ) → broken b p ≡ true → frameAt b p ≡ Broken
+unfolding frameAt
+broken-back b p e = rw e
+
+-- A frame that is given as broken is broken by the paper's words.
+pub broken-is : (b : List ℕ) (p : ℕ) → frameAt b p ≡ Broken → broken b p ≡ true
+broken-is b p e = go (broken b p) refl
+  where
+    go : (t : Bool) → broken b p ≡ t → broken b p ≡ true
+    go true is = is
+    go false is =
+        let given = unbroken-given b p is in
+        absurd (let z : _≡_ {A = ℕ} 0 1 = cc in omega arith)
+
+-- A frame that is given as whole has the facts of a whole record.
+pub whole : (b : List ℕ) (p kind body : ℕ) → frameAt b p ≡ Whole kind body → WholeAt b p kind body
+whole b p kind body e = go (broken b p) refl
+  where
+    go : (t : Bool) → broken b p ≡ t → WholeAt b p kind body
+    go true is =
+        let given = broken-back b p is in
+        absurd (let z : _≡_ {A = ℕ} 0 1 = cc in omega arith)
+    go false is =
+        let given = unbroken-given b p is in
+        let same-kind : getLe 2 b (p + 2) ≡ kind = cc in
+        let same-body : getLe 2 b p - 2 ≡ body = cc in
+        rw (same-kind, same-body) at (unbroken b p is)
+
+-- What has the facts of a whole record is given as that record.
+pub whole-back : (b : List ℕ) (p kind body : ℕ) → WholeAt b p kind body → frameAt b p ≡ Whole kind body
+whole-back b p kind body w =
+    let long = getLe 2 b p in
+    let sound : broken b p ≡ false =
+    tested b p long refl (omega arith)
+    ∙ rw (le-ltb long 2 (omega arith), le-ltb 1024 long (omega arith), le-ltb (length b - p) (2 + long) (omega arith))
+    in
+    let same-body : getLe 2 b p - 2 ≡ body = omega arith in
+    unbroken-given b p sound ∙ rw (w .kind-is, same-body)

@@ -1,0 +1,90 @@
+-- What a number's bytes do, over every width: read back, left alone, within range, and the same in a part of the bytes.
+-- Assumes nothing.
+use Prim.Native.Nat.{ℕ, zero, suc, _+_, _/_, _%_, _^_, _≤_, _<_}
+use native.Mathlib.Omega.{arith}
+use native.Mathlib.Nat.{pow-suc, add-assoc}
+use native.Mathlib.Decide.{ℕ-discrete, decLt}
+use mathlib.Core.Path.{_≡_, refl, sym, ap, _∙_}
+use mathlib.Core.Logic.{_⊎_, inl, inr, ⊎-elim}
+use mathlib.Core.List.{List}
+use lib.ListN.{length, getD, set, take, drop, length-set}
+use lib.Seq.{getD-set-same, getD-set-other, set-out, getD-take, getD-drop}
+use Rattle.wire.specs.Number.{getLe, putLe, Bytes}
+
+-- A number put leaves the bytes as many as they were.
+pub length-put : (k : ℕ) (b : List ℕ) (p v : ℕ) → length (putLe k b p v) ≡ length b
+unfolding putLe
+length-put zero b p v = refl
+length-put (suc k) b p v = length-put k (set b p (v % 256)) (p + 1) (v / 256) ∙ length-set b p (v % 256)
+
+-- A number put leaves each byte before it and each byte after it.
+pub byte-other : (k : ℕ) (b : List ℕ) (p v i : ℕ) → (i < p) ⊎ (p + k ≤ i) → getD (putLe k b p v) i 0 ≡ getD b i 0
+unfolding putLe
+byte-other zero b p v i h = refl
+byte-other (suc k) b p v i h =
+    byte-other k (set b p (v % 256)) (p + 1) (v / 256) i (⊎-elim (λ l. inl (omega arith)) (λ r. inr (omega arith)) h)
+    ∙ getD-set-other b p i (v % 256) 0 (λ e. ⊎-elim (λ l. omega arith) (λ r. omega arith) h)
+
+-- A number put is read back, where it stands whole within the bytes and its width holds it.
+pub read-back : (k : ℕ) (b : List ℕ) (p v : ℕ) → p + k ≤ length b → v < 256 ^ k → getLe k (putLe k b p v) p ≡ v
+unfolding getLe putLe
+read-back zero b p v fits small = omega arith
+read-back (suc k) b p v fits small =
+    let b′ = set b p (v % 256) in
+    let first : getD (putLe k b′ (p + 1) (v / 256)) p 0 ≡ v % 256 =
+    byte-other k b′ (p + 1) (v / 256) p (inl (omega arith)) ∙ getD-set-same b p (v % 256) 0 (omega arith)
+    in
+    let rest : getLe k (putLe k b′ (p + 1) (v / 256)) (p + 1) ≡ v / 256 =
+    read-back k b′ (p + 1) (v / 256) (omega (arith, length-set b p (v % 256))) (omega (arith, pow-suc 256 k))
+    in
+    omega arith
+
+-- A number depends on its own bytes only.
+pub get-same : (w : ℕ) (b b′ : List ℕ) (q : ℕ) → ((i : ℕ) → q ≤ i → i < q + w → getD b i 0 ≡ getD b′ i 0) → getLe w b q ≡ getLe w b′ q
+unfolding getLe
+get-same zero b b′ q same = refl
+get-same (suc w) b b′ q same =
+    let rest : getLe w b (q + 1) ≡ getLe w b′ (q + 1) = get-same w b b′ (q + 1) (λ i from to. same i (omega arith) (omega arith)) in
+    omega (arith, same q (omega arith) (omega arith))
+
+-- A number put leaves each number that stands wholly before it or after it.
+pub read-other : (k : ℕ) (b : List ℕ) (p v w q : ℕ) → (q + w ≤ p) ⊎ (p + k ≤ q) → getLe w (putLe k b p v) q ≡ getLe w b q
+read-other k b p v w q h =
+    get-same w (putLe k b p v) b q
+    (λ i from to. byte-other k b p v i (⊎-elim (λ l. inl (omega arith)) (λ r. inr (omega arith)) h))
+
+-- a byte stored among bytes leaves them bytes
+bytes-set : (b : List ℕ) (p x : ℕ) → x < 256 → Bytes b → Bytes (set b p x)
+bytes-set b p x small bytes i =
+    elim (ℕ-discrete i p) [
+      | yes e ↦
+          elim (decLt p (length b)) [
+            | yes within ↦ rw e (omega (arith, getD-set-same b p x 0 within))
+            | no past ↦ rw (set-out b p x (omega arith)) (bytes i)
+          ]
+      | no ne ↦ omega (arith, getD-set-other b p i x 0 ne, bytes i)
+    ]
+
+-- A number put leaves bytes bytes.
+pub bytes-stay : (k : ℕ) (b : List ℕ) (p v : ℕ) → Bytes b → Bytes (putLe k b p v)
+unfolding putLe
+bytes-stay zero b p v bytes = bytes
+bytes-stay (suc k) b p v bytes = bytes-stay k (set b p (v % 256)) (p + 1) (v / 256) (bytes-set b p (v % 256) (omega arith) bytes)
+
+-- A number read is one that its width holds.
+pub get-range : (k : ℕ) (b : List ℕ) (p : ℕ) → Bytes b → getLe k b p < 256 ^ k
+unfolding getLe
+get-range zero b p bytes = omega arith
+get-range (suc k) b p bytes = omega (arith, bytes p, get-range k b (p + 1) bytes, pow-suc 256 k)
+
+-- A number read after the first n bytes are dropped is the one n places further on.
+pub get-drop : (k n : ℕ) (b : List ℕ) (p : ℕ) → getLe k (drop n b) p ≡ getLe k b (n + p)
+unfolding getLe
+get-drop zero n b p = refl
+get-drop (suc k) n b p =
+    let rest : getLe k (drop n b) (p + 1) ≡ getLe k b (n + p + 1) = get-drop k n b (p + 1) ∙ ap (getLe k b) (sym (add-assoc n p 1)) in
+    omega (arith, getD-drop n b p 0)
+
+-- A number that stands wholly within the first n bytes is read from those alone.
+pub get-take : (k n : ℕ) (b : List ℕ) (p : ℕ) → p + k ≤ n → getLe k (take n b) p ≡ getLe k b p
+get-take k n b p h = get-same k (take n b) b p (λ i from to. getD-take n b i 0 (omega arith))

@@ -1,0 +1,97 @@
+// Little-endian numbers of 1, 2 and 4 bytes at a place of a slice, and the frame that every record stands in.
+ghost use mathlib.Core.Path.{_≡_};
+ghost use Prim.Native.Nat.{_+_, _≤_, _<_};
+ghost use lib.ListN.{length};
+ghost use Rattle.wire.specs.Number.{putLe, Number};
+ghost use Rattle.wire.specs.Frame.{frameAt};
+
+// A record's length and kind, two bytes each, stand before its body.
+pub const HEAD: usize = 4;
+
+// What stands at a place: a whole record of a kind, with its body's length, or a broken frame.
+pub enum Frame {
+    Whole { kind: u16, body: usize },
+    Broken,
+}
+
+fn wide(x: u8) -> u32
+    ensures { λ r. ⌜ (r ≡ x) × (r < 256) ⌝ }
+{
+    x as u32
+}
+
+pub fn one_at(b: &[u8], at: usize) -> u8
+    requires { ⌜ at + 1 ≤ length (now b) ⌝ }
+    ensures { λ r. ⌜ Number 1 (now (b .entry)) at r ⌝ }
+{
+    b[at]
+}
+
+pub fn two_at(b: &[u8], at: usize) -> u16
+    requires { ⌜ at + 2 ≤ length (now b) ⌝ }
+    ensures { λ r. ⌜ Number 2 (now (b .entry)) at r ⌝ }
+{
+    (wide(b[at]) + 256 * wide(b[at + 1])) as u16
+}
+
+pub fn four_at(b: &[u8], at: usize) -> u32
+    requires { ⌜ at + 4 ≤ length (now b) ⌝ }
+    ensures { λ r. ⌜ Number 4 (now (b .entry)) at r ⌝ }
+{
+    wide(b[at]) + 256 * (wide(b[at + 1]) + 256 * (wide(b[at + 2]) + 256 * wide(b[at + 3])))
+}
+
+pub fn put_one(b: &mut [u8], at: usize, v: u8)
+    requires { ⌜ at + 1 ≤ length (now b) ⌝ }
+    ensures { λ _. ⌜ now (b .exit) ≡ putLe 1 (now (b .entry)) at v ⌝ }
+{
+    b[at] = v;
+}
+
+pub fn put_two(b: &mut [u8], at: usize, v: u16)
+    requires { ⌜ at + 2 ≤ length (now b) ⌝ }
+    ensures { λ _. ⌜ now (b .exit) ≡ putLe 2 (now (b .entry)) at v ⌝ }
+{
+    b[at] = (v % 256) as u8;
+    let at1 = at + 1;
+    let v1 = v / 256;
+    b[at1] = (v1 % 256) as u8;
+}
+
+pub fn put_four(b: &mut [u8], at: usize, v: u32)
+    requires { ⌜ at + 4 ≤ length (now b) ⌝ }
+    ensures { λ _. ⌜ now (b .exit) ≡ putLe 4 (now (b .entry)) at v ⌝ }
+{
+    b[at] = (v % 256) as u8;
+    let at1 = at + 1;
+    let v1 = v / 256;
+    b[at1] = (v1 % 256) as u8;
+    let at2 = at1 + 1;
+    let v2 = v1 / 256;
+    b[at2] = (v2 % 256) as u8;
+    let at3 = at2 + 1;
+    let v3 = v2 / 256;
+    b[at3] = (v3 % 256) as u8;
+}
+
+// The frame at a place, of any byte string and at any place.
+pub fn frame_at(b: &[u8], at: usize) -> Frame
+    ensures { λ r. ⌜ r ≡ frameAt (now (b .entry)) at ⌝ }
+{
+    let end = b.len();
+    if end < at {
+        return Frame::Broken;
+    }
+    let left = end - at;
+    if left < HEAD {
+        return Frame::Broken;
+    }
+    let long = two_at(b, at) as usize;
+    if (long < 2) | (1024 < long) | (left < 2 + long) {
+        return Frame::Broken;
+    }
+    Frame::Whole {
+        kind: two_at(b, at + 2),
+        body: long - 2,
+    }
+}
