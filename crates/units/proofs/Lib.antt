@@ -1,1 +1,2 @@
+pub mod Caps
 pub mod Rounding

@@ -1,7 +1,8 @@
-// The four units that the papers count in, and the two roundings that a price is made with.
+// The four units that the papers count in, caps on an amount, and the two roundings that a price is made with.
 // All money is whole cents. A count in one unit is never taken where another belongs.
 ghost use mathlib.Core.Path.{_≡_};
 ghost use Prim.Native.Nat.{_≤_, _<_};
+ghost use Rattle.units.specs.Caps.{Capped};
 ghost use Rattle.units.specs.Rounding.{dividedUp, hundredthsOf, roundable, Raised, Reduced, Started};
 
 pub struct Cents(pub u32);
@@ -11,6 +12,22 @@ pub struct Km(pub u32);
 pub struct Metres(pub u32);
 
 pub struct Minutes(pub u32);
+
+// A limit on an amount, where there is one.
+pub enum Cap {
+    NoCap,
+    UpTo(Cents),
+}
+
+// The smaller of an amount and a cap.
+pub fn capped(amount: Cents, cap: Cap) -> Cents
+    ensures { λ r. ⌜ Capped (amount .0) cap (r .0) ⌝ }
+{
+    match cap {
+        Cap::NoCap => amount,
+        Cap::UpTo(most) => { if amount.0 <= most.0 { amount } else { most } }
+    }
+}
 
 // n ÷ d, rounded up: the one place where anything is rounded.
 fn divided_up(n: u32, d: u32) -> u32

@@ -1,0 +1,9 @@
+pub mod Entries
+pub mod Tests
+pub mod Values
+pub mod Turns
+pub mod Faultless
+pub mod Within
+pub mod LevelCaps
+pub mod Passed
+pub mod Faults

@@ -1,0 +1,110 @@
+-- `tariff::scan::read_tariff` meets its contract. The loop's invariant: every record before the place is faultless, and so many areas
+-- and stops reach it; so a fault met there is the first, and at the end the counts are finished. The measure is the bytes left.
+-- Assumes nothing.
+use Prim.Native.Nat.{_-_}
+use native.Mathlib.Omega.{arith}
+use mathlib.Core.Path.{_≡_, sym, _∙_}
+use borrow.Author.Needs.{needs}
+use lib.ListN.{length}
+use Rattle.tariff.specs.Scan.{entryAt, Passed}
+use Rattle.tariff.specs.declared.scan.Entry.the-variants.{Area, Stop}
+use Rattle.tariff.proofs.Entries.{area-entry, stop-entry}
+use Rattle.tariff.proofs.Passed.{passed-none, passed-area, passed-stop, at-end, at-fault}
+use Rattle.tariff.proofs.scan.read_tariff.Statement.{statement}
+use Rattle.tariff.proofs.scan.read_tariff.Tie as tie
+
+abbrev Inv-loop : tie.InvT-loop
+Inv-loop tariff at₀ areas₀ stops₀ at areas stops = Passed tariff at areas stops
+
+abbrev μ-loop : tie.MeasureT-loop
+μ-loop tariff at₀ areas₀ stops₀ at areas stops = length tariff - at
+
+loop-holds : tie.Need-loop-holds Inv-loop μ-loop
+loop-holds c = passed-none _
+
+entry-at-requires : tie.Need-entry-at-requires Inv-loop μ-loop
+entry-at-requires c κs = c .loop .inv .reached
+
+enum-told : tie.Need-enum-told Inv-loop μ-loop
+enum-told c = search needs
+
+enum-known-number : tie.Need-enum-known-number Inv-loop μ-loop
+enum-known-number c = search needs
+
+enum-told-2 : tie.Need-enum-told-2 Inv-loop μ-loop
+enum-told-2 c = search needs
+
+-- an area stands at the loop's place
+area-there :
+    (c : tie.After-enum-told2 Inv-loop μ-loop)
+    → entryAt (c .before .before .before .before .before .args .tariff .now) (c .before .before .before .loop .at) (c .before .before .before .loop .areas)
+    (c .before .before .before .loop .stops)
+    ≡ Area
+area-there c = sym (c .before .before .entry-at .ensures) ∙ c .enum-told2 .given .1
+
+add-at : tie.Need-add-at Inv-loop μ-loop
+add-at c = omega (arith, area-entry _ _ _ _ (area-there c))
+
+add-areas : tie.Need-add-areas Inv-loop μ-loop
+add-areas c = omega (arith, area-entry _ _ _ _ (area-there c))
+
+loop-less : tie.Need-loop-less Inv-loop μ-loop
+loop-less c = omega (arith, area-entry _ _ _ _ (area-there c))
+
+loop-again : tie.Need-loop-again Inv-loop μ-loop
+loop-again c = passed-area _ _ _ _ (c .before .before .before .loop .inv) (area-there c)
+
+-- a stop stands at the loop's place
+stop-there :
+    (c : tie.After-enum-told3 Inv-loop μ-loop)
+    → entryAt (c .before .before .before .before .before .args .tariff .now) (c .before .before .before .loop .at) (c .before .before .before .loop .areas)
+    (c .before .before .before .loop .stops)
+    ≡ Stop
+stop-there c = sym (c .before .before .entry-at .ensures) ∙ c .enum-told3 .given .1
+
+enum-told-3 : tie.Need-enum-told-3 Inv-loop μ-loop
+enum-told-3 c = search needs
+
+add-at-2 : tie.Need-add-at-2 Inv-loop μ-loop
+add-at-2 c = omega (arith, stop-entry _ _ _ _ (stop-there c))
+
+add-stops : tie.Need-add-stops Inv-loop μ-loop
+add-stops c = omega (arith, stop-entry _ _ _ _ (stop-there c))
+
+loop-less-2 : tie.Need-loop-less-2 Inv-loop μ-loop
+loop-less-2 c = omega (arith, stop-entry _ _ _ _ (stop-there c))
+
+loop-again-2 : tie.Need-loop-again-2 Inv-loop μ-loop
+loop-again-2 c = passed-stop _ _ _ _ (c .before .before .before .loop .inv) (stop-there c)
+
+returns : tie.Need-returns Inv-loop μ-loop
+returns c = sym (at-end _ _ _ _ (c .before .before .before .loop .inv) (sym (c .before .before .entry-at .ensures) ∙ c .enum-told .given .1))
+
+returns-2 : tie.Need-returns-2 Inv-loop μ-loop
+returns-2 c =
+    sym
+    (at-fault _ _ _ _ _
+    (record { passed = c .before .before .before .before .loop .inv; faulty = sym (c .before .before .before .entry-at .ensures) ∙ c .before .number .given .1 }))
+
+pub read-tariff-spec : {M : Type 1} → statement M
+read-tariff-spec =
+    tie.close
+    (tie.spec
+    Inv-loop
+    μ-loop
+    loop-holds
+    entry-at-requires
+    enum-told
+    enum-known-number
+    enum-told-2
+    add-at
+    add-areas
+    loop-less
+    loop-again
+    enum-told-3
+    add-at-2
+    add-stops
+    loop-less-2
+    loop-again-2
+    returns
+    returns-2)

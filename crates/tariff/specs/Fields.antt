@@ -1,0 +1,40 @@
+-- Paper 01, "Records": where the fields of an area record (kind 1) and of a stop record (kind 2) stand.
+use Prim.Native.Nat.{ℕ, _+_, _*_}
+use mathlib.Core.List.{List}
+use Rattle.wire.specs.Number.{getLe}
+use Rattle.tariff.specs.declared.fields.AreaFields.{AreaFields}
+use Rattle.tariff.specs.declared.fields.StopFields.{StopFields}
+
+-- level 1 byte; parent 1; base price 2; price per km 2; base validity in minutes 2; first-class surcharge % 1; child reduction % 1;
+-- trip-cap sort 1; five 2-byte trip-cap fields; day cap 2; bicycle flat 2; after a head of 4 bytes
+unfoldable pub areaFields : List ℕ → ℕ → AreaFields
+areaFields b at =
+    record {
+      level = getLe 1 b (at + 4);
+      parent = getLe 1 b (at + 5);
+      base = getLe 2 b (at + 6);
+      rate = getLe 2 b (at + 8);
+      validity = getLe 2 b (at + 10);
+      surcharge = getLe 1 b (at + 12);
+      reduction = getLe 1 b (at + 13);
+      sort = getLe 1 b (at + 14);
+      cap1 = getLe 2 b (at + 15);
+      cap2 = getLe 2 b (at + 17);
+      cap3 = getLe 2 b (at + 19);
+      cap4 = getLe 2 b (at + 21);
+      cap5 = getLe 2 b (at + 23);
+      daycap = getLe 2 b (at + 25);
+      flat = getLe 2 b (at + 27);
+    }
+
+-- area 1, x 4, y 4
+unfoldable pub stopFields : List ℕ → ℕ → StopFields
+stopFields b at = record { area = getLe 1 b (at + 4); x = getLe 4 b (at + 5); y = getLe 4 b (at + 9) }
+
+-- areas are numbered from 0 in order, and each is a record of 4 + 25 bytes; so area `number` begins here
+abbrev pub areaPlace : ℕ → ℕ
+areaPlace number = 29 * number
+
+-- stops follow the areas, each a record of 4 + 9 bytes
+abbrev pub stopPlace : ℕ → ℕ → ℕ
+stopPlace areas number = 29 * areas + 13 * number

@@ -1,0 +1,5 @@
+pub mod Fields
+pub mod Rules
+pub mod Scan
+pub mod Areas
+pub mod Levels

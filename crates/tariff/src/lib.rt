@@ -1,0 +1,55 @@
+// The tariff: area records, then stop records, in one byte string that stays where the caller lent it.
+//
+// fields.rt  where a record's fields stand, and the fields of a record at a place
+// rules.rt   which values a record may have
+// scan.rt    the loop over the records: the first fault, or the finished counts
+// areas.rt   areas and stops by number, the areas above an area, the smallest area containing two
+// levels.rt  what a ticket level picks of five amounts
+use units::Cap;
+use units::Cents;
+use units::Metres;
+use units::Minutes;
+
+pub mod areas;
+pub mod fields;
+pub mod levels;
+pub mod rules;
+pub mod scan;
+
+// The sort of trip cap that an area has: none, flat up to some minutes, or by ticket level.
+pub enum TripCap {
+    NoCap,
+    Flat(Cents, Minutes),
+    ByLevel(Cents, Cents, Cents, Cents, Cents),
+}
+
+pub struct Area {
+    pub level: u8,
+    pub parent: u8,
+    pub base: Cents,
+    pub rate: Cents,
+    pub validity: Minutes,
+    pub surcharge: u8,
+    pub reduction: u8,
+    pub cap: TripCap,
+    pub daily: Cap,
+    pub flat: Cents,
+}
+
+pub struct Stop {
+    pub area: u8,
+    pub x: Metres,
+    pub y: Metres,
+}
+
+// How many areas and stops a faultless tariff has.
+pub struct Counts {
+    pub areas: usize,
+    pub stops: usize,
+}
+
+// What reading a tariff comes to: the first faulty record's refusal and offset, or the counts.
+pub enum Reading {
+    Fault { number: u8, at: usize },
+    Faultless(Counts),
+}

@@ -1,0 +1,118 @@
+// The loop over a tariff's records: in a tariff the first faulty record decides.
+use crate::Counts;
+use crate::Reading;
+use crate::fields::AREA_BODY;
+use crate::fields::AREA_KIND;
+use crate::fields::AREA_SIZE;
+use crate::fields::STOP_BODY;
+use crate::fields::STOP_KIND;
+use crate::fields::STOP_SIZE;
+use crate::fields::area_fields;
+use crate::fields::stop_fields;
+use crate::rules::caps_right;
+use crate::rules::place_right;
+use crate::rules::prices_right;
+use crate::rules::stop_right;
+use wire::Frame;
+use wire::frame_at;
+ghost use mathlib.Core.Path.{_≡_};
+ghost use Prim.Native.Nat.{_+_, _*_, _≤_};
+ghost use lib.ListN.{length};
+ghost use Rattle.tariff.specs.Scan.{Reached, areaEntry, stopEntry, entryAt, readTariff};
+
+const MOST_AREAS: usize = 32;
+
+const MOST_STOPS: usize = 1_000;
+
+// What stands at a place of the tariff: its end, a faultless area or stop, or a record with a fault (1, 2 or 3).
+pub enum Entry {
+    End,
+    Area,
+    Stop,
+    Faulty(u8),
+}
+
+// An area record with a whole frame, after `areas` areas and `stops` stops.
+fn area_entry(b: &[u8], at: usize, areas: usize, stops: usize, body: usize) -> Entry
+    requires { ⌜ Reached (now b) at areas stops × (at + 4 + body ≤ length (now b)) ⌝ }
+    ensures { λ r. ⌜ r ≡ areaEntry (now (b .entry)) at areas stops body ⌝ }
+{
+    if (body == AREA_BODY) & (stops == 0) & (areas < MOST_AREAS) {
+        let f = area_fields(b, at);
+        if prices_right(f) & caps_right(f) & place_right(b, areas, f) {
+            Entry::Area
+        } else {
+            Entry::Faulty(3)
+        }
+    } else {
+        Entry::Faulty(2)
+    }
+}
+
+// A stop record with a whole frame, after `areas` areas and `stops` stops.
+fn stop_entry(b: &[u8], at: usize, areas: usize, stops: usize, body: usize) -> Entry
+    requires { ⌜ at + 4 + body ≤ length (now b) ⌝ }
+    ensures { λ r. ⌜ r ≡ stopEntry (now (b .entry)) at areas stops body ⌝ }
+{
+    if (body == STOP_BODY) & (0 < areas) & (stops < MOST_STOPS) {
+        if stop_right(stop_fields(b, at), areas) {
+            Entry::Stop
+        } else {
+            Entry::Faulty(3)
+        }
+    } else {
+        Entry::Faulty(2)
+    }
+}
+
+// What stands at a place that `areas` areas and `stops` stops reach.
+pub fn entry_at(b: &[u8], at: usize, areas: usize, stops: usize) -> Entry
+    requires { ⌜ Reached (now b) at areas stops ⌝ }
+    ensures { λ r. ⌜ r ≡ entryAt (now (b .entry)) at areas stops ⌝ }
+{
+    if b.len() <= at {
+        if areas == 0 {
+            return Entry::Faulty(2);
+        }
+        return Entry::End;
+    }
+    match frame_at(b, at) {
+        Frame::Broken => Entry::Faulty(1),
+        Frame::Whole { kind, body } => {
+            if kind == AREA_KIND {
+                area_entry(b, at, areas, stops, body)
+            } else if kind == STOP_KIND {
+                stop_entry(b, at, areas, stops, body)
+            } else {
+                Entry::Faulty(2)
+            }
+        }
+    }
+}
+
+// The first fault of any byte string offered as a tariff, or its counts.
+pub fn read_tariff(tariff: &[u8]) -> Reading
+    ensures { λ r. ⌜ r ≡ readTariff (now (tariff .entry)) ⌝ }
+{
+    let mut at = 0;
+    let mut areas = 0;
+    let mut stops = 0;
+    loop {
+        match entry_at(tariff, at, areas, stops) {
+            Entry::End => {
+                break Reading::Faultless(Counts { areas, stops });
+            }
+            Entry::Faulty(number) => {
+                break Reading::Fault { number, at };
+            }
+            Entry::Area => {
+                at += AREA_SIZE;
+                areas += 1;
+            }
+            Entry::Stop => {
+                at += STOP_SIZE;
+                stops += 1;
+            }
+        }
+    }
+}

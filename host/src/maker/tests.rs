@@ -1,0 +1,207 @@
+//! Tests of the maker.
+
+use super::cases::cases_of;
+use super::compare::difference;
+use super::*;
+
+fn bytes(text: &str) -> Vec<u8> {
+    bytes_of(text).unwrap_or_else(|fault| panic!("{fault}"))
+}
+
+/// The fault of a text, as it is told.
+fn fault(text: &str) -> String {
+    bytes_of(text).expect_err("a fault").to_string()
+}
+
+fn case_fault(text: &str) -> String {
+    cases_of(text).expect_err("a fault").to_string()
+}
+
+#[test]
+fn an_area() {
+    let area =
+        "area city parent 3 base 258 km 772 valid 1286 first 7 child 8 cap levels 2569 11 12 13 14 day 15 bike 16";
+    let body = [2, 3, 2, 1, 4, 3, 6, 5, 7, 8, 2, 9, 10, 11, 0, 12, 0, 13, 0, 14, 0, 15, 0, 16, 0];
+    assert_eq!(bytes(area), [&[27, 0, 1, 0][..], &body[..]].concat());
+}
+
+#[test]
+fn levels_and_caps_of_an_area() {
+    let area = |level, cap, day| {
+        bytes(&format!("area {level} parent 0 base 0 km 0 valid 0 first 0 child 0 cap {cap} day {day} bike 0"))
+    };
+    for (level, byte) in [("state", 0), ("region", 1), ("city", 2), ("0", 0), ("255", 255)] {
+        assert_eq!(area(level, "none", "0")[4], byte);
+    }
+    for (cap, sort_and_fields) in [
+        ("none", [0, 0, 0, 0, 0, 0, 0, 0, 0, 0, 0]),
+        ("flat 230 90", [1, 230, 0, 90, 0, 0, 0, 0, 0, 0, 0]),
+        ("levels 1 2 3 4 65535", [2, 1, 0, 2, 0, 3, 0, 4, 0, 255, 255]),
+    ] {
+        assert_eq!(area("state", cap, "0")[14..25], sort_and_fields);
+    }
+    assert_eq!(area("state", "none", "none")[25..27], [255, 255]);
+    assert_eq!(area("state", "none", "60001")[25..27], [0x61, 0xea]);
+}
+
+#[test]
+fn a_stop() {
+    assert_eq!(bytes("stop 2 300000 4294967295"), [11, 0, 2, 0, 2, 0xe0, 0x93, 4, 0, 255, 255, 255, 255]);
+}
+
+#[test]
+fn a_trip() {
+    let trip = "trip 2000-12-31 22:00 to 2001-01-02 23:59 class 1 level B adults 2 children 3 bikes 4 stops 5 256";
+    let body = [0xd0, 7, 12, 31, 22, 0, 0xd1, 7, 1, 2, 23, 59, 1, 3, 2, 3, 4, 2, 5, 0, 0, 1];
+    assert_eq!(bytes(trip), [&[24, 0, 3, 0][..], &body[..]].concat());
+}
+
+#[test]
+fn levels_of_a_trip() {
+    for (level, byte) in [("0", 0), ("K", 1), ("A", 2), ("B", 3), ("C", 4), ("D", 5), ("6", 6), ("255", 255)] {
+        let trip = format!("trip 0-0-0 0:0 to 0-0-0 0:0 class 0 level {level} adults 0 children 0 bikes 0 stops");
+        assert_eq!(bytes(&trip)[17], byte);
+    }
+}
+
+#[test]
+fn numbers_out_of_range_can_be_written() {
+    let trip = "trip 65535-255-255 255:255 to 0-0-0 0:0 class 255 level 255 adults 255 children 255 bikes 255 stops";
+    assert_eq!(bytes(trip), [[20, 0, 3, 0].as_slice(), &[255; 6], &[0; 6], &[255; 5], &[0]].concat());
+}
+
+#[test]
+fn raw_records_and_bytes() {
+    assert_eq!(bytes("record 9"), [2, 0, 9, 0]);
+    assert_eq!(bytes("record 65535 0a0B ff"), [5, 0, 255, 255, 10, 11, 255]);
+    assert_eq!(bytes("bytes 01 0203"), [1, 2, 3]);
+    assert_eq!(bytes("bytes"), []);
+}
+
+#[test]
+fn comments_and_blank_lines_are_ignored() {
+    assert_eq!(bytes(""), []);
+    assert_eq!(bytes("# a comment\n\n  \t\n   # another\n"), []);
+    assert_eq!(bytes("  bytes   01 # one\nbytes 02# two\r\n#bytes 03\nbytes 04"), [1, 2, 4]);
+}
+
+#[test]
+fn repeat_writes_the_next_record_many_times() {
+    assert_eq!(bytes("repeat 3\nbytes 01 02\nbytes 03"), [1, 2, 1, 2, 1, 2, 3]);
+    assert_eq!(bytes("repeat 2\n\n# between\nrecord 9"), [2, 0, 9, 0, 2, 0, 9, 0]);
+    assert_eq!(bytes("repeat 0\nrecord 9"), []);
+    assert_eq!(bytes("repeat 65536\nbytes 00 00").len(), 131_072);
+}
+
+#[test]
+fn faults_name_their_line() {
+    let trip = "trip 2000-1-1 0:00 to 2000-1-1 0:01 class 2 level 0 adults 0 children 0 bikes 0 stops 0 1";
+    for (text, told) in [
+        ("area", "line 1: the area's level is missing"),
+        ("\n\nroute 1", "line 3: 'route' is no sort of line"),
+        ("# x\narea state base 1", "line 2: the word 'parent' is due, not 'base'"),
+        ("area state parent", "line 1: parent is missing"),
+        ("area land", "line 1: the area's level 'land' is not a number"),
+        ("area state parent 256", "line 1: parent 256 does not fit in 1 byte"),
+        ("area state parent 0 base 65536", "line 1: base 65536 does not fit in 2 bytes"),
+        ("area state parent 0 base -1", "line 1: base '-1' is not a number"),
+        ("area state parent 0 base +1", "line 1: base '+1' is not a number"),
+        ("stop 0 0", "line 1: y is missing"),
+        ("stop 0 0 4294967296", "line 1: y 4294967296 does not fit in 4 bytes"),
+        ("stop 0 99999999999999999999 0", "line 1: x '99999999999999999999' is not a number"),
+        ("stop 0 0 0 0", "line 1: '0' is one word too many"),
+        ("trip 2000-1 0:00", "line 1: the date '2000-1' does not have 3 parts"),
+        ("trip 2000-1-1 0:00:00", "line 1: the clock time '0:00:00' does not have 2 parts"),
+        ("record x", "line 1: the kind 'x' is not a number"),
+        ("record 65536", "line 1: the kind 65536 does not fit in 2 bytes"),
+        ("bytes 123", "line 1: '123' is not hexadecimal, two digits a byte"),
+        ("bytes 0x", "line 1: '0x' is not hexadecimal, two digits a byte"),
+        ("repeat 2", "line 1: a repeat without a record after it"),
+        ("repeat 2\nrepeat 2\nbytes 00", "line 2: a repeat after a repeat"),
+        ("repeat 1000001\nbytes 00", "line 1: 1000001 times are too many"),
+        ("tariff:", "line 1: 'tariff:' is no sort of line"),
+    ] {
+        assert_eq!(fault(text), told);
+    }
+    assert_eq!(fault(&trip.replace("level 0", "level E")), "line 1: the ticket level 'E' is not a number");
+    assert_eq!(fault(&format!("{trip}{}", " 0".repeat(254))), "line 1: the number of stops 256 does not fit in 1 byte");
+    let area = "area state parent 0 base 0 km 0 valid 0 first 0 child 0 cap";
+    assert_eq!(fault(&format!("{area} some")), "line 1: 'some' is no sort of trip cap: none, flat or levels");
+    assert_eq!(fault(&format!("{area} levels 1 2")), "line 1: the amount of level B is missing");
+    assert_eq!(
+        fault(&format!("record 1 {}", "00".repeat(65_534))),
+        "line 1: a body of 65534 bytes is too long for a record"
+    );
+}
+
+#[test]
+fn a_case_file() {
+    let cases = cases_of(
+        "# two sections with output, two without
+tariff:
+record 1 aa   # not a real area
+repeat 2
+record 2
+= tariff  refused # 2
+=
+fresh:
+price: # only priced
+record 3 bb
+  = 347
+
+settle:
+record 3 cc
+bytes dd
+",
+    )
+    .expect("a case file");
+    let input = [
+        &b"T"[..],
+        &[13, 0, 0, 0, 3, 0, 1, 0, 0xaa, 2, 0, 2, 0, 2, 0, 2, 0],
+        b"B",
+        &[0, 0, 0, 0],
+        b"P",
+        &[5, 0, 0, 0, 3, 0, 3, 0, 0xbb],
+        b"S",
+        &[6, 0, 0, 0, 3, 0, 3, 0, 0xcc, 0xdd],
+    ];
+    assert_eq!(cases.input, input.concat());
+    assert_eq!(cases.output, b"tariff  refused # 2\n\n347\n");
+}
+
+#[test]
+fn sections_without_lines() {
+    assert_eq!(cases_of("").expect("no case"), Default::default());
+    assert_eq!(cases_of("tariff:\ntariff:").expect("two empty tariffs").input, b"T\0\0\0\0T\0\0\0\0");
+    assert_eq!(cases_of("settle:\nbytes").expect("an empty trip").input, b"S\0\0\0\0");
+}
+
+#[test]
+fn faults_of_a_case_file() {
+    for (text, told) in [
+        ("record 1", "line 1: a record outside a section"),
+        ("= 1\ntariff:", "line 1: an expected line before any section"),
+        ("tariff:\n= 1\nrecord 1", "line 3: a record outside a section"),
+        ("tariffs:", "line 1: 'tariffs:' is no sort of section"),
+        ("tariff:\nroute 1", "line 2: 'route' is no sort of line"),
+        ("tariff:\nrepeat 2\n= 1", "line 2: a repeat without a record after it"),
+        ("tariff:\nrepeat 2\nfresh:", "line 2: a repeat without a record after it"),
+        ("tariff:\nrepeat 2", "line 2: a repeat without a record after it"),
+        ("\nfresh:\nrecord 1", "line 2: fresh: takes no record"),
+        ("price:\n= 1", "line 1: price: has no record"),
+        ("settle:", "line 1: settle: has no record"),
+        ("settle:\nrecord 3\nrecord 3", "line 1: settle: takes one record"),
+        ("price:\nrepeat 2\nrecord 3", "line 1: price: takes one record"),
+    ] {
+        assert_eq!(case_fault(text), told);
+    }
+}
+
+#[test]
+fn a_difference_is_told() {
+    assert_eq!(difference(b"", b""), None);
+    assert_eq!(difference(b"abc", b"abc"), None);
+    assert_eq!(difference(b"abc", b"abd").as_deref(), Some("byte 2 is 64, where the text gives 63"));
+    assert_eq!(difference(b"abc", b"ab").as_deref(), Some("it has 2 bytes, where the text gives 3"));
+    assert_eq!(difference(b"", b"a").as_deref(), Some("it has 1 bytes, where the text gives 0"));
+}

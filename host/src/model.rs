@@ -1,0 +1,106 @@
+//! The paper's rules in the plainest Rust. One file a subject, in the paper's order:
+//!
+//! - [`record`]: the frame of a record, and its fields one after another;
+//! - [`tariff`]: areas and stops, refusals 1 to 3, the smallest area containing some;
+//! - [`book`]: the book's words, and when a book is sound;
+//! - [`clock`]: stamps and minute numbers;
+//! - [`trip`]: the trip record;
+//! - [`fare`]: kilometres and the four price steps;
+//! - [`charge`]: windows, caps, charges, bicycles and the charge record;
+//! - [`roll`]: what the program prints.
+//!
+//! This file holds settling itself: the refusals in the order of the paper's table, then the writing.
+
+pub mod book;
+pub mod charge;
+pub mod clock;
+pub mod fare;
+pub mod record;
+pub mod roll;
+pub mod tariff;
+pub mod trip;
+
+#[cfg(test)]
+mod tests;
+
+use book::{Book, TRIPS_IN_A_WINDOW};
+use charge::{charges_of, window_for, ChargeRecord};
+use clock::MINUTES_IN_A_DAY;
+use fare::Ride;
+pub use roll::settle_roll;
+pub use tariff::{read_tariff, Tariff};
+use trip::Trip;
+
+/// All money is whole cents.
+pub type Cents = u64;
+/// Started kilometres.
+pub type Km = u64;
+/// Metres in one plane.
+pub type Metres = u64;
+/// Minutes, also counted from 2000-01-01 00:00.
+pub type Minutes = u64;
+
+/// The refusal's number, and its place: for 1 to 3 the offset in the tariff, else 0.
+#[derive(Clone, Copy, Debug, PartialEq, Eq)]
+pub struct Refusal {
+    pub number: u32,
+    pub place: u32,
+}
+
+/// Settles one trip. Accepted: the bytes written; the book is replaced, and the charge record stands at the start of
+/// the statement. Refused: book and statement stay.
+pub fn settle(tariff: &[u8], book: &mut [u8], trip: &[u8], statement: &mut [u8]) -> Result<usize, Refusal> {
+    let (new_book, charge_record) = outcome(tariff, book, trip, statement.len())?;
+    book.copy_from_slice(&new_book.bytes());
+    let written = charge_record.bytes();
+    statement[..written.len()].copy_from_slice(&written);
+    Ok(written.len())
+}
+
+/// The refusals in the table's order; if none is given, the new book and the charge record. Only reads.
+fn outcome(tariff: &[u8], book: &[u8], trip: &[u8], room: usize) -> Result<(Book, ChargeRecord), Refusal> {
+    // 1, 2, 3
+    let tariff = read_tariff(tariff)?;
+    // 4: book not sound
+    let book = Book::read(book).filter(|book| book.is_sound(tariff.areas.len())).ok_or(refused(4))?;
+    // 5: the trip's frame and shape
+    let trip = Trip::read(trip).ok_or(refused(5))?;
+    // 6: its counts
+    unless(trip.counts_are_in_range(), 6)?;
+    // 7: a stop number the tariff lacks
+    unless(trip.stops.iter().all(|&stop| stop < tariff.stops.len()), 7)?;
+    // 8: a stamp that is no date or no clock time
+    let check_in = trip.check_in.minute_number().ok_or(refused(8))?;
+    let check_out = trip.check_out.minute_number().ok_or(refused(8))?;
+    // 9: check-out before check-in, or over 1,440 minutes after it
+    unless(check_in <= check_out && check_out <= check_in + MINUTES_IN_A_DAY, 9)?;
+    // 10: check-in before the book's last check-out
+    unless(book.trips() == 0 || book.last_check_out() <= check_in, 10)?;
+    // 11: the trip would be the 257th of its window
+    let window = window_for(book, check_in, check_out);
+    unless(window.trips() < TRIPS_IN_A_WINDOW, 11)?;
+    // 12: statement slice shorter than the charge record
+    unless(ChargeRecord::size(&trip) <= room, 12)?;
+
+    let ride = Ride::of(&tariff, &trip, check_out - check_in);
+    let mut new_book = window;
+    let charges = charges_of(&tariff, &trip, &ride, &mut new_book);
+    new_book.count_trip(check_out);
+    let charge_record =
+        ChargeRecord { opening: new_book.opening(), area: ride.area, km: ride.km, minutes: ride.minutes, charges };
+    Ok((new_book, charge_record))
+}
+
+/// A refusal that has no place.
+fn refused(number: u32) -> Refusal {
+    Refusal { number, place: 0 }
+}
+
+/// Refuses with this number unless all is well.
+fn unless(well: bool, number: u32) -> Result<(), Refusal> {
+    if well {
+        Ok(())
+    } else {
+        Err(refused(number))
+    }
+}

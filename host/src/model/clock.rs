@@ -1,0 +1,72 @@
+//! Stamps and minute numbers. Minute 0 is 2000-01-01 00:00; every day has 1,440 minutes.
+
+use super::record::Fields;
+use super::Minutes;
+
+pub const MINUTES_IN_A_DAY: Minutes = 1_440;
+pub const FIRST_YEAR: u64 = 2000;
+pub const LAST_YEAR: u64 = 2099;
+/// 2099-12-31 23:59.
+pub const LAST_MINUTE: Minutes = 52_595_999;
+
+/// Year in 2 bytes, then month, day, hour and minute in one each.
+#[derive(Clone, Debug, PartialEq, Eq)]
+pub struct Stamp {
+    pub year: u64,
+    pub month: u64,
+    pub day: u64,
+    pub hour: u64,
+    pub minute: u64,
+}
+
+impl Stamp {
+    pub fn read(fields: &mut Fields) -> Stamp {
+        Stamp {
+            year: fields.next(2),
+            month: fields.next(1),
+            day: fields.next(1),
+            hour: fields.next(1),
+            minute: fields.next(1),
+        }
+    }
+
+    /// The minute number, or nothing where this is no date 2000..2099 or no clock time 00:00..23:59.
+    pub fn minute_number(&self) -> Option<Minutes> {
+        (self.is_date() && self.is_clock_time())
+            .then(|| self.days_before() * MINUTES_IN_A_DAY + self.hour * 60 + self.minute)
+    }
+
+    fn is_date(&self) -> bool {
+        (FIRST_YEAR..=LAST_YEAR).contains(&self.year)
+            && (1..=12).contains(&self.month)
+            && (1..=days_in_month(self.year, self.month)).contains(&self.day)
+    }
+
+    fn is_clock_time(&self) -> bool {
+        self.hour <= 23 && self.minute <= 59
+    }
+
+    /// The days from 2000-01-01 to this date.
+    fn days_before(&self) -> u64 {
+        let earlier_years: u64 = (FIRST_YEAR..self.year).map(days_in_year).sum();
+        let earlier_months: u64 = (1..self.month).map(|month| days_in_month(self.year, month)).sum();
+        earlier_years + earlier_months + self.day - 1
+    }
+}
+
+fn is_leap_year(year: u64) -> bool {
+    year.is_multiple_of(4) && (!year.is_multiple_of(100) || year.is_multiple_of(400))
+}
+
+fn days_in_month(year: u64, month: u64) -> u64 {
+    match month {
+        2 if is_leap_year(year) => 29,
+        2 => 28,
+        4 | 6 | 9 | 11 => 30,
+        _ => 31,
+    }
+}
+
+fn days_in_year(year: u64) -> u64 {
+    (1..=12).map(|month| days_in_month(year, month)).sum()
+}

@@ -1,0 +1,110 @@
+//! Kilometres, and the price in its four steps.
+
+use super::tariff::{Area, Stop, Tariff, TripCap};
+use super::trip::Trip;
+use super::{Cents, Km, Minutes};
+
+/// What the price of a trip depends on.
+#[derive(Clone, Debug, PartialEq, Eq)]
+pub struct Ride {
+    pub area: usize,
+    pub km: Km,
+    pub minutes: Minutes,
+    pub class: u64,
+    pub ticket_level: u64,
+}
+
+impl Ride {
+    /// The area looks at all stops, the kilometres at the first and the last.
+    pub fn of(tariff: &Tariff, trip: &Trip, minutes: Minutes) -> Ride {
+        let stops: Vec<&Stop> = trip.stops.iter().map(|&stop| &tariff.stops[stop]).collect();
+        let areas: Vec<usize> = stops.iter().map(|stop| stop.area).collect();
+        Ride {
+            area: tariff.smallest_containing(&areas),
+            km: kilometres(stops[0], stops[stops.len() - 1]),
+            minutes,
+            class: trip.class,
+            ticket_level: trip.ticket_level,
+        }
+    }
+}
+
+/// The least k with dx² + dy² ≤ (1,000k)².
+pub fn kilometres(first: &Stop, last: &Stop) -> Km {
+    let dx = first.x.abs_diff(last.x);
+    let dy = first.y.abs_diff(last.y);
+    let mut k = 0;
+    while dx * dx + dy * dy > (1_000 * k) * (1_000 * k) {
+        k += 1;
+    }
+    k
+}
+
+/// Steps 1 to 3: the price of the holder and of each adult carried. `area` is the ride's own.
+pub fn price(area: &Area, ride: &Ride) -> Cents {
+    let by_distance = step_1(area, ride);
+    let capped = step_2(area, ride, by_distance);
+    step_3(area, ride, capped)
+}
+
+/// Step 4: the price of a child, from step 3.
+pub fn child_price(area: &Area, ride: &Ride) -> Cents {
+    reduced_for_children(area, price(area, ride))
+}
+
+/// Base price × periods + km price × km.
+fn step_1(area: &Area, ride: &Ride) -> Cents {
+    area.base_price * periods(ride.minutes, area.base_validity) + area.price_per_km * ride.km
+}
+
+/// Duration ÷ validity rounded up, at least 1.
+fn periods(duration: Minutes, validity: Minutes) -> u64 {
+    duration.div_ceil(validity).max(1)
+}
+
+/// The smaller of that and the trip cap.
+fn step_2(area: &Area, ride: &Ride, amount: Cents) -> Cents {
+    match trip_cap(area, ride) {
+        Some(cap) => amount.min(cap),
+        None => amount,
+    }
+}
+
+/// The trip cap that applies, if any: a flat one up to its minutes, one by level as the ticket says.
+fn trip_cap(area: &Area, ride: &Ride) -> Option<Cents> {
+    match area.trip_cap {
+        TripCap::None => None,
+        TripCap::Flat { amount, minutes } => (ride.minutes <= minutes).then_some(amount),
+        TripCap::ByLevel { k, a, b, c, d } => match ride.ticket_level {
+            0 => None,
+            1 => Some(k),
+            2 => Some(a),
+            3 => Some(b),
+            4 => Some(c),
+            5 => Some(d),
+            _ => unreachable!("refused with 6"),
+        },
+    }
+}
+
+/// Class 1: with the surcharge. Class 2: unchanged.
+fn step_3(area: &Area, ride: &Ride, amount: Cents) -> Cents {
+    match ride.class {
+        1 => raised_for_first_class(area, amount),
+        _ => amount,
+    }
+}
+
+/// × (100 + surcharge) ÷ 100, rounded up.
+pub fn raised_for_first_class(area: &Area, amount: Cents) -> Cents {
+    per_cent_of(100 + area.surcharge, amount)
+}
+
+/// × (100 − reduction) ÷ 100, rounded up.
+pub fn reduced_for_children(area: &Area, amount: Cents) -> Cents {
+    per_cent_of(100 - area.reduction, amount)
+}
+
+fn per_cent_of(per_cent: u64, amount: Cents) -> Cents {
+    (amount * per_cent).div_ceil(100)
+}

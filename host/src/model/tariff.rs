@@ -1,0 +1,220 @@
+//! A tariff: 1 to 32 areas, then 0 to 1,000 stops, nothing else. Refusals 1 to 3.
+
+use super::record::{record_at, Fields, Record, KIND_AREA, KIND_STOP};
+use super::{Cents, Metres, Minutes, Refusal};
+
+pub const MOST_AREAS: usize = 32;
+pub const MOST_STOPS: usize = 1_000;
+
+const AREA_BODY: usize = 25;
+const STOP_BODY: usize = 9;
+
+/// The day cap that means none.
+const NO_DAY_CAP: u64 = 65_535;
+
+#[derive(Clone, Copy, Debug, PartialEq, Eq)]
+pub enum Level {
+    State,
+    Region,
+    City,
+}
+
+/// The sort of trip cap that an area has, with that sort's own numbers.
+#[derive(Clone, Debug, PartialEq, Eq)]
+pub enum TripCap {
+    None,
+    Flat { amount: Cents, minutes: Minutes },
+    ByLevel { k: Cents, a: Cents, b: Cents, c: Cents, d: Cents },
+}
+
+#[derive(Clone, Debug, PartialEq, Eq)]
+pub struct Area {
+    pub level: Level,
+    pub parent: usize,
+    pub base_price: Cents,
+    pub price_per_km: Cents,
+    pub base_validity: Minutes,
+    /// First-class surcharge in per cent.
+    pub surcharge: u64,
+    /// Child reduction in per cent.
+    pub reduction: u64,
+    pub trip_cap: TripCap,
+    pub day_cap: Option<Cents>,
+    pub bicycle_flat: Cents,
+}
+
+#[derive(Clone, Debug, PartialEq, Eq)]
+pub struct Stop {
+    pub area: usize,
+    pub x: Metres,
+    pub y: Metres,
+}
+
+/// Areas and stops, each numbered from 0 in order.
+#[derive(Clone, Debug, PartialEq, Eq)]
+pub struct Tariff {
+    pub areas: Vec<Area>,
+    pub stops: Vec<Stop>,
+}
+
+/// The tariff, or the fault of its first faulty record and that record's place.
+pub fn read_tariff(bytes: &[u8]) -> Result<Tariff, Refusal> {
+    let mut tariff = Tariff { areas: Vec::new(), stops: Vec::new() };
+    let mut place = 0;
+    while place < bytes.len() {
+        let fault = |number| Refusal { number, place: place as u32 };
+        let record = record_at(bytes, place).ok_or(fault(1))?;
+        if !tariff.may_go_on_with(&record) {
+            return Err(fault(2));
+        }
+        if record.kind == KIND_AREA {
+            let area = read_area(record.body, &tariff.areas).ok_or(fault(3))?;
+            tariff.areas.push(area);
+        } else {
+            let stop = read_stop(record.body, tariff.areas.len()).ok_or(fault(3))?;
+            tariff.stops.push(stop);
+        }
+        place += record.size();
+    }
+    if tariff.areas.is_empty() {
+        return Err(Refusal { number: 2, place: place as u32 });
+    }
+    Ok(tariff)
+}
+
+impl Tariff {
+    /// Whether kind, body length, order and number let this record come next.
+    fn may_go_on_with(&self, record: &Record) -> bool {
+        match record.kind {
+            KIND_AREA => record.body.len() == AREA_BODY && self.stops.is_empty() && self.areas.len() < MOST_AREAS,
+            KIND_STOP => record.body.len() == STOP_BODY && !self.areas.is_empty() && self.stops.len() < MOST_STOPS,
+            _ => false,
+        }
+    }
+
+    /// The area itself, then every area above it up to the state.
+    pub fn area_and_those_above(&self, area: usize) -> Vec<usize> {
+        let mut chain = vec![area];
+        let mut area = area;
+        while area != 0 {
+            area = self.areas[area].parent;
+            chain.push(area);
+        }
+        chain
+    }
+
+    /// Whether `inner` is `outer` or lies within it.
+    pub fn contains(&self, outer: usize, inner: usize) -> bool {
+        self.area_and_those_above(inner).contains(&outer)
+    }
+
+    /// The smallest area containing all of these; there is at least one, and the state contains any.
+    pub fn smallest_containing(&self, areas: &[usize]) -> usize {
+        self.area_and_those_above(areas[0])
+            .into_iter()
+            .find(|&outer| areas.iter().all(|&inner| self.contains(outer, inner)))
+            .expect("the state contains every area")
+    }
+}
+
+/// The area that comes after the `earlier` ones, or nothing where a value is outside the rules.
+fn read_area(body: &[u8], earlier: &[Area]) -> Option<Area> {
+    let mut fields = Fields::of(body);
+    let level = read_level(fields.next(1))?;
+    let parent = fields.next(1) as usize;
+    let base_price = fields.next(2);
+    let price_per_km = fields.next(2);
+    let base_validity = fields.next(2);
+    let surcharge = fields.next(1);
+    let reduction = fields.next(1);
+    let sort = fields.next(1);
+    let trip_cap = read_trip_cap(sort, &fields.next_many(5, 2))?;
+    let day_cap = read_day_cap(fields.next(2))?;
+    let bicycle_flat = fields.next(2);
+
+    let in_range = base_price <= 10_000
+        && price_per_km <= 1_000
+        && is_validity(base_validity)
+        && surcharge <= 100
+        && reduction <= 100
+        && is_money(bicycle_flat);
+    if !in_range || !is_parent(level, parent, earlier) {
+        return None;
+    }
+    // Area 0 is its own parent.
+    if let Some(above) = earlier.get(parent) {
+        if bicycle_flat > above.bicycle_flat {
+            return None;
+        }
+    }
+    Some(Area {
+        level,
+        parent,
+        base_price,
+        price_per_km,
+        base_validity,
+        surcharge,
+        reduction,
+        trip_cap,
+        day_cap,
+        bicycle_flat,
+    })
+}
+
+fn read_level(level: u64) -> Option<Level> {
+    match level {
+        0 => Some(Level::State),
+        1 => Some(Level::Region),
+        2 => Some(Level::City),
+        _ => None,
+    }
+}
+
+/// Sort 0: five zeros. Sort 1: amount, minutes, three zeros. Sort 2: amounts for levels K, A, B, C, D.
+fn read_trip_cap(sort: u64, fields: &[u64]) -> Option<TripCap> {
+    match (sort, fields) {
+        (0, &[0, 0, 0, 0, 0]) => Some(TripCap::None),
+        (1, &[amount, minutes, 0, 0, 0]) if is_money(amount) && is_validity(minutes) => {
+            Some(TripCap::Flat { amount, minutes })
+        }
+        (2, &[k, a, b, c, d]) if fields.iter().all(|&amount| is_money(amount)) => {
+            Some(TripCap::ByLevel { k, a, b, c, d })
+        }
+        _ => None,
+    }
+}
+
+/// The outer nothing is a fault, the inner one an area without a day cap.
+fn read_day_cap(day_cap: u64) -> Option<Option<Cents>> {
+    match day_cap {
+        NO_DAY_CAP => Some(None),
+        amount if is_money(amount) => Some(Some(amount)),
+        _ => None,
+    }
+}
+
+/// Area 0 alone has level 0, parent 0. A region's parent is 0; a city's is an earlier region.
+fn is_parent(level: Level, parent: usize, earlier: &[Area]) -> bool {
+    match level {
+        Level::State => earlier.is_empty() && parent == 0,
+        Level::Region => !earlier.is_empty() && parent == 0,
+        Level::City => earlier.get(parent).is_some_and(|above| above.level == Level::Region),
+    }
+}
+
+/// A stop's area exists; x and y are 0..1,000,000.
+fn read_stop(body: &[u8], areas: usize) -> Option<Stop> {
+    let mut fields = Fields::of(body);
+    let stop = Stop { area: fields.next(1) as usize, x: fields.next(4), y: fields.next(4) };
+    let well = stop.area < areas && stop.x <= 1_000_000 && stop.y <= 1_000_000;
+    well.then_some(stop)
+}
+
+/// All money but base and kilometre prices.
+fn is_money(amount: u64) -> bool {
+    amount <= 60_000
+}
+
+fn is_validity(minutes: u64) -> bool {
+    (30..=1_440).contains(&minutes)
+}
