@@ -2,14 +2,15 @@
 -- Assumes nothing.
 use Prim.Native.Nat.{ℕ, zero, suc, _+_, _/_, _%_, _^_, _≤_, _<_}
 use native.Mathlib.Omega.{arith}
-use native.Mathlib.Nat.{pow-suc, add-assoc}
+use native.Mathlib.Nat.{pow-suc, add-assoc, add-zero}
+use native.Mathlib.Numerals.{add-one}
 use native.Mathlib.Decide.{ℕ-discrete, decLt}
 use mathlib.Core.Path.{_≡_, refl, sym, ap, _∙_}
 use mathlib.Core.Logic.{_⊎_, inl, inr, ⊎-elim}
-use mathlib.Core.List.{List}
+use mathlib.Core.List.{List, [], _∷_, _++_}
 use lib.ListN.{length, getD, set, take, drop, length-set}
-use lib.Seq.{getD-set-same, getD-set-other, set-out, getD-take, getD-drop}
-use Rattle.wire.specs.Number.{getLe, putLe, Bytes}
+use lib.Seq.{getD-set-same, getD-set-other, set-out, getD-take, getD-drop, sets}
+use Rattle.wire.specs.Number.{getLe, putLe, bytesOf, Bytes}
 
 -- A number put leaves the bytes as many as they were.
 pub length-put : (k : ℕ) (b : List ℕ) (p v : ℕ) → length (putLe k b p v) ≡ length b
@@ -88,3 +89,27 @@ get-drop (suc k) n b p =
 -- A number that stands wholly within the first n bytes is read from those alone.
 pub get-take : (k n : ℕ) (b : List ℕ) (p : ℕ) → p + k ≤ n → getLe k (take n b) p ≡ getLe k b p
 get-take k n b p h = get-same k (take n b) b p (λ i from to. getD-take n b i 0 (omega arith))
+
+-- A number has as many bytes as its width says.
+pub length-bytes : (k v : ℕ) → length (bytesOf k v) ≡ k
+unfolding bytesOf
+length-bytes zero v = refl
+length-bytes (suc k) v = ap suc (length-bytes k (v / 256))
+
+-- To put a number is to store its bytes one after another.
+pub put-sets : (k : ℕ) (b : List ℕ) (p v : ℕ) → putLe k b p v ≡ sets b p (bytesOf k v)
+unfolding putLe bytesOf
+put-sets zero b p v = refl
+put-sets (suc k) b p v =
+    put-sets k (set b p (v % 256)) (p + 1) (v / 256)
+    ∙ ap (λ (q : ℕ). sets (set b p (v % 256)) q (bytesOf k (v / 256))) (add-one p)
+
+-- What is stored right after a run of stores makes one run with it.
+pub sets-more : (l : List ℕ) (i : ℕ) (vs ws : List ℕ) → sets (sets l i vs) (i + length vs) ws ≡ sets l i (vs ++ ws)
+sets-more l i [] ws = ap (λ (q : ℕ). sets l q ws) (add-zero i)
+sets-more l i (v ∷ vs) ws =
+    ap (λ (q : ℕ). sets (sets (set l i v) (suc i) vs) q ws) (omega arith) ∙ sets-more (set l i v) (suc i) vs ws
+
+-- A number put right after a run of stores makes one run with it.
+pub sets-put : (k : ℕ) (l : List ℕ) (i v : ℕ) (vs : List ℕ) → putLe k (sets l i vs) (i + length vs) v ≡ sets l i (vs ++ bytesOf k v)
+sets-put k l i v vs = put-sets k (sets l i vs) (i + length vs) v ∙ sets-more l i vs (bytesOf k v)

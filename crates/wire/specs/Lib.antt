@@ -1,3 +1,4 @@
 pub mod Number
 pub mod Frame
 pub mod Each
+pub mod Writer

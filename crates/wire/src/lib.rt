@@ -5,6 +5,8 @@ ghost use lib.ListN.{length};
 ghost use Rattle.wire.specs.Number.{putLe, Number};
 ghost use Rattle.wire.specs.Frame.{frameAt};
 
+pub mod writer;
+
 // A record's length and kind, two bytes each, stand before its body.
 pub const HEAD: usize = 4;
 

@@ -1,0 +1,126 @@
+-- The smallest area of a range of stops: it contains each, and lies within every area that contains them all; there is no other.
+-- Assumes nothing.
+use Prim.Native.Nat.{ℕ, zero, suc, _+_, _-_, _≤_, _<_}
+use native.Mathlib.Nat.{add-zero, sub-zero}
+use native.Mathlib.Omega.{arith}
+use native.Mathlib.Decide.{ℕ-discrete}
+use mathlib.Core.Path.{_≡_, refl}
+use mathlib.Core.Bool.{true, and-eq-true-iff}
+use mathlib.Core.List.{List}
+use borrow.Author.Tests.{leb-true, ltb-true}
+use lib.Dec.{leb, ltb}
+use Rattle.wire.proofs.Each.{each-at}
+use Rattle.tariff.specs.declared.Counts.{Counts}
+use Rattle.tariff.specs.declared.Stop.{Stop}
+use Rattle.tariff.specs.Areas.{liesWithin, Smallest, FaultlessTariff}
+use Rattle.tariff.proofs.Faultless.{faultless}
+use Rattle.tariff.proofs.Within.{within-refl, within-trans, within-there, within-antisym, smallest}
+use Rattle.trip.specs.declared.Trip.{Trip}
+use Rattle.trip.specs.Record.{stopNumber}
+use Rattle.trip.specs.Trips.{stopsKnown}
+use Rattle.fare.specs.Distance.{apart, LeastKm}
+use Rattle.fare.specs.Rides.{Riding, InOrder, stopOf, StopOf, areaOfStops, AreaOfStops, rideOf, RideOf}
+
+-- Of a trip with n stops, each of which the faultless tariff has:
+module _ {tariff : List ℕ} {counts : Counts} {trip : List ℕ} {n : ℕ} (riding : Riding tariff counts trip n) where
+  right : FaultlessTariff tariff (counts .areas) (counts .stops)
+  right = faultless tariff counts (riding .read)
+
+  -- the tariff has the stop's number
+  pub stop-known : (i : ℕ) → i < n → stopNumber trip i < counts .stops
+  unfolding stopsKnown
+  stop-known i h = ltb-true _ _ (each-at n (λ j. ltb (stopNumber trip j) (counts .stops)) (riding .known) i h)
+
+  -- so the stop has its ranges
+  pub stop-there : (i : ℕ) → i < n → StopOf tariff (counts .areas) trip i (stopOf tariff (counts .areas) trip i)
+  unfolding stopOf
+  stop-there i h = record { value = refl; ranges = right .stop (stopNumber trip i) (stop-known i h) }
+
+  -- the area of one stop
+  pub one-stop : (first : ℕ) (s : Stop) → StopOf tariff (counts .areas) trip first s → AreaOfStops tariff (counts .areas) trip first first (s .area)
+  unfolding areaOfStops
+  one-stop first s of =
+      let none : first - first ≡ 0 = omega arith in
+      record {
+        value = rw (none, of .value);
+        there = of .ranges .area;
+        contains = λ i h h′. let e : i ≡ first = omega arith in rw (e, of .value) (within-refl tariff _);
+        least = λ d all. rw (of .value) (all first (omega arith) (omega arith));
+      }
+
+  -- the area of one stop more
+  pub next-stop :
+      (first last r : ℕ) (s : Stop) (r′ : ℕ) → first ≤ last → last + 1 < n → AreaOfStops tariff (counts .areas) trip first last r
+      → StopOf tariff (counts .areas) trip (last + 1) s → Smallest tariff (counts .areas) r (s .area) r′
+      → AreaOfStops tariff (counts .areas) trip first (last + 1) r′
+  unfolding areaOfStops
+  next-stop first last r s r′ order inside so-far of two =
+      let more : last + 1 - first ≡ suc (last - first) = omega arith in
+      let place : first + suc (last - first) ≡ last + 1 = omega arith in
+      record {
+        value = rw (more, place, ← of .value, ← so-far .value) (two .value);
+        there = two .there;
+        contains = λ i h h′.
+            elim (ℕ-discrete i (last + 1)) [
+              | yes e ↦ rw (e, ← of .value) (two .other)
+              | no ne ↦
+                  within-trans right _ r r′ (stop-there i (omega arith) .ranges .area) (so-far .contains i h (omega arith)) (two .one)
+            ];
+        least = λ d all.
+            two .least d (so-far .least d (λ i h h′. all i h (omega arith))) (rw (of .value) (all (last + 1) (omega arith) (omega arith)));
+      }
+
+  -- the definition's area of a range of stops
+  pub area-of-stops :
+      (first more : ℕ) → first + more < n
+      → AreaOfStops tariff (counts .areas) trip first (first + more) (areaOfStops tariff (counts .areas) trip first more)
+  unfolding areaOfStops
+  area-of-stops first zero h = rw add-zero (one-stop first _ (stop-there first (omega arith)))
+  area-of-stops first (suc more) h =
+      let place : first + suc more ≡ first + more + 1 = omega arith in
+      let so-far = area-of-stops first more (omega arith) in
+      let next = stop-there (first + more + 1) (omega arith) in
+      rw place
+      (next-stop first (first + more) _ _ _ (omega arith) (omega arith) so-far next
+      (smallest right _ _ (so-far .there) (next .ranges .area)))
+
+  -- An area that contains each of the stops and lies within every area that contains them all is the smallest.
+  pub area-unique :
+      (first last r : ℕ) → first ≤ last → last < n
+      → ((i : ℕ) → first ≤ i → i ≤ last → liesWithin tariff (stopOf tariff (counts .areas) trip i .area) r ≡ true)
+      → ((d : ℕ) → ((i : ℕ) → first ≤ i → i ≤ last → liesWithin tariff (stopOf tariff (counts .areas) trip i .area) d ≡ true)
+      → liesWithin tariff r d ≡ true)
+      → r ≡ areaOfStops tariff (counts .areas) trip first (last - first)
+  area-unique first last r order inside contains least =
+      let place : first + (last - first) ≡ last = omega arith in
+      let s = rw place at (area-of-stops first (last - first) (omega arith)) in
+      within-antisym right r _
+      (within-there right _ r (stop-there first (omega arith) .ranges .area) (contains first (omega arith) order)) (s .there)
+      (least _ (s .contains)) (s .least r contains)
+
+-- Check-out is not before check-in, and at most a day after it.
+pub times : (trip : Trip) → InOrder trip → (trip .checkin .0 ≤ trip .checkout .0) × (trip .checkout .0 ≤ trip .checkin .0 + 1440)
+times trip order =
+    let both = and-eq-true-iff (leb (trip .checkin .0) (trip .checkout .0)) _ .0 (order .times) in
+    (leb-true _ _ (both .0), leb-true _ _ (both .1))
+
+-- the contract of `ride_of`, from its area, its first and last stop and their kilometres
+pub ride :
+    (tariff : List ℕ) (areas : ℕ) (bytes : List ℕ) (trip : Trip) (area km : ℕ) (from to : Stop) → InOrder trip
+    → AreaOfStops tariff areas bytes 0 (trip .stops - 1) area → StopOf tariff areas bytes 0 from
+    → StopOf tariff areas bytes (trip .stops - 1) to → LeastKm (apart from to) km
+    → RideOf tariff areas bytes trip
+    (record {
+      area = area;
+      km = record { 0 = km };
+      minutes = record { 0 = trip .checkout .0 - trip .checkin .0 };
+      party = trip .party;
+    })
+unfolding rideOf
+ride tariff areas bytes trip area km from to order smallest-area first last far =
+    record {
+      value = rw (smallest-area .value, sub-zero, far .value, first .value, last .value);
+      there = smallest-area .there;
+      km = far .range;
+      minutes = omega (arith, times trip order .1);
+    }

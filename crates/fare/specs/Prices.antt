@@ -1,0 +1,72 @@
+-- Paper 01, "Price, in order".
+use Prim.Native.Nat.{ℕ, _+_, _*_, _≤_}
+use mathlib.Core.Path.{_≡_}
+use mathlib.Core.Bool.{Bool, cond}
+use lib.Dec.{leb, eqb}
+use Rattle.units.specs.Rounding.{periods, raisedBy, reducedBy}
+use Rattle.units.specs.Caps.{cappedBy}
+use Rattle.units.specs.declared.Cap.{Cap}
+use Rattle.units.specs.declared.Cap.the-variants as limit
+use Rattle.tariff.specs.declared.TripCap.{TripCap}
+use Rattle.tariff.specs.declared.TripCap.the-variants as sort
+use Rattle.tariff.specs.declared.levels.LevelCap.the-variants as picked
+use Rattle.tariff.specs.declared.Area.{Area}
+use Rattle.tariff.specs.Levels.{levelCap}
+use Rattle.tariff.specs.Areas.{AreaRanges}
+use Rattle.fare.specs.declared.Ride.{Ride}
+
+-- 1. Base price × periods + km price × km
+unfoldable pub step1 : Area → ℕ → ℕ → ℕ
+step1 area minutes km = area .base .0 * periods minutes (area .validity .0) + area .rate .0 * km
+
+-- the trip cap: sort 1 applies up to its minutes; sort 2 by level, and level 0 has none; sorts 0 and 1 ignore the level
+unfoldable pub tripCap : TripCap → ℕ → ℕ → Cap
+tripCap (sort.NoCap) minutes level = limit.NoCap
+tripCap (sort.Flat amount most) minutes level = cond (leb minutes (most .0)) (limit.UpTo amount) limit.NoCap
+tripCap (sort.ByLevel k a b c d) minutes level =
+    elim (levelCap k a b c d level) [
+      | picked.UpTo amount ↦ limit.UpTo amount
+      | picked.NoCap ↦ limit.NoCap
+      | picked.Refused ↦ limit.NoCap
+    ]
+
+-- 2. The smaller of that and the trip cap
+unfoldable pub step2 : Area → ℕ → ℕ → ℕ → ℕ
+step2 area minutes level amount = cappedBy (tripCap (area .cap) minutes level) amount
+
+-- 3. Class 1: × (100 + surcharge) ÷ 100, rounded up. Class 2: unchanged
+unfoldable pub step3 : Area → ℕ → ℕ → ℕ
+step3 area class amount = cond (eqb class 1) (raisedBy (area .surcharge) amount) amount
+
+-- 4. Child: step 3 × (100 − reduction) ÷ 100, rounded up
+unfoldable pub step4 : Area → Bool → ℕ → ℕ
+step4 area child amount = cond child (reducedBy (area .reduction) amount) amount
+
+-- the price of a ride in its own area, for an adult or a child
+unfoldable pub priceOf : Area → Ride → Bool → ℕ
+priceOf area ride child =
+    step4 area child
+    (step3 area (ride .party .class)
+    (step2 area (ride .minutes .0) (ride .party .level) (step1 area (ride .minutes .0) (ride .km .0))))
+
+pub record Step1 (area : Area) (minutes km r : ℕ) : Type 0 where
+  pub value : r ≡ step1 area minutes km
+  pub range : r ≤ 1895000
+
+pub record Step2 (area : Area) (minutes level amount r : ℕ) : Type 0 where
+  pub value : r ≡ step2 area minutes level amount
+  pub range : r ≤ amount
+
+pub record Step3 (area : Area) (class amount r : ℕ) : Type 0 where
+  pub value : r ≡ step3 area class amount
+  pub range : r ≤ 2 * amount
+
+-- an area of a faultless tariff, and a ride of at most a day across the plane
+pub record Priceable (area : Area) (ride : Ride) : Type 0 where
+  pub ranges : AreaRanges area
+  pub minutes : ride .minutes .0 ≤ 1440
+  pub km : ride .km .0 ≤ 1415
+
+pub record Price (area : Area) (ride : Ride) (child : Bool) (r : ℕ) : Type 0 where
+  pub value : r ≡ priceOf area ride child
+  pub range : r ≤ 3790000

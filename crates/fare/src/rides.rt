@@ -1,0 +1,104 @@
+// The ride that a trip is: its area contains all its stops, its kilometres lie between the first and the last.
+use crate::Ride;
+use tariff::Counts;
+use tariff::Stop;
+use tariff::areas::smallest_containing;
+use tariff::areas::stop;
+use trip::Trip;
+use trip::stop_number;
+use units::Km;
+use units::Metres;
+use units::Minutes;
+ghost use mathlib.Core.Path.{_≡_};
+ghost use Prim.Native.Nat.{_≤_, _<_};
+ghost use Rattle.fare.specs.Distance.{gap, apart, LeastKm};
+ghost use Rattle.fare.specs.Rides.{Riding, InOrder, StopOf, AreaOfStops, RideOf};
+
+fn gap_between(a: Metres, b: Metres) -> u64
+    ensures { λ r. ⌜ r ≡ gap (a .0) (b .0) ⌝ }
+{
+    if a.0 <= b.0 {
+        (b.0 - a.0) as u64
+    } else {
+        (a.0 - b.0) as u64
+    }
+}
+
+// The least k with d ≤ (1,000 k)², by halving what is left between too short and far enough.
+fn least_km(d: u64) -> u32
+    requires { ⌜ d ≤ 2000000000000 ⌝ }
+    ensures { λ r. ⌜ LeastKm d r ⌝ }
+{
+    let mut low: u64 = 0;
+    let mut high: u64 = 1_415;
+    while low < high {
+        let middle = (low + high) / 2;
+        let reach = 1_000 * middle;
+        if d <= reach * reach {
+            high = middle;
+        } else {
+            low = middle + 1;
+        }
+    }
+    high as u32
+}
+
+// Started kilometres between two stops.
+pub fn kilometres(a: Stop, b: Stop) -> Km
+    requires { ⌜ ((a .x .0 ≤ 1000000) × (a .y .0 ≤ 1000000)) × ((b .x .0 ≤ 1000000) × (b .y .0 ≤ 1000000)) ⌝ }
+    ensures { λ r. ⌜ LeastKm (apart a b) (r .0) ⌝ }
+{
+    let east = gap_between(a.x, b.x);
+    let north = gap_between(a.y, b.y);
+    Km(least_km(east * east + north * north))
+}
+
+// A stop of the trip, counted from 0, in the tariff.
+fn stop_of(tariff: &[u8], counts: Counts, trip: &[u8], stops: usize, i: usize) -> Stop
+    requires { ⌜ Riding (now tariff) counts (now trip) stops × (i < stops) ⌝ }
+    ensures { λ r. ⌜ StopOf (now (tariff .entry)) (counts .areas) (now (trip .entry)) i r ⌝ }
+{
+    stop(tariff, counts, stop_number(trip, i))
+}
+
+// The smallest area that contains the stops `first` to `last` of the trip.
+pub fn area_of_stops(
+    tariff: &[u8],
+    counts: Counts,
+    trip: &[u8],
+    stops: usize,
+    first: usize,
+    last: usize,
+) -> usize
+    requires { ⌜ Riding (now tariff) counts (now trip) stops × ((first ≤ last) × (last < stops)) ⌝ }
+    ensures { λ r. ⌜ AreaOfStops (now (tariff .entry)) (counts .areas) (now (trip .entry)) first last r ⌝ }
+{
+    let mut area = stop_of(tariff, counts, trip, stops, first).area as usize;
+    for i in first..last {
+        let next = stop_of(tariff, counts, trip, stops, i + 1).area as usize;
+        area = smallest_containing(tariff, counts, area, next);
+    }
+    area
+}
+
+// The ride that a trip is: the area of all its stops, the kilometres from its first to its last, and its minutes.
+pub fn ride_of(tariff: &[u8], counts: Counts, bytes: &[u8], trip: Trip) -> Ride
+    requires { ⌜ Riding (now tariff) counts (now bytes) (trip .stops) × InOrder trip ⌝ }
+    ensures { λ r. ⌜ RideOf (now (tariff .entry)) (counts .areas) (now (bytes .entry)) trip r ⌝ }
+{
+    let stops = trip.stops;
+    let last = stops - 1;
+    let area = area_of_stops(tariff, counts, bytes, stops, 0, last);
+    let from = stop_of(tariff, counts, bytes, stops, 0);
+    let to = stop_of(tariff, counts, bytes, stops, last);
+    let checkin = trip.checkin;
+    let checkout = trip.checkout;
+    let duration = checkout.0 - checkin.0;
+    let party = trip.party;
+    Ride {
+        area,
+        km: kilometres(from, to),
+        minutes: Minutes(duration),
+        party,
+    }
+}

@@ -1,0 +1,6 @@
+pub mod Shapes
+pub mod Stamps
+pub mod Known
+pub mod Ranges
+pub mod Ways
+pub mod Good

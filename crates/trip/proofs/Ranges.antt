@@ -1,0 +1,77 @@
+-- What the tests of a party and of two moments say, in the paper's words, and that the words are enough.
+-- Assumes nothing.
+use Prim.Native.Nat.{ℕ, _+_, _≤_, _<_}
+use native.Mathlib.Omega.{arith}
+use native.Mathlib.Decide.{decLt}
+use mathlib.Core.Path.{_≡_, refl, sym, _∙_}
+use mathlib.Core.Logic.{_↔_, _⊎_, inl, inr, ⊎-elim}
+use mathlib.Core.Bool.{Bool, true, false, _||_, and-false, false≢true}
+use borrow.Author.Tests.{eqb-true, leb-false, le-leb, lt-leb}
+use lib.Dec.{leb, eqb}
+use Rattle.tariff.proofs.Tests.{told, one-of}
+use Rattle.trip.specs.declared.Party.{Party}
+use Rattle.trip.specs.Record.{partyRight}
+use Rattle.trip.specs.Moments.{inOrder}
+
+-- Class 1 or 2, level at most 5, adults, children and bicycles at most 10, n 2..32.
+pub record PartyRanges (p : Party) (n : ℕ) : Type 0 where
+  pub class-is : (p .class ≡ 1) ⊎ (p .class ≡ 2)
+  pub level : p .level ≤ 5
+  pub adults : p .adults ≤ 10
+  pub children : p .children ≤ 10
+  pub bicycles : p .bicycles ≤ 10
+  pub least : 2 ≤ n
+  pub most : n ≤ 32
+
+pub party-ranges : (p : Party) (n : ℕ) → partyRight p n ≡ true → PartyRanges p n
+unfolding partyRight
+party-ranges p n e =
+    record {
+      class-is = one-of (eqb (p .class) 1) (eqb (p .class) 2) (search told depth 9) (λ t. inl (eqb-true _ _ t)) (λ t. inr (eqb-true _ _ t));
+      level = search told depth 9;
+      adults = search told depth 9;
+      children = search told depth 9;
+      bicycles = search told depth 9;
+      least = search told depth 9;
+      most = search told depth 9;
+    }
+
+pub ranges-right : (p : Party) (n : ℕ) → PartyRanges p n → partyRight p n ≡ true
+unfolding partyRight
+ranges-right p n r =
+    rw (
+      classes (r .class-is),
+      le-leb (p .level) 5 (r .level),
+      le-leb (p .adults) 10 (r .adults),
+      le-leb (p .children) 10 (r .children),
+      le-leb (p .bicycles) 10 (r .bicycles),
+      le-leb 2 n (r .least),
+      le-leb n 32 (r .most),
+    )
+  where
+    classes : (p .class ≡ 1) ⊎ (p .class ≡ 2) → eqb (p .class) 1 || eqb (p .class) 2 ≡ true
+    classes (inl e) = rw e
+    classes (inr e) = rw e
+
+-- The test fails exactly when one of them is out of its range.
+pub party-wrong : (p : Party) (n : ℕ) → partyRight p n ≡ false ↔ (PartyRanges p n → ⊥)
+party-wrong p n = (λ e r. false≢true (sym e ∙ ranges-right p n r), go (partyRight p n) refl)
+  where
+    go : (t : Bool) → partyRight p n ≡ t → (PartyRanges p n → ⊥) → partyRight p n ≡ false
+    go true e never = absurd (never (party-ranges p n e))
+    go false e never = e
+
+-- Check-out is not before check-in, nor over 1,440 minutes after it.
+pub in-order : (from to : ℕ) → inOrder from to ≡ true → (from ≤ to) × (to ≤ from + 1440)
+in-order from to e = search told
+
+-- Check-out before check-in, or over 1,440 minutes after it.
+pub out-of-order : (from to : ℕ) → inOrder from to ≡ false ↔ ((to < from) ⊎ (from + 1440 < to))
+out-of-order from to = (
+  λ e.
+      elim (decLt to from) [
+        | yes h ↦ inl h
+        | no h ↦ inr (leb-false to (from + 1440) (rw (le-leb from to (omega arith)) at e))
+      ],
+  ⊎-elim (λ h. rw (lt-leb from to h)) (λ h. rw (lt-leb to (from + 1440) h) (and-false (leb from to))),
+)
