@@ -1,0 +1,11 @@
+pub mod WordLaws
+pub mod SoundLaws
+pub mod Chains
+pub mod SumLaws
+pub mod CapLaws
+pub mod WindowLaws
+pub mod ChargeLaws
+pub mod PostedLaws
+pub mod SoundAgain
+pub mod PostSteps
+pub mod PostTurns

@@ -1,0 +1,239 @@
+-- What the loops and the joins of posting carry on.
+-- Assumes nothing.
+use Prim.Native.Nat.{ℕ, zero, suc, _+_, _-_, _*_, _^_, _≤_, _<_}
+use native.Mathlib.Omega.{arith}
+use native.Mathlib.Numerals.{add-one}
+use mathlib.Core.Path.{_≡_, refl, sym, ap, _∙_}
+use mathlib.Core.Logic.{inr}
+use mathlib.Core.Bool.{Bool, true, false, cond, not}
+use mathlib.Core.List.{List, _++_, append-nil}
+use borrow.Author.Tests.{eq-eqb, ne-eqb, not-true, not-false}
+use lib.ListN.{length, getD, drop, replicate}
+use lib.Seq.{drop-length}
+use lib.Dec.{eqb}
+use Rattle.tariff.specs.Rules.{levelOf}
+use Rattle.tariff.specs.Areas.{parentOf, FaultlessTariff}
+use Rattle.tariff.proofs.Within.{above-of, parent-there}
+use Rattle.fare.specs.declared.Ride.{Ride}
+use Rattle.book.specs.declared.Window.{Window}
+use Rattle.book.specs.Words.{bookSize, freshBook, word, putWord, pairPlace, secondSum, allSum, coverPlace, coverWord}
+use Rattle.book.specs.Windows.{inWindow}
+use Rattle.book.specs.Charging.{newCover}
+use Rattle.book.specs.Posting.{addHere, addUp, addList, coverBicycles, opened, RoomHere, Room}
+use Rattle.book.proofs.WordLaws.{fresh-size, size-put, word-put-other}
+use Rattle.book.proofs.Chains.{below-state}
+use Rattle.book.proofs.SumLaws.{here-size, here-other, up-size, up-other}
+
+-- A list filled to its end is nothing but the filling.
+pub filled :
+    (n i v : ℕ) (d : List ℕ) {b : List ℕ} → b ≡ replicate i v ++ drop i d → i ≡ n → length d ≡ n → b ≡ replicate n v
+filled n i v d e end size =
+    e ∙ ap (λ (k : ℕ). replicate k v ++ drop k d) (end ∙ sym size)
+    ∙ rw (drop-length d, append-nil) (ap (λ (k : ℕ). replicate k v) size)
+
+-- Where a window has been seen to: a new one is cleared.
+pub record WindowReady (current : Bool) (b b′ : List ℕ) : Type 0 where
+  pub value : b′ ≡ inWindow current b
+  pub size : length b′ ≡ bookSize
+
+module _ {current : Bool} {b b′ : List ℕ} where
+  pub window-new : not current ≡ true → b′ ≡ freshBook → WindowReady current b b′
+  window-new new e = record { value = rw (not-true current new) e; size = ap length e ∙ fresh-size }
+
+  pub window-same : length b ≡ bookSize → not current ≡ false → b′ ≡ b → WindowReady current b b′
+  window-same size same e = record { value = rw (not-false current same) e; size = ap length e ∙ size }
+
+-- Then its three words are put.
+pub three-put :
+    (window : Window) (checkout : ℕ) {w b b₁ b₂ b₃ : List ℕ} → b ≡ w → b₁ ≡ putWord b 0 (window .trips)
+    → b₂ ≡ putWord b₁ 1 (window .opening .0) → b₃ ≡ putWord b₂ 2 checkout → b₃ ≡ opened window checkout w
+unfolding opened
+three-put window checkout e e₁ e₂ e₃ = rw (e₃, e₂, e₁, e)
+
+-- Where the second-class sum has been seen to: in class 2 the charge is added to it, and the all-classes sum is as it was.
+pub record SecondAdded (b b′ : List ℕ) (rider class area amount : ℕ) : Type 0 where
+  pub value : b′ ≡ cond (eqb class 2) (putWord b (pairPlace rider area) (secondSum b rider area + amount)) b
+  pub size : length b′ ≡ length b
+  pub all : allSum b′ rider area ≡ allSum b rider area
+
+-- the second-class sum does not wrap where there is room
+pub second-fits :
+    (b : List ℕ) (rider area : ℕ) {amount place second : ℕ} → RoomHere b rider area → amount ≤ 3790000 → place ≡ pairPlace rider area
+    → second ≡ word b place → second + amount < 2 ^ 32
+second-fits b rider area {second = second} room small is read =
+    let e : second ≡ secondSum b rider area = read ∙ ap (word b) is in
+    omega arith
+
+module _ {b b′ : List ℕ} {rider class area amount place : ℕ} (is : place ≡ pairPlace rider area) where
+  pub second-put :
+      {second : ℕ} → class ≡ 2 → second ≡ word b place → b′ ≡ putWord b place (second + amount)
+      → SecondAdded b b′ rider class area amount
+  second-put two read put =
+      let e : b′ ≡ putWord b (pairPlace rider area) (secondSum b rider area + amount) = put ∙ rw (read, is) in
+      record {
+        value = rw (eq-eqb class 2 two) e;
+        size = ap length e ∙ size-put b _ _;
+        all = rw e (word-put-other b _ _ _ (λ same. omega arith));
+      }
+
+  pub second-left : (class ≡ 2 → ⊥) → b′ ≡ b → SecondAdded b b′ rider class area amount
+  second-left other e = record { value = rw (ne-eqb class 2 other) e; size = ap length e; all = rw e }
+
+  -- nor does the all-classes sum wrap
+  pub all-fits :
+      {all : ℕ} → RoomHere b rider area → amount ≤ 3790000 → SecondAdded b b′ rider class area amount → all ≡ word b′ (place + 1)
+      → all + amount < 2 ^ 32
+  all-fits {all} room small s read =
+      let e : all ≡ allSum b rider area = read ∙ ap (λ (p : ℕ). word b′ (p + 1)) is ∙ s .all in
+      omega arith
+
+  pub all-put :
+      {b″ : List ℕ} {all : ℕ} → SecondAdded b b′ rider class area amount → all ≡ word b′ (place + 1)
+      → b″ ≡ putWord b′ (place + 1) (all + amount) → b″ ≡ addHere b rider class area amount
+  unfolding addHere
+  all-put s read put = put ∙ rw (read, is, s .value)
+
+-- Sums whose words are the same have the same room.
+room-here-same :
+    (b b′ : List ℕ) (rider area : ℕ) → word b′ (pairPlace rider area) ≡ word b (pairPlace rider area)
+    → word b′ (pairPlace rider area + 1) ≡ word b (pairPlace rider area + 1) → RoomHere b rider area → RoomHere b′ rider area
+room-here-same b b′ rider area second all room = omega arith
+
+pub room-same :
+    (b b′ : List ℕ) (rider : ℕ) → ((j : ℕ) → 3 + 64 * rider ≤ j → j < 67 + 64 * rider → word b′ j ≡ word b j) → Room b rider
+    → Room b′ rider
+room-same b b′ rider same room area h =
+    room-here-same b b′ rider area (same _ (omega arith) (omega arith)) (same _ (omega arith) (omega arith)) (room area h)
+
+-- While a charge goes up: what is still to be added from here on makes the whole, and the areas to come have room.
+pub record Climbing (t b₀ b : List ℕ) (areas rider class at amount up above : ℕ) : Type 0 where
+  pub size : length b ≡ bookSize
+  pub there : up < areas
+  pub level : above ≡ levelOf t up
+  pub room : (area : ℕ) → area ≤ up → RoomHere b rider area
+  pub rest : addUp above t b rider class up amount ≡ addUp (levelOf t at) t b₀ rider class at amount
+
+-- the first step of the way up
+up-step :
+    (t b : List ℕ) (rider class area amount n : ℕ) → 0 < n
+    → addUp (n - 1) t (addHere b rider class area amount) rider class (parentOf t area) amount
+    ≡ addUp n t b rider class area amount
+unfolding addUp
+up-step t b rider class area amount zero some = absurd (omega arith)
+up-step t b rider class area amount (suc n) some =
+    let e : suc n - 1 ≡ n = omega arith in
+    ap (λ (k : ℕ). addUp k t (addHere b rider class area amount) rider class (parentOf t area) amount) e
+
+module _ {t : List ℕ} {areas stops : ℕ} (f : FaultlessTariff t areas stops) where
+  pub climb-start :
+      {b : List ℕ} {rider class at amount above : ℕ} → length b ≡ bookSize → at < areas → Room b rider → above ≡ levelOf t at
+      → Climbing t b b areas rider class at amount at above
+  climb-start {b} {rider} {class} {at} {amount} size there room level =
+      record {
+        size = size;
+        there = there;
+        level = level;
+        room = λ area h. room area (omega (arith, f .few-areas));
+        rest = ap (λ (n : ℕ). addUp n t b rider class at amount) level;
+      }
+
+  pub climb-turn :
+      {b₀ b b′ : List ℕ} {rider class at amount up up′ above : ℕ} → Climbing t b₀ b areas rider class at amount up above
+      → 0 < above → b′ ≡ addHere b rider class up amount → up′ ≡ parentOf t up
+      → Climbing t b₀ b′ areas rider class at amount up′ (above - 1)
+  climb-turn {b = b} {rider = rider} {class} {at} {amount} {up} {above = above} s some added next =
+      rw (added, next)
+      (record {
+        size = here-size b rider class up amount ∙ s .size;
+        there = parent-there f up (s .there);
+        level = omega (arith, above-of f up (s .there) .level-up);
+        room = λ area h.
+            let below = above-of f up (s .there) .earlier (below-state f up up (s .there) (omega arith)) in
+            room-here-same b (addHere b rider class up amount) rider area
+            (here-other b rider class up amount _ (λ e. omega arith) (λ e. omega arith))
+            (here-other b rider class up amount _ (λ e. omega arith) (λ e. omega arith)) (s .room area (omega arith));
+        rest = up-step t b rider class up amount above some ∙ s .rest;
+      })
+
+pub climb-end :
+    {t b₀ b b′ : List ℕ} {areas rider class at amount up above : ℕ} → Climbing t b₀ b areas rider class at amount up above → above ≤ 0
+    → b′ ≡ addHere b rider class up amount → b′ ≡ addUp (levelOf t at) t b₀ rider class at amount
+unfolding addUp
+climb-end {above = zero} s none added = added ∙ s .rest
+climb-end {above = suc above} s none added = absurd (omega arith)
+
+-- After the first i riders: their charges are added, and the riders to come have room. A ride counts by its class and area alone.
+pub record RidersAdded (t b₀ b amounts : List ℕ) (first count from class at i : ℕ) : Type 0 where
+  pub size : length b ≡ bookSize
+  pub within : i ≤ count
+  pub room : (k : ℕ) → i ≤ k → k < count → Room b (first + k)
+  pub done : (ride : Ride) → ride .party .class ≡ class → ride .area ≡ at → b ≡ addList t ride first i amounts from b₀
+
+pub riders-start :
+    {t b amounts : List ℕ} {first count from class at : ℕ} → length b ≡ bookSize → ((k : ℕ) → k < count → Room b (first + k))
+    → RidersAdded t b b amounts first count from class at 0
+unfolding addList
+riders-start size room =
+    record { size = size; within = omega arith; room = λ k low high. room k high; done = λ ride e e′. refl }
+
+pub riders-turn :
+    {t : List ℕ} {areas stops : ℕ} → FaultlessTariff t areas stops → {b₀ b b′ amounts : List ℕ} {first count from class at i : ℕ}
+    → RidersAdded t b₀ b amounts first count from class at i → i < count → at < areas → first + count ≤ 21
+    → b′ ≡ addUp (levelOf t at) t b (first + i) class at (getD amounts (from + i) 0)
+    → RidersAdded t b₀ b′ amounts first count from class at (i + 1)
+unfolding addList
+riders-turn {t} f {b = b} {amounts = amounts} {first} {count} {from} {class} {at} {i} s more there few added =
+    let amount = getD amounts (from + i) 0 in
+    record {
+      size = ap length added ∙ up-size f (first + i) class amount (omega arith) (levelOf t at) b at ∙ s .size;
+      within = omega arith;
+      room = λ k low high.
+          rw added
+          (room-same b _ (first + k)
+          (λ j least most. up-other f (first + i) class amount (omega arith) (levelOf t at) b at there j (inr (omega arith)))
+          (s .room k (omega arith) high));
+      done = λ ride e e′. added ∙ rw (add-one i, ← s .done ride e e′, e, e′);
+    }
+
+pub riders-end :
+    {t b₀ b amounts : List ℕ} (ride : Ride) {first count from i : ℕ}
+    → RidersAdded t b₀ b amounts first count from (ride .party .class) (ride .area) i → count ≤ i
+    → b ≡ addList t ride first count amounts from b₀
+riders-end {t} {b₀} {amounts = amounts} ride {first} {count} {from} {i} s last =
+    let e : i ≡ count = omega (arith, s .within) in
+    s .done ride refl refl ∙ ap (λ (n : ℕ). addList t ride first n amounts from b₀) e
+
+-- After the first i bicycles: their covering areas are written, and those to come are as they were.
+pub record BicyclesCovered (t b₀ b : List ℕ) (areas count at i : ℕ) : Type 0 where
+  pub size : length b ≡ bookSize
+  pub within : i ≤ count
+  pub covers : (k : ℕ) → i ≤ k → k < count → coverWord b k ≤ areas
+  pub done : (ride : Ride) → ride .area ≡ at → b ≡ coverBicycles t ride i b₀
+
+pub bicycles-start :
+    {t b : List ℕ} {areas count at : ℕ} → length b ≡ bookSize → ((k : ℕ) → k < count → coverWord b k ≤ areas)
+    → BicyclesCovered t b b areas count at 0
+unfolding coverBicycles
+bicycles-start size covers =
+    record { size = size; within = omega arith; covers = λ k low high. covers k high; done = λ ride e. refl }
+
+pub bicycles-turn :
+    {t b₀ b b′ : List ℕ} {areas count at i place old new : ℕ} → BicyclesCovered t b₀ b areas count at i → i < count
+    → place ≡ coverPlace i → old ≡ word b place → new ≡ newCover t at old → b′ ≡ putWord b place (1 + new)
+    → BicyclesCovered t b₀ b′ areas count at (i + 1)
+unfolding coverBicycles
+bicycles-turn {b = b} {i = i} {place} {new = new} s more is read cover put =
+    record {
+      size = ap length put ∙ size-put b place (1 + new) ∙ s .size;
+      within = omega arith;
+      covers = λ k low high.
+          rw (put, word-put-other b place (coverPlace k) (1 + new) (λ e. omega arith)) (s .covers k (omega arith) high);
+      done = λ ride e. put ∙ rw (cover, read, is, add-one i, ← s .done ride e, e);
+    }
+
+pub bicycles-end :
+    {t b₀ b : List ℕ} (ride : Ride) {areas count i : ℕ} → BicyclesCovered t b₀ b areas count (ride .area) i → count ≤ i
+    → b ≡ coverBicycles t ride count b₀
+bicycles-end {t} {b₀} ride {count = count} {i} s last =
+    let e : i ≡ count = omega (arith, s .within) in
+    s .done ride refl ∙ ap (λ (n : ℕ). coverBicycles t ride n b₀) e

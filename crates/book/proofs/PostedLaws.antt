@@ -1,0 +1,445 @@
+-- What a ride leaves in the book, word by word: the window's three words, the riders' sums with their charges, the bicycles' covering
+-- areas, and every other word as it was.
+-- Assumes nothing.
+use Prim.Native.Nat.{ℕ, zero, suc, _+_, _-_, _*_, _^_, _≤_, _<_}
+use native.Mathlib.Nat.{add-zero, zero-add, mul-le-mul-right}
+use native.Mathlib.Omega.{arith}
+use native.Mathlib.Decide.{ℕ-discrete, decLt}
+use mathlib.Core.Path.{_≡_, refl, sym, ap, subst, _∙_}
+use mathlib.Core.Logic.{_⊎_, inl, inr, ⊎-elim}
+use mathlib.Core.Bool.{Bool, true, false, cond, _&&_}
+use mathlib.Core.List.{List}
+use borrow.Author.Tests.{eq-eqb, ne-eqb, lt-ltb, le-ltb}
+use lib.ListN.{length, getD}
+use lib.Dec.{ltb}
+use Rattle.tariff.specs.declared.Counts.{Counts}
+use Rattle.tariff.specs.Areas.{liesWithin, FaultlessTariff}
+use Rattle.tariff.proofs.Within.{smallest, within-state}
+use Rattle.tariff.proofs.Faultless.{faultless}
+use Rattle.fare.specs.declared.Ride.{Ride}
+use Rattle.book.specs.declared.Window.{Window}
+use Rattle.book.specs.Words.{bookSize, freshBook, word, putWord, tripsOf, openingOf, lastOutOf, pairPlace, secondSum, allSum, coverPlace, coverWord}
+use Rattle.book.specs.Windows.{inWindow}
+use Rattle.book.specs.Charging.{Rideable, chargesOf, newCover}
+use Rattle.book.specs.Posting.{addList, coverBicycles, opened, posted}
+use Rattle.book.proofs.WordLaws.{word-put-same, word-put-other, size-put, word-fresh, fresh-size}
+use Rattle.book.proofs.SoundLaws.{PairSound, SoundBook, sound-has}
+use Rattle.book.proofs.ChargeLaws.{charges-most}
+use Rattle.book.proofs.SumLaws.{sumOf, counted, Fits, sum-by-words, list-size, list-other, list-riders, list-sum}
+
+-- ---- The bicycles.
+
+-- A bicycle's new covering area is one of the tariff's.
+pub new-cover-there : {tariff : List ℕ} {areas stops : ℕ} (t : FaultlessTariff tariff areas stops) (area old : ℕ) → area < areas → old ≤ areas
+    → newCover tariff area old < areas
+unfolding newCover
+new-cover-there t area old here known =
+    elim (ℕ-discrete old 0) [
+      | yes none ↦ rw (eq-eqb old 0 none) here
+      | no used ↦ rw (ne-eqb old 0 used) (smallest t area (old - 1) here (omega arith) .there)
+    ]
+
+module _ (tariff : List ℕ) (ride : Ride) where
+  -- Covering bicycles leaves the book as long as it was.
+  pub cover-size : (n : ℕ) (b : List ℕ) → length (coverBicycles tariff ride n b) ≡ length b
+  unfolding coverBicycles
+  cover-size zero b = refl
+  cover-size (suc n) b = size-put _ _ _ ∙ cover-size n b
+
+  -- Every word but those bicycles' stays.
+  pub cover-other : (n : ℕ) (b : List ℕ) (j : ℕ) → (j < 1347) ⊎ (1347 + n ≤ j) → word (coverBicycles tariff ride n b) j ≡ word b j
+  unfolding coverBicycles
+  cover-other zero b j out = refl
+  cover-other (suc n) b j out =
+      word-put-other _ _ _ _ (λ e. ⊎-elim (λ h. omega arith) (λ h. omega arith) out)
+      ∙ cover-other n b j (⊎-elim inl (λ h. inr (omega arith)) out)
+
+module _ {tariff : List ℕ} {areas stops : ℕ} (t : FaultlessTariff tariff areas stops) (ride : Ride) (there : ride .area < areas) where
+  -- Each of the bicycles has its new covering area.
+  pub cover-new :
+      (n : ℕ) (b : List ℕ) → length b ≡ bookSize → n ≤ 10 → ((i : ℕ) → i < n → coverWord b i ≤ areas) → (k : ℕ) → k < n
+      → coverWord (coverBicycles tariff ride n b) k ≡ 1 + newCover tariff (ride .area) (coverWord b k)
+  unfolding coverBicycles
+  cover-new zero b size few covers k h = absurd (omega arith)
+  cover-new (suc n) b size few covers k h =
+      let before = coverBicycles tariff ride n b in
+      let some = t .few-areas in
+      let kept : coverWord before n ≡ coverWord b n = cover-other tariff ride n b (coverPlace n) (inr (omega arith)) in
+      let one = new-cover-there t (ride .area) (coverWord before n) there (omega (arith, covers n (omega arith))) in
+      elim (ℕ-discrete k n) [
+        | yes is ↦
+            rw is
+            (word-put-same before (coverPlace n) (1 + newCover tariff (ride .area) (coverWord before n)) (cover-size tariff ride n b ∙ size)
+            (omega arith) (omega arith)
+            ∙ ap (λ (old : ℕ). 1 + newCover tariff (ride .area) old) kept)
+        | no ne ↦
+            word-put-other _ _ _ _ (λ e. ne (omega arith))
+            ∙ cover-new n b size (omega arith) (λ i hi. covers i (omega arith)) k (omega arith)
+      ]
+
+-- ---- The window's words.
+
+-- the book with the first of them put, and with the first two
+abbrev oneIn : Window → List ℕ → List ℕ
+oneIn window b = putWord b 0 (window .trips)
+
+abbrev twoIn : Window → List ℕ → List ℕ
+twoIn window b = putWord (oneIn window b) 1 (window .opening .0)
+
+module _ (window : Window) (checkout : ℕ) (b : List ℕ) where
+  one-size : length (oneIn window b) ≡ length b
+  one-size = size-put b 0 (window .trips)
+
+  two-size : length (twoIn window b) ≡ length b
+  two-size = size-put (oneIn window b) 1 (window .opening .0) ∙ one-size
+
+  -- Opening leaves the book as long as it was.
+  pub opened-size : length (opened window checkout b) ≡ length b
+  unfolding opened
+  opened-size = size-put (twoIn window b) 2 checkout ∙ two-size
+
+  one-other : (j : ℕ) → 1 ≤ j → word (oneIn window b) j ≡ word b j
+  one-other j h = word-put-other b 0 j (window .trips) (λ e. omega arith)
+
+  two-other : (j : ℕ) → (1 ≡ j → ⊥) → word (twoIn window b) j ≡ word (oneIn window b) j
+  two-other j h = word-put-other (oneIn window b) 1 j (window .opening .0) h
+
+  out-other : (j : ℕ) → (2 ≡ j → ⊥) → word (opened window checkout b) j ≡ word (twoIn window b) j
+  unfolding opened
+  out-other j h = word-put-other (twoIn window b) 2 j checkout h
+
+  -- Every word but the first three stays.
+  pub opened-other : (j : ℕ) → 3 ≤ j → word (opened window checkout b) j ≡ word b j
+  opened-other j h = out-other j (λ e. omega arith) ∙ two-other j (λ e. omega arith) ∙ one-other j (omega arith)
+
+  -- So every sum does.
+  pub opened-sum : (which : Bool) (rider x : ℕ) → x < 32 → sumOf which (opened window checkout b) rider x ≡ sumOf which b rider x
+  opened-sum which rider x hx = sum-by-words which _ b rider x (λ j low high. opened-other j (omega arith)) hx
+
+  -- Word 0 is the window's trips, word 1 its opening, word 2 the check-out.
+  pub opened-trips : length b ≡ bookSize → window .trips < 2 ^ 32 → tripsOf (opened window checkout b) ≡ window .trips
+  opened-trips size small =
+      out-other 0 (λ e. omega arith) ∙ two-other 0 (λ e. omega arith) ∙ word-put-same b 0 (window .trips) size (omega arith) small
+
+  pub opened-opening : length b ≡ bookSize → window .opening .0 < 2 ^ 32 → openingOf (opened window checkout b) ≡ window .opening .0
+  opened-opening size small =
+      out-other 1 (λ e. omega arith) ∙ word-put-same (oneIn window b) 1 (window .opening .0) (one-size ∙ size) (omega arith) small
+
+  pub opened-out : length b ≡ bookSize → checkout < 2 ^ 32 → lastOutOf (opened window checkout b) ≡ checkout
+  unfolding opened
+  opened-out size small = word-put-same (twoIn window b) 2 checkout (two-size ∙ size) (omega arith) small
+
+-- ---- The words that count.
+
+-- what the words that count have: so many trips before, of which there may be 255; and what these trips can have left
+pub record Counting (w : List ℕ) (areas before : ℕ) : Type 0 where
+  pub size : length w ≡ bookSize
+  pub few : before ≤ 255
+  pub pairs : (rider area : ℕ) → rider < 21 → area < 32 → PairSound w (before * 3790000) rider area
+  pub covers : (k : ℕ) → k < 10 → coverWord w k ≤ areas
+
+-- The open window has the trips of a sound book, and the next window none.
+pub counting :
+    (current : Bool) {book : List ℕ} {areas : ℕ} → SoundBook book areas → (current ≡ true → tripsOf book ≤ 255)
+    → Counting (inWindow current book) areas (cond current (tripsOf book) 0)
+counting true s room = record { size = s .size; few = room refl; pairs = s .pairs; covers = s .covers }
+counting false {book} {areas} s room =
+    record {
+      size = fresh-size;
+      few = omega arith;
+      pairs = λ rider area hr ha. (none rider area, all rider area);
+      covers = λ k h. omega (arith, word-fresh (coverPlace k));
+    }
+  where
+    none : (rider area : ℕ) → secondSum freshBook rider area ≤ allSum freshBook rider area
+    none rider area = omega (arith, word-fresh (pairPlace rider area))
+
+    all : (rider area : ℕ) → allSum freshBook rider area ≤ 0 * 3790000
+    all rider area = omega (arith, word-fresh (pairPlace rider area + 1))
+
+-- A rider's sums have room for one charge more.
+pub counting-room :
+    {w : List ℕ} {areas before : ℕ} → Counting w areas before → (rider amount : ℕ) → rider < 21 → amount ≤ 3790000 → (x : ℕ) → x < 32
+    → Fits w rider amount x
+counting-room {w} {areas} {before} c rider amount hr range x hx = fits
+  where
+    most : before * 3790000 ≤ 255 * 3790000
+    most = mul-le-mul-right 3790000 (c .few)
+
+    fits : Fits w rider amount x
+    fits true = let p = c .pairs rider x hr hx in omega (arith, most)
+    fits false = let p = c .pairs rider x hr hx in omega (arith, most)
+
+-- ---- The whole ride.
+
+-- the words that count in a window, and the charges by them
+abbrev pub wordsIn : Window → List ℕ → List ℕ
+wordsIn window book = inWindow (window .current) book
+
+abbrev pub chargesIn : List ℕ → List ℕ → Window → Ride → List ℕ
+chargesIn tariff book window ride = chargesOf tariff (wordsIn window book) ride
+
+-- what a charge adds to one of a rider's two sums in an area: itself where its class counts and the ride's area lies within, else 0
+abbrev pub added : Bool → List ℕ → Ride → ℕ → ℕ → ℕ
+added which tariff ride area amount = cond (counted which (ride .party .class) && liesWithin tariff (ride .area) area) amount 0
+
+-- a rider's charge among those of a party: 0 for a rider who is not carried
+unfoldable pub ownCharge : Ride → List ℕ → ℕ → ℕ
+ownCharge ride charges rider =
+    cond (ltb rider 11)
+    (cond (ltb rider (1 + ride .party .adults)) (getD charges rider 0) 0)
+    (cond (ltb rider (11 + ride .party .children)) (getD charges (1 + ride .party .adults + (rider - 11)) 0) 0)
+
+-- a rider whom a party does not carry
+abbrev pub NotCarried : Ride → ℕ → Type 0
+NotCarried ride rider = ((1 + ride .party .adults ≤ rider) × (rider < 11)) ⊎ (11 + ride .party .children ≤ rider)
+
+-- A rider is an adult, a child, or not carried.
+pub rider-cases :
+    {P : ℕ → Type 0} (ride : Ride) (rider : ℕ) → ((r : ℕ) → r < 1 + ride .party .adults → P r) → ((i : ℕ) → i < ride .party .children → P (11 + i))
+    → (NotCarried ride rider → P rider) → P rider
+rider-cases {P} ride rider adult child none =
+    elim (decLt rider (1 + ride .party .adults)) [
+      | yes h ↦ adult rider h
+      | no h ↦
+          elim (decLt rider 11) [
+            | yes h′ ↦ none (inl (omega arith, h′))
+            | no h′ ↦
+                elim (decLt rider (11 + ride .party .children)) [
+                  | yes i ↦ subst P (omega arith) (child (rider - 11) (omega arith))
+                  | no i ↦ none (inr (omega arith))
+                ]
+          ]
+    ]
+
+module _ (ride : Ride) (charges : List ℕ) where
+  -- The account holder and the adults have the first charges.
+  pub own-adult : (rider : ℕ) → ride .party .adults ≤ 10 → rider < 1 + ride .party .adults → ownCharge ride charges rider ≡ getD charges rider 0
+  unfolding ownCharge
+  own-adult rider few h = rw (lt-ltb rider 11 (omega arith), lt-ltb rider (1 + ride .party .adults) h)
+
+  -- The children have those after the adults'.
+  pub own-child :
+      (i : ℕ) → i < ride .party .children → ownCharge ride charges (11 + i) ≡ getD charges (1 + ride .party .adults + i) 0
+  unfolding ownCharge
+  own-child i h =
+      let back : 11 + i - 11 ≡ i = omega arith in
+      rw (le-ltb (11 + i) 11 (omega arith), lt-ltb (11 + i) (11 + ride .party .children) (omega arith), back)
+
+  -- A rider who is not carried has none.
+  pub own-none : (rider : ℕ) → NotCarried ride rider → ownCharge ride charges rider ≡ 0
+  unfolding ownCharge
+  own-none rider (inl (past, adult)) = rw (lt-ltb rider 11 adult, le-ltb rider (1 + ride .party .adults) past)
+  own-none rider (inr past) = rw (le-ltb rider 11 (omega arith), le-ltb rider (11 + ride .party .children) past)
+
+  -- No rider's charge is more than the charges are.
+  pub own-most :
+      (most : ℕ) → ride .party .adults ≤ 10 → ((i : ℕ) → getD charges i 0 ≤ most) → (rider : ℕ) → ownCharge ride charges rider ≤ most
+  own-most most few each rider =
+      rider-cases {P = λ r. ownCharge ride charges r ≤ most} ride rider (λ r h. rw (own-adult r few h) (each r))
+      (λ i h. rw (own-child i h) (each (1 + ride .party .adults + i))) (λ out. omega (arith, own-none rider out))
+
+-- In a ride no rider's own charge is more than 3,790,000.
+pub own-range :
+    {tariff : List ℕ} {counts : Counts} {book : List ℕ} {ride : Ride} → Rideable tariff counts book ride → (window : Window) (rider : ℕ)
+    → ownCharge ride (chargesIn tariff book window ride) rider ≤ 3790000
+own-range {tariff} {counts} {book} {ride} ok window =
+    own-most ride (chargesIn tariff book window ride) 3790000 (ok .adults) (charges-most ok (window .current))
+
+-- the book with the window's words put and the adults' charges added, and with the children's too
+abbrev adultsIn : List ℕ → List ℕ → Window → ℕ → Ride → List ℕ
+adultsIn tariff book window checkout ride =
+    addList tariff ride 0 (1 + ride .party .adults) (chargesIn tariff book window ride) 0 (opened window checkout (wordsIn window book))
+
+abbrev ridersIn : List ℕ → List ℕ → Window → ℕ → Ride → List ℕ
+ridersIn tariff book window checkout ride =
+    addList tariff ride 11 (ride .party .children) (chargesIn tariff book window ride) (1 + ride .party .adults)
+    (adultsIn tariff book window checkout ride)
+
+posted-is :
+    (tariff book : List ℕ) (window : Window) (checkout : ℕ) (ride : Ride)
+    → posted tariff book window checkout ride ≡ coverBicycles tariff ride (ride .party .bicycles) (ridersIn tariff book window checkout ride)
+unfolding posted
+posted-is tariff book window checkout ride = refl
+
+module _ {tariff : List ℕ} {counts : Counts} {book : List ℕ} {ride : Ride} (ok : Rideable tariff counts book ride) (window : Window)
+    (checkout : ℕ) (room : window .current ≡ true → tripsOf book ≤ 255) where
+  t : FaultlessTariff tariff (counts .areas) (counts .stops)
+  t = faultless tariff counts (ok .read)
+
+  c : Counting (wordsIn window book) (counts .areas) (cond (window .current) (tripsOf book) 0)
+  c = counting (window .current) (sound-has book (counts .areas) (ok .sound-book)) room
+
+  opened-sized : length (opened window checkout (wordsIn window book)) ≡ bookSize
+  opened-sized = opened-size window checkout (wordsIn window book) ∙ c .size
+
+  adults-size : length (adultsIn tariff book window checkout ride) ≡ bookSize
+  adults-size =
+      list-size t ride (ok .area) 0 (chargesIn tariff book window ride) 0 (1 + ride .party .adults)
+      (opened window checkout (wordsIn window book)) (omega (arith, ok .adults))
+      ∙ opened-sized
+
+  riders-size : length (ridersIn tariff book window checkout ride) ≡ bookSize
+  riders-size =
+      list-size t ride (ok .area) 11 (chargesIn tariff book window ride) (1 + ride .party .adults) (ride .party .children)
+      (adultsIn tariff book window checkout ride) (omega (arith, ok .children))
+      ∙ adults-size
+
+  -- The book keeps its length.
+  pub posted-size : length (posted tariff book window checkout ride) ≡ bookSize
+  posted-size = rw posted-is (cover-size tariff ride (ride .party .bicycles) (ridersIn tariff book window checkout ride) ∙ riders-size)
+
+  -- a word outside every rider's
+  riders-other :
+      (j : ℕ) → (j < 3) ⊎ (1347 ≤ j)
+      → word (ridersIn tariff book window checkout ride) j ≡ word (opened window checkout (wordsIn window book)) j
+  riders-other j out =
+      list-other t ride (ok .area) 11 (chargesIn tariff book window ride) (1 + ride .party .adults) (ride .party .children)
+      (adultsIn tariff book window checkout ride) (omega (arith, ok .children)) j
+      (⊎-elim (λ h. inl (omega arith)) (λ h. inr (omega (arith, ok .children))) out)
+      ∙ list-other t ride (ok .area) 0 (chargesIn tariff book window ride) 0 (1 + ride .party .adults)
+      (opened window checkout (wordsIn window book)) (omega (arith, ok .adults)) j
+      (⊎-elim (λ h. inl (omega arith)) (λ h. inr (omega (arith, ok .adults))) out)
+
+  head-word :
+      (j : ℕ) → j < 3 → word (posted tariff book window checkout ride) j ≡ word (opened window checkout (wordsIn window book)) j
+  head-word j h =
+      rw posted-is
+      (cover-other tariff ride (ride .party .bicycles) (ridersIn tariff book window checkout ride) j (inl (omega arith))
+      ∙ riders-other j (inl h))
+
+  -- Word 0 is the window's trips, word 1 its opening, word 2 the check-out.
+  pub posted-trips : window .trips < 2 ^ 32 → tripsOf (posted tariff book window checkout ride) ≡ window .trips
+  posted-trips small = head-word 0 (omega arith) ∙ opened-trips window checkout (wordsIn window book) (c .size) small
+
+  pub posted-opening : window .opening .0 < 2 ^ 32 → openingOf (posted tariff book window checkout ride) ≡ window .opening .0
+  posted-opening small = head-word 1 (omega arith) ∙ opened-opening window checkout (wordsIn window book) (c .size) small
+
+  pub posted-out : checkout < 2 ^ 32 → lastOutOf (posted tariff book window checkout ride) ≡ checkout
+  posted-out small = head-word 2 (omega arith) ∙ opened-out window checkout (wordsIn window book) (c .size) small
+
+  riders-cover : (k : ℕ) → coverWord (ridersIn tariff book window checkout ride) k ≡ coverWord (wordsIn window book) k
+  riders-cover k =
+      riders-other (coverPlace k) (inr (omega arith)) ∙ opened-other window checkout (wordsIn window book) (coverPlace k) (omega arith)
+
+  -- Each bicycle carried has its new covering area, and the others keep theirs.
+  pub posted-cover :
+      (k : ℕ) → k < ride .party .bicycles
+      → coverWord (posted tariff book window checkout ride) k ≡ 1 + newCover tariff (ride .area) (coverWord (wordsIn window book) k)
+  posted-cover k h =
+      rw posted-is
+      (cover-new t ride (ok .area) (ride .party .bicycles) (ridersIn tariff book window checkout ride) riders-size (ok .bicycles)
+      (λ i hi. rw (riders-cover i) (c .covers i (omega (arith, ok .bicycles)))) k h
+      ∙ ap (λ (old : ℕ). 1 + newCover tariff (ride .area) old) (riders-cover k))
+
+  pub posted-uncovered :
+      (k : ℕ) → ride .party .bicycles ≤ k → coverWord (posted tariff book window checkout ride) k ≡ coverWord (wordsIn window book) k
+  posted-uncovered k h =
+      rw posted-is
+      (cover-other tariff ride (ride .party .bicycles) (ridersIn tariff book window checkout ride) (coverPlace k) (inr (omega arith))
+      ∙ riders-cover k)
+
+  -- So each bicycle's covering area is one of the tariff's.
+  pub posted-covers : (k : ℕ) → k < 10 → coverWord (posted tariff book window checkout ride) k ≤ counts .areas
+  posted-covers k h =
+      elim (decLt k (ride .party .bicycles)) [
+        | yes on ↦
+            omega (arith, posted-cover k on, new-cover-there t (ride .area) (coverWord (wordsIn window book) k) (ok .area) (c .covers k h))
+        | no off ↦ omega (arith, posted-uncovered k (omega arith), c .covers k h)
+      ]
+
+  -- the bicycles change no sum
+  posted-riders :
+      (which : Bool) (rider x : ℕ) → rider < 21 → x < 32
+      → sumOf which (posted tariff book window checkout ride) rider x ≡ sumOf which (ridersIn tariff book window checkout ride) rider x
+  posted-riders which rider x hr hx =
+      rw posted-is
+      (sum-by-words which _ _ rider x
+      (λ j low high. cover-other tariff ride (ride .party .bicycles) (ridersIn tariff book window checkout ride) j (inl (omega arith))) hx)
+
+  -- the children's charges change no other rider's
+  riders-adults :
+      (which : Bool) (rider x : ℕ) → (rider < 11) ⊎ (11 + ride .party .children ≤ rider) → x < 32
+      → sumOf which (ridersIn tariff book window checkout ride) rider x ≡ sumOf which (adultsIn tariff book window checkout ride) rider x
+  riders-adults which rider x out hx =
+      list-riders t ride (ok .area) 11 (chargesIn tariff book window ride) (1 + ride .party .adults) which (ride .party .children)
+      (adultsIn tariff book window checkout ride) (omega (arith, ok .children)) rider x out hx
+
+  -- and the adults' none past theirs
+  adults-riders :
+      (which : Bool) (rider x : ℕ) → 1 + ride .party .adults ≤ rider → x < 32
+      → sumOf which (adultsIn tariff book window checkout ride) rider x ≡ sumOf which (wordsIn window book) rider x
+  adults-riders which rider x past hx =
+      list-riders t ride (ok .area) 0 (chargesIn tariff book window ride) 0 which (1 + ride .party .adults)
+      (opened window checkout (wordsIn window book)) (omega (arith, ok .adults)) rider x (inr (omega arith)) hx
+      ∙ opened-sum window checkout (wordsIn window book) which rider x hx
+
+  -- The sums of a rider who is not carried are those of the words that count.
+  pub posted-none :
+      (which : Bool) (rider x : ℕ) → rider < 21 → NotCarried ride rider → x < 32
+      → sumOf which (posted tariff book window checkout ride) rider x ≡ sumOf which (wordsIn window book) rider x
+  posted-none which rider x hr out hx =
+      posted-riders which rider x hr hx
+      ∙ riders-adults which rider x (⊎-elim (λ h. inl (h .1)) inr out) hx
+      ∙ adults-riders which rider x (⊎-elim (λ h. h .0) (λ h. omega (arith, ok .adults)) out) hx
+
+  -- The account holder's and each adult's sums are those with the rider's charge added.
+  pub posted-adult :
+      (which : Bool) (rider x : ℕ) → rider < 1 + ride .party .adults → x < 32
+      → sumOf which (posted tariff book window checkout ride) rider x
+      ≡ sumOf which (wordsIn window book) rider x + added which tariff ride x (getD (chargesIn tariff book window ride) rider 0)
+  posted-adult which rider x h hx =
+      posted-riders which rider x (omega (arith, ok .adults)) hx ∙ riders-adults which rider x (inl (omega (arith, ok .adults))) hx
+      ∙ rw (zero-add rider) at
+      (list-sum t ride (ok .area) 0 (chargesIn tariff book window ride) 0 which (1 + ride .party .adults)
+      (opened window checkout (wordsIn window book)) opened-sized (omega (arith, ok .adults))
+      (λ i hi y hy which′.
+      rw (zero-add i, opened-sum window checkout (wordsIn window book) which′ i y hy)
+      (counting-room c i (getD (chargesIn tariff book window ride) i 0) (omega (arith, ok .adults)) (charges-most ok (window .current) i) y hy which′))
+      rider h x hx)
+      ∙ ap (_+ added which tariff ride x (getD (chargesIn tariff book window ride) rider 0))
+      (opened-sum window checkout (wordsIn window book) which rider x hx)
+
+  -- So are each child's.
+  pub posted-child :
+      (which : Bool) (i x : ℕ) → i < ride .party .children → x < 32
+      → sumOf which (posted tariff book window checkout ride) (11 + i) x
+      ≡ sumOf which (wordsIn window book) (11 + i) x
+      + added which tariff ride x (getD (chargesIn tariff book window ride) (1 + ride .party .adults + i) 0)
+  posted-child which i x h hx =
+      posted-riders which (11 + i) x (omega (arith, ok .children)) hx
+      ∙ list-sum t ride (ok .area) 11 (chargesIn tariff book window ride) (1 + ride .party .adults) which (ride .party .children)
+      (adultsIn tariff book window checkout ride) adults-size (omega (arith, ok .children))
+      (λ k hk y hy which′.
+      rw (adults-riders which′ (11 + k) y (omega (arith, ok .adults)) hy)
+      (counting-room c (11 + k) (getD (chargesIn tariff book window ride) (1 + ride .party .adults + k) 0) (omega (arith, ok .children))
+      (charges-most ok (window .current) (1 + ride .party .adults + k)) y hy which′))
+      i h x hx
+      ∙ ap (_+ added which tariff ride x (getD (chargesIn tariff book window ride) (1 + ride .party .adults + i) 0))
+      (adults-riders which (11 + i) x (omega (arith, ok .adults)) hx)
+
+  -- Every rider's sums grow by the rider's own charge in each area that the ride's area lies within, and in no other.
+  pub posted-sum :
+      (which : Bool) (rider x : ℕ) → rider < 21 → x < 32
+      → sumOf which (posted tariff book window checkout ride) rider x
+      ≡ sumOf which (wordsIn window book) rider x + added which tariff ride x (ownCharge ride (chargesIn tariff book window ride) rider)
+  posted-sum which rider x hr hx =
+      rider-cases
+      {P = λ r.
+      sumOf which (posted tariff book window checkout ride) r x
+      ≡ sumOf which (wordsIn window book) r x + added which tariff ride x (ownCharge ride (chargesIn tariff book window ride) r)} ride rider
+      (λ r h. rw (own-adult ride (chargesIn tariff book window ride) r (ok .adults) h) (posted-adult which r x h hx))
+      (λ i h. rw (own-child ride (chargesIn tariff book window ride) i h) (posted-child which i x h hx))
+      (λ out. rw (own-none ride (chargesIn tariff book window ride) rider out)
+      (posted-none which rider x hr out hx ∙ nothing (counted which (ride .party .class) && liesWithin tariff (ride .area) x) _))
+    where
+      nothing : (s : Bool) (n : ℕ) → n ≡ n + cond s 0 0
+      nothing true n = sym (add-zero n)
+      nothing false n = sym (add-zero n)
+
+  -- In the state each rider's sum of all classes grows by the rider's charge: every area lies within it.
+  pub state-sum :
+      (rider : ℕ) → rider < 21
+      → allSum (posted tariff book window checkout ride) rider 0
+      ≡ allSum (wordsIn window book) rider 0 + ownCharge ride (chargesIn tariff book window ride) rider
+  state-sum rider hr = rw (within-state t (ride .area) (ok .area)) at (posted-sum false rider 0 hr (omega arith))

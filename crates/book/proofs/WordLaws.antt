@@ -1,0 +1,48 @@
+-- What a book's words do: read back, left alone, none in a fresh book.
+-- Assumes nothing.
+use Prim.Native.Nat.{ℕ, zero, suc, _+_, _*_, _^_, _<_}
+use native.Mathlib.Omega.{arith}
+use native.Mathlib.Decide.{decLt}
+use mathlib.Core.Path.{_≡_, refl}
+use mathlib.Core.Logic.{inl, inr}
+use mathlib.Core.List.{List}
+use lib.ListN.{length, getD, replicate, length-replicate}
+use Rattle.wire.specs.Number.{getLe, Bytes}
+use Rattle.wire.proofs.Number.{length-put, read-back, read-other, get-range}
+use Rattle.book.specs.Words.{bookSize, freshBook, word, putWord}
+
+-- A word put leaves the book as long as it was.
+pub size-put : (b : List ℕ) (i v : ℕ) → length (putWord b i v) ≡ length b
+size-put b i v = length-put 4 b (4 * i) v
+
+-- A word put is read back.
+pub word-put-same : (b : List ℕ) (i v : ℕ) → length b ≡ bookSize → i < 1357 → v < 2 ^ 32 → word (putWord b i v) i ≡ v
+word-put-same b i v size there small = read-back 4 b (4 * i) v (omega arith) small
+
+-- A word put leaves every other word.
+pub word-put-other : (b : List ℕ) (i j v : ℕ) → (i ≡ j → ⊥) → word (putWord b i v) j ≡ word b j
+word-put-other b i j v ne =
+    read-other 4 b (4 * i) v 4 (4 * j) (elim (decLt i j) [ yes before ↦ inr (omega arith) | no after ↦ inl (omega arith) ])
+
+-- a list of zeros has 0 at each place, also past its end
+zero-at : (n i : ℕ) → getD {A = ℕ} (replicate n 0) i 0 ≡ 0
+zero-at zero i = refl
+zero-at (suc n) zero = refl
+zero-at (suc n) (suc i) = zero-at n i
+
+-- a number among zeros is 0
+zero-number : (width n place : ℕ) → getLe width (replicate n 0) place ≡ 0
+unfolding getLe
+zero-number zero n place = refl
+zero-number (suc width) n place = omega (arith, zero-at n place, zero-number width n (place + 1))
+
+-- Each word of a fresh book is 0.
+pub word-fresh : (i : ℕ) → word freshBook i ≡ 0
+word-fresh i = zero-number 4 bookSize (4 * i)
+
+pub fresh-size : length freshBook ≡ bookSize
+fresh-size = length-replicate {A = ℕ} bookSize 0
+
+-- A word of bytes is one that four bytes hold.
+pub word-range : (b : List ℕ) (i : ℕ) → Bytes b → word b i < 2 ^ 32
+word-range b i bytes = get-range 4 b (4 * i) bytes

@@ -1,0 +1,38 @@
+-- Paper 01, "Windows and charges": an area's caps, and what they have left.
+use Prim.Native.Nat.{ℕ, _-_}
+use mathlib.Core.Bool.{Bool, cond}
+use lib.Dec.{eqb}
+use Rattle.units.specs.Rounding.{raisedBy}
+use Rattle.units.specs.Caps.{cappedBy}
+use Rattle.units.specs.declared.Cap.{Cap}
+use Rattle.units.specs.declared.Cap.the-variants.{NoCap, UpTo}
+use Rattle.tariff.specs.declared.Area.{Area}
+use Rattle.fare.specs.Prices.{step4}
+use Rattle.book.specs.declared.limits.Caps.{Caps}
+
+-- an area's second-class cap is its day cap; for children reduced and rounded up as in step 4
+unfoldable pub secondCap : Area → Bool → Cap
+secondCap area child = elim (area .daily) [ NoCap ↦ NoCap | UpTo day ↦ UpTo (record { 0 = step4 area child (day .0) }) ]
+
+-- its all-classes cap is that × (100 + surcharge) ÷ 100, rounded up; for children then reduced and rounded up as in step 4.
+-- An area without a day cap has neither
+unfoldable pub allCap : Area → Bool → Cap
+allCap area child =
+    elim (area .daily) [
+      | NoCap ↦ NoCap
+      | UpTo day ↦ UpTo (record { 0 = step4 area child (raisedBy (area .surcharge) (day .0)) })
+    ]
+
+abbrev pub capsHere : Area → Bool → Caps
+capsHere area child = record { second = secondCap area child; all = allCap area child }
+
+-- what a cap has left over a sum: 0 if passed already
+unfoldable pub leftOf : Cap → ℕ → Cap
+leftOf NoCap sum = NoCap
+leftOf (UpTo most) sum = UpTo (record { 0 = most .0 - sum })
+
+-- the smallest of an amount and what an area's caps have left: a class 2 trip has both caps, a class 1 trip the all-classes one
+unfoldable pub cappedHere : Caps → ℕ → ℕ → ℕ → ℕ → ℕ
+cappedHere caps class second all amount =
+    let rest = cappedBy (leftOf (caps .all) all) amount in
+    cond (eqb class 2) (cappedBy (leftOf (caps .second) second) rest) rest

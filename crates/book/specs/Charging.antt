@@ -1,0 +1,92 @@
+-- Paper 01, "Windows and charges": what each of a party is charged.
+-- w stands for the words that count: the book's own in the open window, a fresh book's in the next (Windows: inWindow).
+use Prim.Native.Nat.{ℕ, zero, suc, _+_, _-_, _≤_, _<_}
+use mathlib.Core.Path.{_≡_}
+use mathlib.Core.List.{List, [], _∷_, _++_}
+use mathlib.Core.Bool.{Bool, true, false, cond}
+use lib.ListN.{length, take}
+use lib.Dec.{eqb}
+use Rattle.tariff.specs.declared.Counts.{Counts}
+use Rattle.tariff.specs.Rules.{levelOf, flatOf}
+use Rattle.tariff.specs.Areas.{Read, areaAt, parentOf, smallestOf}
+use Rattle.fare.specs.declared.Ride.{Ride}
+use Rattle.fare.specs.Prices.{priceOf}
+use Rattle.book.specs.declared.Charges.{Charges}
+use Rattle.book.specs.Words.{secondSum, allSum, coverWord}
+use Rattle.book.specs.Caps.{capsHere, cappedHere}
+use Rattle.book.specs.Sound.{sound}
+
+-- a ride of a faultless tariff, with its party in the ranges of 6, and a sound book
+pub record Rideable (tariff : List ℕ) (counts : Counts) (book : List ℕ) (ride : Ride) : Type 0 where
+  pub read : Read tariff counts
+  pub sound-book : sound book (counts .areas) ≡ true
+  pub area : ride .area < counts .areas
+  pub km : ride .km .0 ≤ 1415
+  pub minutes : ride .minutes .0 ≤ 1440
+  pub adults : ride .party .adults ≤ 10
+  pub children : ride .party .children ≤ 10
+  pub bicycles : ride .party .bicycles ≤ 10
+
+-- the smallest of an amount and what the caps of one area have left for a rider
+unfoldable pub cappedAt : List ℕ → List ℕ → ℕ → Bool → ℕ → ℕ → ℕ → ℕ
+cappedAt tariff w rider child class area amount =
+    cappedHere (capsHere (areaAt tariff area) child) class (secondSum w rider area) (allSum w rider area) amount
+
+-- the same of an area and of every area above it, of which there are `level`
+unfoldable pub chargeUp : ℕ → List ℕ → List ℕ → ℕ → Bool → ℕ → ℕ → ℕ → ℕ
+chargeUp zero tariff w rider child class area amount = cappedAt tariff w rider child class area amount
+chargeUp (suc level) tariff w rider child class area amount =
+    chargeUp level tariff w rider child class (parentOf tariff area) (cappedAt tariff w rider child class area amount)
+
+-- the charge is the smallest of the price and what each of these caps has left
+pub record ChargeUp (tariff w : List ℕ) (rider : ℕ) (child : Bool) (class area price r : ℕ) : Type 0 where
+  pub value : r ≡ chargeUp (levelOf tariff area) tariff w rider child class area price
+  pub range : r ≤ price
+
+unfoldable pub riderCharge : List ℕ → List ℕ → Ride → Bool → ℕ → ℕ
+riderCharge tariff w ride child rider =
+    chargeUp (levelOf tariff (ride .area)) tariff w rider child (ride .party .class) (ride .area)
+    (priceOf (areaAt tariff (ride .area)) ride child)
+
+-- the charges of `count` riders from `first` on
+unfoldable pub riderCharges : List ℕ → List ℕ → Ride → Bool → ℕ → ℕ → List ℕ
+riderCharges tariff w ride child first zero = []
+riderCharges tariff w ride child first (suc count) =
+    riderCharges tariff w ride child first count ++ (riderCharge tariff w ride child (first + count) ∷ [])
+
+-- a bicycle's new covering area: the smallest containing the trip's area and its old covering area, if any
+unfoldable pub newCover : List ℕ → ℕ → ℕ → ℕ
+newCover tariff area old = cond (eqb old 0) area (smallestOf tariff area (old - 1))
+
+pub record NewCover (tariff : List ℕ) (areas area old r : ℕ) : Type 0 where
+  pub value : r ≡ newCover tariff area old
+  pub there : r < areas
+
+-- the new covering area's flat less the old one's (0 if unused)
+unfoldable pub bicycleCharge : List ℕ → ℕ → ℕ → ℕ
+bicycleCharge tariff area old = flatOf tariff (newCover tariff area old) - cond (eqb old 0) 0 (flatOf tariff (old - 1))
+
+pub record BicycleCharge (tariff : List ℕ) (area old r : ℕ) : Type 0 where
+  pub value : r ≡ bicycleCharge tariff area old
+  pub range : r ≤ 60000
+
+-- the charges of the first `count` bicycles
+unfoldable pub bicycleCharges : List ℕ → List ℕ → Ride → ℕ → List ℕ
+bicycleCharges tariff w ride zero = []
+bicycleCharges tariff w ride (suc count) =
+    bicycleCharges tariff w ride count ++ (bicycleCharge tariff (ride .area) (coverWord w count) ∷ [])
+
+-- account holder, adults, children, bicycles
+unfoldable pub chargesOf : List ℕ → List ℕ → Ride → List ℕ
+chargesOf tariff w ride =
+    riderCharges tariff w ride false 0 (1 + ride .party .adults)
+    ++ (riderCharges tariff w ride true 11 (ride .party .children) ++ bicycleCharges tariff w ride (ride .party .bicycles))
+
+-- the charges that a struct holds
+abbrev pub chargeList : Charges → List ℕ
+chargeList charges = take (charges .count) (charges .amounts)
+
+-- m is 1 + adults + children + bicycles
+pub record ChargesOf (tariff w : List ℕ) (ride : Ride) (r : Charges) : Type 0 where
+  pub value : chargeList r ≡ chargesOf tariff w ride
+  pub count : r .count ≡ 1 + ride .party .adults + ride .party .children + ride .party .bicycles

@@ -1,0 +1,6 @@
+pub mod Words
+pub mod Sound
+pub mod Windows
+pub mod Caps
+pub mod Charging
+pub mod Posting

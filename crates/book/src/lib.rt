@@ -1,0 +1,36 @@
+// The book: a lent slice of 5,428 bytes, read and written in place.
+//
+// words.rt     where each word stands, once
+// sound.rt     whether a byte string is a sound book
+// windows.rt   the window that a trip belongs to, and 10
+// limits.rt    an area's caps, and what they have left
+// charging.rt  what each of a party is charged: only reads
+// posting.rt   the window opened and the charges added: only writes
+use units::Cents;
+use units::Minutes;
+
+pub mod charging;
+pub mod limits;
+pub mod posting;
+pub mod sound;
+pub mod windows;
+pub mod words;
+
+// The window that a trip falls into: the one that the book has open, or the next, opened at the trip's check-in; and the trips in it with
+// this one.
+pub struct Window {
+    pub current: bool,
+    pub opening: Minutes,
+    pub trips: u32,
+}
+
+// One person's charge.
+pub struct Charge {
+    pub amount: Cents,
+}
+
+// The charges of a party: account holder, adults, children, bicycles. The first `count` of the amounts are theirs.
+pub struct Charges {
+    pub amounts: [u32; 31],
+    pub count: usize,
+}

@@ -1,0 +1,146 @@
+// The window opened, the charges added to the sums, the bicycles' covering areas: all that is ever written to a book.
+use crate::Charges;
+use crate::Window;
+use crate::charging::new_cover;
+use crate::words::LAST_OUT;
+use crate::words::OPENING;
+use crate::words::SIZE;
+use crate::words::TRIPS;
+use crate::words::cover;
+use crate::words::get;
+use crate::words::pair;
+use crate::words::put;
+use fare::Ride;
+use tariff::Counts;
+use tariff::areas::level;
+use tariff::areas::parent;
+use units::Minutes;
+ghost use mathlib.Core.Path.{_≡_};
+ghost use Prim.Native.Nat.{_≤_, _<_};
+ghost use lib.ListN.{length};
+ghost use Rattle.tariff.specs.Areas.{Read};
+ghost use Rattle.tariff.specs.Rules.{levelOf};
+ghost use Rattle.book.specs.Words.{bookSize, freshBook};
+ghost use Rattle.book.specs.Windows.{inWindow};
+ghost use Rattle.book.specs.Posting.{Room, RoomHere, Adding, Covering, Postable, addHere, addUp, addList, coverBicycles, opened, posted};
+
+// All sums and bicycles back to none.
+fn clear(book: &mut [u8])
+    requires { ⌜ length (now book) ≡ bookSize ⌝ }
+    ensures { λ _. ⌜ now (book .exit) ≡ freshBook ⌝ }
+{
+    for i in 0..SIZE {
+        book[i] = 0;
+    }
+}
+
+// The trip's window: cleared if it is new; word 0 the trips with this one, word 1 the opening, word 2 the check-out.
+fn open_window(book: &mut [u8], window: Window, checkout: Minutes)
+    requires { ⌜ length (now book) ≡ bookSize ⌝ }
+    ensures { λ _. ⌜ now (book .exit) ≡ opened window (checkout .0) (inWindow (window .current) (now (book .entry))) ⌝ }
+{
+    if !window.current {
+        clear(book);
+    }
+    let opening = window.opening;
+    put(book, TRIPS, window.trips);
+    put(book, OPENING, opening.0);
+    put(book, LAST_OUT, checkout.0);
+}
+
+// A charge added to a rider's sums in one area: in all classes, and in second class if that is the class.
+fn add_here(book: &mut [u8], rider: usize, class: u8, at: usize, amount: u32)
+    requires { ⌜ ((length (now book) ≡ bookSize) × (rider < 21)) × ((at < 32) × ((amount ≤ 3790000) × RoomHere (now book) rider at)) ⌝ }
+    ensures { λ _. ⌜ now (book .exit) ≡ addHere (now (book .entry)) rider class at amount ⌝ }
+{
+    let place = pair(rider, at);
+    if class == 2 {
+        let second = get(book, place) + amount;
+        put(book, place, second);
+    }
+    let all = get(book, place + 1) + amount;
+    put(book, place + 1, all);
+}
+
+// A charge added to a rider's sums in an area and in every area above it.
+fn add_up(
+    tariff: &[u8],
+    counts: Counts,
+    book: &mut [u8],
+    rider: usize,
+    class: u8,
+    at: usize,
+    amount: u32,
+)
+    requires { ⌜ ((length (now book) ≡ bookSize) × (rider < 21)) × ((Read (now tariff) counts × (at < counts .areas)) × ((amount ≤ 3790000) × Room (now book) rider)) ⌝ }
+    ensures { λ _. ⌜ now (book .exit) ≡ addUp (levelOf (now (tariff .entry)) at) (now (tariff .entry)) (now (book .entry)) rider class at amount ⌝ }
+{
+    let mut up = at;
+    let mut above = level(tariff, counts, at);
+    while 0 < above {
+        add_here(book, rider, class, up, amount);
+        up = parent(tariff, counts, up);
+        above -= 1;
+    }
+    add_here(book, rider, class, up, amount);
+}
+
+// The charges of `count` riders from `first` on, which stand in the party's list from `from` on.
+fn add_riders(
+    tariff: &[u8],
+    counts: Counts,
+    book: &mut [u8],
+    ride: Ride,
+    first: usize,
+    count: usize,
+    charges: Charges,
+    from: usize,
+)
+    requires { ⌜ Adding (now tariff) counts (now book) ride first count charges from ⌝ }
+    ensures { λ _. ⌜ now (book .exit) ≡ addList (now (tariff .entry)) ride first count (charges .amounts) from (now (book .entry)) ⌝ }
+{
+    let party = ride.party;
+    let class = party.class;
+    let at = ride.area;
+    let amounts = charges.amounts;
+    for i in 0..count {
+        let amount = amounts[from + i];
+        add_up(tariff, counts, book, first + i, class, at, amount);
+    }
+}
+
+// The new covering areas of the first `count` bicycles.
+fn cover_bicycles(tariff: &[u8], counts: Counts, book: &mut [u8], ride: Ride, count: usize)
+    requires { ⌜ Covering (now tariff) counts (now book) ride count ⌝ }
+    ensures { λ _. ⌜ now (book .exit) ≡ coverBicycles (now (tariff .entry)) ride count (now (book .entry)) ⌝ }
+{
+    let at = ride.area;
+    for i in 0..count {
+        let place = cover(i);
+        let old = get(book, place) as usize;
+        let new = new_cover(tariff, counts, at, old);
+        put(book, place, 1 + new as u32);
+    }
+}
+
+// The book after a ride: its window, its riders' sums and its bicycles.
+pub fn post(
+    tariff: &[u8],
+    counts: Counts,
+    book: &mut [u8],
+    window: Window,
+    checkout: Minutes,
+    ride: Ride,
+    charges: Charges,
+)
+    requires { ⌜ Postable (now tariff) counts (now book) window ride charges ⌝ }
+    ensures { λ _. ⌜ now (book .exit) ≡ posted (now (tariff .entry)) (now (book .entry)) window (checkout .0) ride ⌝ }
+{
+    let party = ride.party;
+    let adults = 1 + party.adults as usize;
+    let children = party.children as usize;
+    open_window(book, window, checkout);
+    add_riders(tariff, counts, book, ride, 0, adults, charges, 0);
+    add_riders(tariff, counts, book, ride, 11, children, charges, adults);
+    cover_bicycles(tariff, counts, book, ride, party.bicycles as usize);
+}

@@ -1,0 +1,81 @@
+// Whether any byte string is a sound book under a tariff with so many areas.
+// The loops have no early way out, so that the compiler can take many words at a time.
+use crate::words::LAST_OUT;
+use crate::words::OPENING;
+use crate::words::SIZE;
+use crate::words::TRIPS;
+use crate::words::WORDS;
+use crate::words::cover;
+use crate::words::get;
+use calendar::Stamp;
+ghost use mathlib.Core.Path.{_≡_};
+ghost use Prim.Native.Nat.{_≤_};
+ghost use lib.ListN.{length};
+ghost use Rattle.book.specs.Words.{bookSize};
+ghost use Rattle.book.specs.Sound.{allZero, pairsSound, coversSound, headSound, sound};
+
+// The most that a rider is charged for a trip.
+pub const MOST: u32 = 3_790_000;
+
+fn all_zero(book: &[u8]) -> bool
+    requires { ⌜ length (now book) ≡ bookSize ⌝ }
+    ensures { λ r. ⌜ r ≡ allZero (now (book .entry)) ⌝ }
+{
+    let mut zero = true;
+    for i in 0..WORDS {
+        zero = zero & (get(book, i) == 0);
+    }
+    zero
+}
+
+// All 21 × 32 pairs: each second-class sum at most its all-classes sum, and that at most `most`.
+fn pairs_sound(book: &[u8], most: u32) -> bool
+    requires { ⌜ length (now book) ≡ bookSize ⌝ }
+    ensures { λ r. ⌜ r ≡ pairsSound (now (book .entry)) most ⌝ }
+{
+    let mut right = true;
+    for i in 0..672usize {
+        let second = get(book, 3 + 2 * i);
+        let all = get(book, 3 + 2 * i + 1);
+        right = right & (second <= all) & (all <= most);
+    }
+    right
+}
+
+fn covers_sound(book: &[u8], areas: usize) -> bool
+    requires { ⌜ length (now book) ≡ bookSize ⌝ }
+    ensures { λ r. ⌜ r ≡ coversSound (now (book .entry)) areas ⌝ }
+{
+    let mut right = true;
+    for i in 0..10usize {
+        right = right & (get(book, cover(i)) as usize <= areas);
+    }
+    right
+}
+
+// The trips in the window, its opening and the last check-out.
+fn head_sound(trips: u32, opening: u32, last: u32) -> bool
+    ensures { λ r. ⌜ r ≡ headSound trips opening last ⌝ }
+{
+    (1 <= trips)
+        & (trips <= 256)
+        & (opening <= last)
+        & (last <= Stamp::LAST_MINUTE)
+        & (last as u64 <= opening as u64 + 1_440)
+}
+
+pub fn is_sound(book: &[u8], areas: usize) -> bool
+    ensures { λ r. ⌜ r ≡ sound (now (book .entry)) areas ⌝ }
+{
+    if book.len() != SIZE {
+        return false;
+    }
+    let trips = get(book, TRIPS);
+    if trips == 0 {
+        return all_zero(book);
+    }
+    if !head_sound(trips, get(book, OPENING), get(book, LAST_OUT)) {
+        return false;
+    }
+    pairs_sound(book, trips * MOST) & covers_sound(book, areas)
+}

@@ -1,0 +1,43 @@
+// The 24-hour window: which one a trip falls into.
+use crate::Window;
+use crate::words::LAST_OUT;
+use crate::words::OPENING;
+use crate::words::TRIPS;
+use crate::words::get;
+use units::Minutes;
+ghost use mathlib.Core.Path.{_≡_};
+ghost use mathlib.Core.Bool.{true};
+ghost use lib.ListN.{length};
+ghost use Rattle.book.specs.Words.{bookSize};
+ghost use Rattle.book.specs.Sound.{sound};
+ghost use Rattle.book.specs.Windows.{tooEarly, windowOf};
+
+// 10: check-in before the book's last check-out.
+pub fn too_early(book: &[u8], checkin: Minutes) -> bool
+    requires { ⌜ length (now book) ≡ bookSize ⌝ }
+    ensures { λ r. ⌜ r ≡ tooEarly (now (book .entry)) (checkin .0) ⌝ }
+{
+    (get(book, TRIPS) != 0) & (checkin.0 < get(book, LAST_OUT))
+}
+
+// A trip belongs to the open window when its check-out is at most 1,440 minutes after the opening; otherwise it opens the next.
+pub fn window_of(book: &[u8], areas: usize, checkin: Minutes, checkout: Minutes) -> Window
+    requires { ⌜ sound (now book) areas ≡ true ⌝ }
+    ensures { λ r. ⌜ r ≡ windowOf (now (book .entry)) (checkin .0) (checkout .0) ⌝ }
+{
+    let trips = get(book, TRIPS);
+    let opening = get(book, OPENING);
+    if (trips != 0) & (checkout.0 <= opening + 1_440) {
+        Window {
+            current: true,
+            opening: Minutes(opening),
+            trips: trips + 1,
+        }
+    } else {
+        Window {
+            current: false,
+            opening: checkin,
+            trips: 1,
+        }
+    }
+}

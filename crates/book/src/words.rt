@@ -1,0 +1,49 @@
+// Where each word of a book stands. Nobody else knows.
+use units::Cents;
+use units::Minutes;
+use wire::four_at;
+use wire::put_four;
+ghost use mathlib.Core.Path.{_≡_};
+ghost use Prim.Native.Nat.{_+_, _*_, _<_, _^_};
+ghost use lib.ListN.{length};
+ghost use Rattle.book.specs.Words.{bookSize, word, putWord, Word};
+
+pub const SIZE: usize = 5_428;
+
+pub const WORDS: usize = 1_357;
+
+pub const TRIPS: usize = 0;
+
+pub const OPENING: usize = 1;
+
+pub const LAST_OUT: usize = 2;
+
+// The two sums of a rider in an area: second class, and the word after it all classes.
+pub fn pair(rider: usize, area: usize) -> usize
+    requires { ⌜ (rider < 21) × (area < 32) ⌝ }
+    ensures { λ r. ⌜ (r ≡ 3 + 64 * rider + 2 * area) × (r < 1346) ⌝ }
+{
+    3 + 64 * rider + 2 * area
+}
+
+// A bicycle's word: 0 if unused, else 1 + its covering area.
+pub fn cover(bicycle: usize) -> usize
+    requires { ⌜ bicycle < 10 ⌝ }
+    ensures { λ r. ⌜ (r ≡ 1347 + bicycle) × (r < 1357) ⌝ }
+{
+    1_347 + bicycle
+}
+
+pub fn get(book: &[u8], place: usize) -> u32
+    requires { ⌜ (length (now book) ≡ bookSize) × (place < 1357) ⌝ }
+    ensures { λ r. ⌜ Word (now (book .entry)) place r ⌝ }
+{
+    four_at(book, 4 * place)
+}
+
+pub fn put(book: &mut [u8], place: usize, v: u32)
+    requires { ⌜ (length (now book) ≡ bookSize) × (place < 1357) ⌝ }
+    ensures { λ _. ⌜ now (book .exit) ≡ putWord (now (book .entry)) place v ⌝ }
+{
+    put_four(book, 4 * place, v);
+}

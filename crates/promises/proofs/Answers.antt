@@ -1,0 +1,355 @@
+-- Refusals and acceptance: what each says, and that each is given exactly then; and that what comes back is determined.
+-- Assumes nothing.
+use Prim.Native.Nat.{ℕ, zero, suc, _+_, _-_, _*_, _/_, _%_, _^_, _≤_, _<_}
+use native.Mathlib.Nat.{zero-add}
+use native.Mathlib.Omega.{arith}
+use native.Mathlib.Decide.{decLt}
+use mathlib.Core.Path.{_≡_, refl, sym, _∙_}
+use mathlib.Core.Logic.{_↔_, ⊎-elim}
+use mathlib.Core.List.{List}
+use borrow.Author.Tests.{ne-eqb, le-ltb}
+use lib.ListN.{length, getD}
+use Rattle.wire.specs.Number.{getLe, bytesOf}
+use Rattle.calendar.specs.Stamps.{lastMinute}
+use Rattle.tariff.specs.declared.Counts.{Counts}
+use Rattle.tariff.specs.Scan.{Passed, FaultSays}
+use Rattle.tariff.specs.Scan as scan
+use Rattle.tariff.specs.declared.Stop.{Stop}
+use Rattle.tariff.specs.Areas.{Read, StopRanges}
+use Rattle.tariff.proofs.Faultless.{faultless}
+use Rattle.tariff.specs.Fields.{stopPlace}
+use Rattle.tariff.proofs.Entries.{stop-entry}
+use Rattle.tariff.proofs.Faults.{fault-exactly, fault-number}
+use Rattle.trip.specs.declared.Trip.{Trip}
+use Rattle.trip.specs.declared.Offered.the-variants.{Good}
+use Rattle.trip.specs.Record.{partyAt}
+use Rattle.trip.specs.Trips.{readTrip}
+use Rattle.fare.specs.declared.Ride.{Ride}
+use Rattle.fare.specs.Distance.{square, gap, apart}
+use Rattle.fare.specs.Rides.{Riding, rideOf}
+use Rattle.fare.proofs.Distance.{across, km-holds, km-least, km-range}
+use Rattle.fare.proofs.Stops.{stop-there, area-of-stops}
+use Rattle.book.specs.Windows.{windowOf, inWindow}
+use Rattle.book.proofs.SoundLaws.{sound-has}
+use Rattle.book.proofs.SoundAgain.{WindowRight, window-right}
+use Rattle.book.specs.Charging.{chargesOf}
+use Rattle.book.proofs.ChargeLaws.{charges-length, adult-stands, child-stands, bicycle-stands, charges-most}
+use Rattle.settle.specs.Record.{recordSize, headBytes, recordOf}
+use Rattle.settle.specs.Outcome.{Outcome, refused, accepted, acceptedTrip, settled, answerOf, Settled}
+use Rattle.trip.proofs.Ranges.{party-ranges}
+use Rattle.trip.proofs.Good as offered
+use Rattle.promises.proofs.TripConditions.{good-read}
+use Rattle.promises.proofs.Refusing.{
+  Answered,
+  refusing,
+  accepting,
+  answered,
+  NoneBelow,
+  next,
+  no-fault,
+  counts-are,
+  none-of-ten,
+  early-not,
+  at-fault,
+  through,
+  offer-given,
+  clear,
+}
+use Rattle.promises.proofs.Records.{record-length, charge-at, opening-at, area-at, km-at, minutes-at}
+use Rattle.promises.proofs.GoodRides.{good-ride}
+use Rattle.promises.specs.Conditions.{checkinOf, checkoutOf, condition, RefusedBy, by-tariff, by-others, AcceptedBy, RecordSays}
+
+-- ---- What the record says.
+
+-- two stops of the plane are no farther apart than 1,415 kilometres reach
+reached : {areas : ℕ} (from to : Stop) → StopRanges areas from → StopRanges areas to → apart from to ≤ square (1000 * 1415)
+unfolding apart
+reached from to one other =
+    omega (arith, across _ _ (wide (from .x .0) (to .x .0) (one .x) (other .x)) (wide (from .y .0) (to .y .0) (one .y) (other .y)))
+  where
+    wide : (m n : ℕ) → m ≤ 1000000 → n ≤ 1000000 → gap m n ≤ 1000000
+    wide m n h k = omega arith
+
+-- the window of an accepted trip
+pub right-window :
+    {tariff book bytes : List ℕ} {room : ℕ} {new entry : List ℕ} (a : AcceptedBy tariff book bytes room new entry)
+    → WindowRight book (a .window) (a .trip .checkout .0)
+right-window {tariff} {book} {bytes} a =
+    let times = offered.good-times bytes (a .counts .stops) (a .trip) (offered.good bytes (a .counts .stops) (a .trip) (a .good)) in
+    window-right (sound-has book (a .counts .areas) (a .sound-book)) (times .forward) (times .short) (times .range) (a .on-time) (a .window)
+    (a .window-is) (a .few)
+
+module _ (tariff bytes w : List ℕ) (counts : Counts) (trip : Trip) (opens : ℕ) (entry : List ℕ) (read : Read tariff counts)
+    (good : readTrip bytes (counts .stops) ≡ Good trip) (in-range : opens ≤ lastMinute)
+    (most : (i : ℕ) → getD (chargesOf tariff w (rideOf tariff (counts .areas) bytes trip)) i 0 ≤ 3790000)
+    (is :
+    entry
+    ≡ recordOf opens (rideOf tariff (counts .areas) bytes trip) (chargesOf tariff w (rideOf tariff (counts .areas) bytes trip))) where
+  abbrev ride : Ride
+  ride = rideOf tariff (counts .areas) bytes trip
+
+  abbrev charges : List ℕ
+  charges = chargesOf tariff w ride
+
+  -- charge i stands at 13 + 4i
+  charge-stands : (i : ℕ) → i < length charges → getLe 4 entry (13 + 4 * i) ≡ getD charges i 0
+  charge-stands i h = rw is (charge-at opens ride charges i h (omega (arith, most i)))
+
+  -- the record's length and kind
+  long-at : 11 + 4 * length charges < 65536 → getLe 2 (recordOf opens ride charges) 0 ≡ 11 + 4 * length charges
+  unfolding recordOf headBytes bytesOf getLe
+  long-at small = omega arith
+
+  kind-at : getLe 2 (recordOf opens ride charges) 2 ≡ 4
+  unfolding recordOf headBytes bytesOf getLe
+  kind-at = refl
+
+  said : RecordSays tariff bytes w (counts .areas) opens (trip .stops - 1) ride entry
+  unfolding rideOf
+  said =
+      let facts = offered.good bytes (counts .stops) trip good in
+      let g = good-read bytes (counts .stops) trip good in
+      let party = party-ranges (trip .party) (trip .stops) (facts .right) in
+      let times = offered.good-times bytes (counts .stops) trip facts in
+      let riding : Riding tariff counts bytes (trip .stops) =
+      record { read = read; known = facts .known-stops; fits = omega (arith, facts .size) }
+      in
+      let last = trip .stops - 1 in
+      let there : last < trip .stops = omega arith in
+      let smallest = rw zero-add at (area-of-stops riding 0 last (omega arith)) in
+      let from = stop-there riding 0 (omega arith) in
+      let to = stop-there riding last there in
+      let near = reached _ _ (from .ranges) (to .ranges) in
+      let small : ride .area < 256 = omega (arith, smallest .there, faultless tariff counts read .few-areas) in
+      let count = charges-length tariff w ride in
+      record {
+        size = rw is (omega (arith, record-length opens ride charges));
+        long = rw (is, record-length opens ride charges) (omega (arith, long-at (omega arith)));
+        kind = rw is kind-at;
+        opening = rw is (opening-at opens ride charges (omega arith));
+        area = rw (is, area-at opens ride charges small) smallest;
+        km = rw (is, km-at opens ride charges (omega (arith, km-range _ near)))
+            (record { value = refl; holds = km-holds _ near; least = km-least _ near; range = km-range _ near });
+        minutes = rw (is, ← g .from, ← g .to) (minutes-at opens ride charges (omega arith));
+        holder = charge-stands 0 (omega arith) ∙ adult-stands tariff w ride 0 (omega arith);
+        adults = λ i h. charge-stands (1 + i) (omega arith) ∙ adult-stands tariff w ride (1 + i) (omega arith);
+        children = λ i h. charge-stands (1 + ride .party .adults + i) (omega arith) ∙ child-stands tariff w ride i h;
+        bicycles = λ i h.
+            charge-stands (1 + ride .party .adults + ride .party .children + i) (omega arith) ∙ bicycle-stands tariff w ride i h;
+      }
+
+-- ---- The answers.
+
+module _ (tariff book bytes : List ℕ) (room : ℕ) where
+  -- What an acceptance says: the tariff is faultless, the book is sound, the trip is good, on time and at most the 256th of its window,
+  -- there is room for its record; the new book and the record are those of its ride.
+  pub accepted-is : {new entry : List ℕ} → settled tariff book bytes room ≡ accepted new entry → AcceptedBy tariff book bytes room new entry
+  accepted-is {new} {entry} e = met (rw e at (answered tariff book bytes room))
+    where
+      met : Answered tariff book bytes room (accepted new entry) → AcceptedBy tariff book bytes room new entry
+      met (accepting says) = says
+
+  -- What a refusal says. 1 to 3: every record before its place is faultless, and the one there is faulty in the way of the number, where 1
+  -- goes before 2 and 2 before 3. 4 to 12: the tariff is faultless, the condition of the number holds, and no condition before it does.
+  pub refused-is : {n place : ℕ} → settled tariff book bytes room ≡ refused n place → RefusedBy tariff book bytes room n place
+  refused-is {n} {place} e = met (rw e at (answered tariff book bytes room))
+    where
+      met : Answered tariff book bytes room (refused n place) → RefusedBy tariff book bytes room n place
+      met (refusing says) = says
+
+  -- a refusal's condition holds
+  refused-holds : {n place : ℕ} → RefusedBy tariff book bytes room n place → condition tariff book bytes room n
+  unfolding condition
+  refused-holds (by-others counts read none low high holds before) = holds
+  refused-holds {n} {place} (by-tariff areas stops found says) = faulty says
+    where
+      faulty : FaultSays tariff place areas stops n → condition tariff book bytes room n
+      faulty (scan.one e w) = rw e (record { place = place; areas = areas; stops = stops; passed = found .passed; wrong = w })
+      faulty (scan.two e w) = rw e (record { place = place; areas = areas; stops = stops; passed = found .passed; wrong = w })
+      faulty (scan.three e w) = rw e (record { place = place; areas = areas; stops = stops; passed = found .passed; wrong = w })
+
+  -- Where none of the twelve conditions holds, the trip is accepted.
+  pub accepts :
+      ((n : ℕ) → condition tariff book bytes room n → ⊥)
+      → (new : List ℕ) × (entry : List ℕ) × (settled tariff book bytes room ≡ accepted new entry)
+  accepts none = go (settled tariff book bytes room) refl
+    where
+      go : (o : Outcome) → settled tariff book bytes room ≡ o
+          → (new : List ℕ) × (entry : List ℕ) × (settled tariff book bytes room ≡ accepted new entry)
+      go (refused n place) e = absurd (none n (refused-holds (refused-is e)))
+      go (accepted new entry) e = (new, entry, e)
+
+  -- no number above 12 has a condition
+  no-more : (n : ℕ) → 12 < n → condition tariff book bytes room n → ⊥
+  unfolding condition
+  no-more n h =
+      rw (
+        ne-eqb n 1 (λ e. omega arith),
+        ne-eqb n 2 (λ e. omega arith),
+        ne-eqb n 3 (λ e. omega arith),
+        ne-eqb n 4 (λ e. omega arith),
+        ne-eqb n 5 (λ e. omega arith),
+        ne-eqb n 6 (λ e. omega arith),
+        ne-eqb n 7 (λ e. omega arith),
+        ne-eqb n 8 (λ e. omega arith),
+        ne-eqb n 9 (λ e. omega arith),
+        ne-eqb n 10 (λ e. omega arith),
+        ne-eqb n 11 (λ e. omega arith),
+        ne-eqb n 12 (λ e. omega arith),
+      )
+      (λ none. none)
+
+  -- And an accepted trip meets none of the twelve.
+  pub accepted-meets-none : {new entry : List ℕ} → AcceptedBy tariff book bytes room new entry → (n : ℕ) → condition tariff book bytes room n → ⊥
+  unfolding condition
+  accepted-meets-none a n =
+      let counts = a .counts in
+      let trip = a .trip in
+      let g = good-read bytes (counts .stops) trip (a .good) in
+      let same = counts-are tariff book bytes room counts (a .read) in
+      let at-most : windowOf book (checkinOf bytes) (checkoutOf bytes) .trips ≤ 256 = rw (← g .from, ← g .to, ← a .window-is) (a .few) in
+      let fits : recordSize (partyAt bytes 0) ≤ room = rw (← g .party) (a .fits) in
+      let below : NoneBelow tariff book bytes room 13 =
+      next tariff book bytes room 12
+      (next tariff book bytes room 11
+      (next tariff book bytes room 10
+      (none-of-ten tariff book bytes room counts (a .read) (a .sound-book) trip g)
+      (λ w. early-not book (trip .checkin .0) (a .on-time) (w .in-use) (rw (g .from) (w .early))))
+      (λ h. omega arith))
+      (λ h. omega arith)
+      in
+      elim (decLt n 13) [ yes h ↦ below n h | no h ↦ no-more n (omega arith) ]
+
+  -- The record of an accepted trip says the window's opening, the smallest area containing all its stops, the least kilometres between
+  -- the first and the last, check-out less check-in, and the charges in the order holder, adults, children, bicycles.
+  pub record-says :
+      {new entry : List ℕ} (a : AcceptedBy tariff book bytes room new entry)
+      → RecordSays tariff bytes (inWindow (a .window .current) book) (a .counts .areas) (a .window .opening .0) (a .trip .stops - 1)
+      (rideOf tariff (a .counts .areas) bytes (a .trip)) entry
+  record-says {entry = entry} a =
+      let counts = a .counts in
+      let trip = a .trip in
+      let head = right-window a .head in
+      let rideable = good-ride tariff counts book bytes trip (a .read) (a .sound-book) (a .good) in
+      said tariff bytes (inWindow (a .window .current) book) counts trip (a .window .opening .0) entry (a .read) (a .good)
+      (omega arith)
+      (charges-most rideable (a .window .current)) (a .entry-is)
+
+  -- An acceptance is given exactly when what it says holds.
+  pub accepted-exactly : (new entry : List ℕ) → settled tariff book bytes room ≡ accepted new entry ↔ AcceptedBy tariff book bytes room new entry
+  unfolding acceptedTrip
+  accepted-exactly new entry = (accepted-is, back)
+    where
+      made : (a : AcceptedBy tariff book bytes room new entry)
+          → acceptedTrip tariff (a .counts) book bytes (a .trip) (windowOf book (a .trip .checkin .0) (a .trip .checkout .0)) ≡ accepted new entry
+      made a = rw (a .new-is, a .entry-is, a .window-is)
+
+      back : AcceptedBy tariff book bytes room new entry → settled tariff book bytes room ≡ accepted new entry
+      back a =
+          let counts = a .counts in
+          let trip = a .trip in
+          let window = windowOf book (trip .checkin .0) (trip .checkout .0) in
+          let few : window .trips ≤ 256 = rw (← a .window-is) (a .few) in
+          through tariff book bytes room counts trip window (a .read)
+          (offer-given counts book bytes room (a .sound-book) (a .good)
+          ∙ clear book trip room (a .on-time) (le-ltb 256 (window .trips) few) (le-ltb room (recordSize (trip .party)) (a .fits)))
+          ∙ made a
+
+  -- A trip is accepted exactly when none of the twelve conditions holds.
+  pub accepts-exactly :
+      ((new : List ℕ) × (entry : List ℕ) × (settled tariff book bytes room ≡ accepted new entry))
+      ↔ ((n : ℕ) → condition tariff book bytes room n → ⊥)
+  accepts-exactly = (λ w. accepted-meets-none (accepted-is (w .2)), accepts)
+
+  -- A refusal is given exactly when what it says holds.
+  pub refused-exactly : (n place : ℕ) → settled tariff book bytes room ≡ refused n place ↔ RefusedBy tariff book bytes room n place
+  refused-exactly n place = (refused-is, back)
+    where
+      -- of two numbers whose conditions are the first to hold, neither is before the other
+      same :
+          (m at : ℕ) → condition tariff book bytes room n → NoneBelow tariff book bytes room n → condition tariff book bytes room m
+          → NoneBelow tariff book bytes room m → place ≡ 0 → at ≡ 0 → refused m at ≡ refused n place
+      same m at holds before holds′ before′ none none′ =
+          elim (decLt m n) [
+            | yes h ↦ absurd (before m h holds′)
+            | no h ↦
+                elim (decLt n m) [
+                  | yes h′ ↦ absurd (before′ n h′ holds)
+                  | no h′ ↦ let e : m ≡ n = omega arith in let e′ : at ≡ place = omega arith in rw (e, e′)
+                ]
+          ]
+
+      met :
+          (o : Outcome) → Answered tariff book bytes room o → (counts : Counts) → Read tariff counts → place ≡ 0
+          → condition tariff book bytes room n → NoneBelow tariff book bytes room n → o ≡ refused n place
+      met (refused m at) (refusing (by-tariff areas stops found says)) counts read none holds before =
+          absurd (no-fault tariff book bytes room counts read m at areas stops (found .passed) says)
+      met (refused m at) (refusing (by-others counts′ read′ none′ low high holds′ before′)) counts read none holds before =
+          same m at holds before holds′ before′ none none′
+      met (accepted new entry) (accepting a) counts read none holds before = absurd (accepted-meets-none a n holds)
+
+      back : RefusedBy tariff book bytes room n place → settled tariff book bytes room ≡ refused n place
+      back (by-tariff areas stops found says) =
+          at-fault tariff book bytes room n place (fault-exactly tariff n place .1 (areas, stops, found .passed, says))
+      back (by-others counts read none low high holds before) =
+          met (settled tariff book bytes room) (answered tariff book bytes room) counts read none holds before
+
+  -- A refusal's number is 1 to 12; its place is at most 13,928, the length of the longest tariff, and 0 for 4 to 12.
+  pub refused-number : {n place : ℕ} → settled tariff book bytes room ≡ refused n place → (1 ≤ n) × (n ≤ 12) × (place ≤ 13928)
+  refused-number {n} {place} e = met (refused-is e)
+    where
+      few-stops-passed : (areas stops : ℕ) → Passed tariff place areas stops → stops ≤ 1000
+      few-stops-passed areas zero passed = omega arith
+      few-stops-passed areas (suc stops) passed =
+          omega (arith, stop-entry tariff (stopPlace areas stops) areas stops (passed .stop stops (omega arith)) .few)
+
+      met : RefusedBy tariff book bytes room n place → (1 ≤ n) × (n ≤ 12) × (place ≤ 13928)
+      met (by-others counts read none low high holds before) = (omega arith, high, omega arith)
+      met (by-tariff areas stops found says) =
+          let number = fault-number tariff n place areas stops found in
+          let place-most : place ≤ 13928 =
+          omega (arith, found .passed .reached .place, found .passed .reached .few, few-stops-passed areas stops (found .passed))
+          in (
+            ⊎-elim (λ is. omega arith) (⊎-elim (λ is. omega arith) (λ is. omega arith)) number,
+            ⊎-elim (λ is. omega arith) (⊎-elim (λ is. omega arith) (λ is. omega arith)) number,
+            place-most,
+          )
+
+  -- ---- What comes back.
+
+  -- A refusal leaves the book and every statement byte as they were.
+  pub refusal-leaves :
+      {n place : ℕ} {book′ statement statement′ : List ℕ} {r : ℕ} → settled tariff book bytes room ≡ refused n place
+      → Settled (settled tariff book bytes room) book book′ statement statement′ r → (book′ ≡ book) × (statement′ ≡ statement)
+  refusal-leaves {n} {place} {book′} {statement} {statement′} {r} e s =
+      let s′ : Settled (refused n place) book book′ statement statement′ r = rw e at s in (s′ .book-is, s′ .statement-is)
+
+  -- A refusal answers 2 ^ 32 or more: its number in the upper 32 bits, its place in the lower.
+  pub refused-answer :
+      {n place : ℕ} → settled tariff book bytes room ≡ refused n place
+      → (2 ^ 32 ≤ answerOf (settled tariff book bytes room))
+      × (answerOf (settled tariff book bytes room) / 2 ^ 32 ≡ n)
+      × (answerOf (settled tariff book bytes room) % 2 ^ 32 ≡ place)
+  refused-answer {n} {place} e =
+      let (low, high, near) = refused-number e in
+      rw e (omega arith, omega arith, omega arith)
+
+  -- An acceptance answers the bytes written, 17 to 137.
+  pub accepted-answer :
+      {new entry : List ℕ} → settled tariff book bytes room ≡ accepted new entry
+      → (17 ≤ answerOf (settled tariff book bytes room)) × (answerOf (settled tariff book bytes room) ≤ 137)
+  accepted-answer {new} {entry} e =
+      let a = accepted-is e in
+      let size = record-says a .size in
+      let carried = good-ride tariff (a .counts) book bytes (a .trip) (a .read) (a .sound-book) (a .good) in
+      rw e (omega arith, omega arith)
+
+-- Two results that the exported contract allows for the same input are equal: the answer, the book and every byte of the statement.
+pub determined :
+    {outcome : Outcome} {book b₁ b₂ statement s₁ s₂ : List ℕ} {r₁ r₂ : ℕ} → Settled outcome book b₁ statement s₁ r₁
+    → Settled outcome book b₂ statement s₂ r₂ → (r₁ ≡ r₂) × (b₁ ≡ b₂) × (s₁ ≡ s₂)
+determined one other = (
+  one .answer ∙ sym (other .answer),
+  one .book-is ∙ sym (other .book-is),
+  one .statement-is ∙ sym (other .statement-is),
+)

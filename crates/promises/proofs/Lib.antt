@@ -1,0 +1,14 @@
+pub mod Promises
+pub mod Answers
+pub mod Refusing
+pub mod TripConditions
+pub mod RunLaws
+pub mod Records
+pub mod GoodRides
+pub mod Trees
+pub mod Window
+pub mod OneClass
+pub mod Children
+pub mod Charge
+pub mod Chain
+pub mod Cut

@@ -1,0 +1,249 @@
+-- The promise about windows of one class: the charges add up to what totals alone give, so the order of the rides does not matter.
+-- No total exceeds what totals alone give an area, since no cap is passed and no charge exceeds its price; and it reaches it where no
+-- cap above is full, since a charge is cut only by a full cap, and a full cap stays full. Above the state there is no cap.
+-- Assumes nothing.
+use Prim.Native.Nat.{ℕ, zero, suc, _+_, _≤_, _<_}
+use native.Mathlib.Nat.{le-refl}
+use native.Mathlib.Omega.{arith}
+use native.Mathlib.Decide.{ℕ-discrete}
+use mathlib.Core.Path.{_≡_, refl, sym, subst, _∙_}
+use mathlib.Core.Logic.{⊎-elim}
+use mathlib.Core.Bool.{Bool, true, false, cond, and-eq-true-iff}
+use mathlib.Core.List.{List, [], _∷_}
+use borrow.Author.Tests.{eqb-true, eq-eqb}
+use lib.Dec.{eqb}
+use Rattle.units.specs.Caps.{cappedBy}
+use Rattle.units.proofs.Caps.{capped-most}
+use Rattle.promises.specs.Tree.{Tree, IsTree}
+use Rattle.promises.specs.Charged.{
+  Entry,
+  Charged,
+  none,
+  more,
+  allTotal,
+  secondTotal,
+  charges,
+  AtMost,
+  Full,
+  CapFull,
+  all-full,
+  second-full,
+  capOf,
+  childOf,
+  ownPrices,
+  overChildren,
+  resultOf,
+  totalsAlone,
+  oneClass,
+}
+use Rattle.promises.proofs.Cut.{stays-full, smaller-full, full-or-not, fits-capped, full-capped, capped-mono}
+use Rattle.promises.proofs.Chain.{top-alone, within-cases, state-level}
+use Rattle.promises.proofs.Window.{no-more-than-price, no-cap-passed, cut-leaves-full, state-total}
+use Rattle.promises.proofs.Children.{child-is, over-mono, over-nothing, ownCharges, total-in-parts}
+
+-- the latest ride and the rides before it are of the one class
+one-class-parts :
+    (class : ℕ) (e : Entry) (es : List Entry) → oneClass class (e ∷ es) ≡ true → (e .class ≡ class) × (oneClass class es ≡ true)
+unfolding oneClass
+one-class-parts class e es one =
+    let (same, before) = and-eq-true-iff (eqb (e .class) class) (oneClass class es) .0 one in
+    (eqb-true (e .class) class same, before)
+
+-- where all rides are of class 2 the two totals are one
+second-is-all : (t : Tree) (class x : ℕ) (es : List Entry) → class ≡ 2 → oneClass class es ≡ true → secondTotal t x es ≡ allTotal t x es
+unfolding secondTotal allTotal
+second-is-all t class x [] two one = refl
+second-is-all t class x (e ∷ es) two one =
+    let (same, before) = one-class-parts class e es one in
+    rw (eq-eqb (e .class) 2 (same ∙ two), second-is-all t class x es two before)
+
+module _ {t : Tree} (tree : IsTree t) (class : ℕ) where
+  -- ---- The one cap of each area that counts.
+
+  -- it is not passed
+  class-kept :
+      {es : List Entry} → Charged t es → oneClass class es ≡ true → (x : ℕ) → x < t .size
+      → AtMost (allTotal t x es) (capOf t class x)
+  class-kept {es} r one x h = go (eqb class 2) refl
+    where
+      go : (two : Bool) → eqb class 2 ≡ two → AtMost (allTotal t x es) (cond two (t .caps x .second) (t .caps x .all))
+      go true e = rw (second-is-all t class x es (eqb-true class 2 e) one) at (no-cap-passed tree r x h .1)
+      go false e = no-cap-passed tree r x h .0
+
+  -- where one of a ride's caps is full, the one that counts there is full
+  class-full :
+      {e : Entry} {es : List Entry} → Charged t (e ∷ es) → oneClass class (e ∷ es) ≡ true → CapFull t e (e ∷ es)
+      → (x : ℕ) × (x < t .size) × (t .within (e .area) x ≡ true) × Full (allTotal t x (e ∷ es)) (capOf t class x)
+  class-full {e} {es} r one (all-full x h w f) = (x, h, w, go (eqb class 2) refl)
+    where
+      go : (two : Bool) → eqb class 2 ≡ two → Full (allTotal t x (e ∷ es)) (cond two (t .caps x .second) (t .caps x .all))
+      go true two =
+          smaller-full (t .caps x .second) (t .caps x .all) (allTotal t x (e ∷ es)) (tree .caps-order x h)
+          (rw two at (class-kept r one x h))
+          f
+      go false two = f
+  class-full {e} {es} r one (second-full x h w two f) =
+      let is : class ≡ 2 = sym (one-class-parts class e es one .0) ∙ two in
+      (x, h, w, rw (eq-eqb class 2 is, ← (second-is-all t class x (e ∷ es) is one)) f)
+
+  -- ---- Own rides.
+
+  -- no cap of an area, nor of one above, is full
+  Open : List Entry → ℕ → Type 0
+  Open es x = (z : ℕ) → z < t .size → t .within x z ≡ true → Full (allTotal t z es) (capOf t class z) → ⊥
+
+  -- what is open now was open one ride before
+  open-before :
+      {e : Entry} {es : List Entry} → Charged t (e ∷ es) → oneClass class (e ∷ es) ≡ true → (x : ℕ) → Open (e ∷ es) x → Open es x
+  unfolding Open allTotal
+  open-before r one x now z h w f = now z h w (stays-full (capOf t class z) (omega arith) (class-kept r one z h) f)
+
+  -- own rides are charged no more than their prices
+  own-most : {es : List Entry} → Charged t es → (x : ℕ) → ownCharges x es ≤ ownPrices x es
+  unfolding ownCharges ownPrices
+  own-most none x = le-refl 0
+  own-most (more {e} {es} r there known is) x = omega (arith, own-most r x, part (eqb (e .area) x))
+    where
+      part : (b : Bool) → cond b (e .charge) 0 ≤ cond b (e .price) 0
+      part true = no-more-than-price tree (more r there known is)
+      part false = le-refl 0
+
+  -- and no less, where no cap is full
+  own-whole : {es : List Entry} → Charged t es → oneClass class es ≡ true → (x : ℕ) → Open es x → ownPrices x es ≤ ownCharges x es
+  unfolding ownCharges ownPrices Open
+  own-whole none one x now = le-refl 0
+  own-whole (more {e} {es} r there known is) one x now =
+      omega (
+        arith,
+        own-whole r (one-class-parts class e es one .1) x (open-before (more r there known is) one x now),
+        part (eqb (e .area) x) refl,
+      )
+    where
+      uncut : e .area ≡ x → e .charge < e .price → ⊥
+      uncut same below =
+          let (z, h, w, full) = class-full (more r there known is) one (cut-leaves-full tree (more r there known is) below) in
+          now z h (subst (λ a. t .within a z ≡ true) same w) full
+
+      part : (b : Bool) → eqb (e .area) x ≡ b → cond b (e .price) 0 ≤ cond b (e .charge) 0
+      part true same = omega (arith, uncut (eqb-true (e .area) x same))
+      part false same = le-refl 0
+
+  -- ---- The total of each area against what totals alone give it.
+
+  -- an area right below x has one level less below it
+  child-depth : (x y depth : ℕ) → y < t .size → childOf t y x ≡ true → t .level x + suc depth ≡ 2 → t .level y + depth ≡ 2
+  child-depth x y depth h child level =
+      let (low, up) = child-is t y x child in
+      omega (arith, rw up at (tree .parent-level y h low))
+
+  -- a city has no area below it
+  city-alone : (x : ℕ) (f : ℕ → ℕ) → t .level x ≡ 2 → overChildren t x f (t .size) ≡ 0
+  city-alone x f city =
+      over-nothing t x f (t .size) λ y h child.
+      let (low, up) = child-is t y x child in
+      absurd (omega (arith, tree .few-levels y h, rw up at (tree .parent-level y h low)))
+
+  -- no cap strictly above an area is full
+  OpenAbove : List Entry → ℕ → Type 0
+  OpenAbove es x = (z : ℕ) → z < t .size → t .within x z ≡ true → (x ≡ z → ⊥) → Full (allTotal t z es) (capOf t class z) → ⊥
+
+  -- so it is above an area right below an open one
+  open-child : (es : List Entry) (x y : ℕ) → y < t .size → childOf t y x ≡ true → Open es x → OpenAbove es y
+  unfolding Open OpenAbove
+  open-child es x y h child now z k w other f =
+      ⊎-elim other (λ above. now z k (rw (child-is t y x child .1) at (above .1)) f) (within-cases tree y z h w)
+
+  -- and above the state
+  open-state : (es : List Entry) → OpenAbove es 0
+  unfolding OpenAbove
+  open-state es z k w other f = other (top-alone tree 0 z (tree .state) (state-level tree) w)
+
+  -- an area with no full cap above it is open too, or its own cap is full and no capped amount is larger than its total
+  reached :
+      (es : List Entry) (x amount : ℕ) → OpenAbove es x → (Open es x → amount ≤ allTotal t x es)
+      → cappedBy (capOf t class x) amount ≤ allTotal t x es
+  unfolding Open OpenAbove
+  reached es x amount above whole = go (full-or-not (capOf t class x) (allTotal t x es))
+    where
+      now :
+          (Full (allTotal t x es) (capOf t class x) → ⊥) → (z : ℕ) → Dec (x ≡ z) → z < t .size → t .within x z ≡ true
+          → Full (allTotal t z es) (capOf t class z) → ⊥
+      now unfilled z (yes same) k w f = unfilled (rw same f)
+      now unfilled z (no other) k w f = above z k w other f
+
+      go : Dec (Full (allTotal t x es) (capOf t class x)) → cappedBy (capOf t class x) amount ≤ allTotal t x es
+      go (yes full) = full-capped (capOf t class x) amount full
+      go (no unfilled) = omega (arith, capped-most (capOf t class x) amount, whole (λ z. now unfilled z (ℕ-discrete x z)))
+
+  -- each total reaches what totals alone give, where no cap above is full
+  lower :
+      {es : List Entry} → Charged t es → oneClass class es ≡ true → (depth x : ℕ) → x < t .size → t .level x + depth ≡ 2
+      → OpenAbove es x → resultOf t class es depth x ≤ allTotal t x es
+  unfolding resultOf
+  lower {es} r one zero x h level above =
+      reached es x (ownPrices x es) above λ now. omega (arith, total-in-parts tree r x, own-whole r one x now)
+  lower {es} r one (suc depth) x h level above =
+      reached es x (ownPrices x es + overChildren t x (resultOf t class es depth) (t .size)) above λ now.
+      omega (
+        arith,
+        total-in-parts tree r x,
+        own-whole r one x now,
+        over-mono t x (resultOf t class es depth) (λ y. allTotal t y es) (t .size) λ y k child.
+            lower r one depth y k (child-depth x y depth k child level) (open-child es x y k child now),
+      )
+
+  -- no total exceeds it
+  upper :
+      {es : List Entry} → Charged t es → oneClass class es ≡ true → (depth x : ℕ) → x < t .size → t .level x + depth ≡ 2
+      → allTotal t x es ≤ resultOf t class es depth x
+  unfolding resultOf
+  upper {es} r one zero x h level =
+      fits-capped (capOf t class x)
+      (omega (arith, total-in-parts tree r x, own-most r x, city-alone x (λ y. allTotal t y es) (omega arith)))
+      (class-kept r one x h)
+  upper {es} r one (suc depth) x h level =
+      fits-capped (capOf t class x)
+      (omega (
+        arith,
+        total-in-parts tree r x,
+        own-most r x,
+        over-mono t x (λ y. allTotal t y es) (resultOf t class es depth) (t .size) λ y k child.
+            upper r one depth y k (child-depth x y depth k child level),
+      ))
+      (class-kept r one x h)
+
+  -- Where all of a rider's rides in a window are of one class, the charges add up to what totals alone give.
+  pub one-class-total : {es : List Entry} → Charged t es → oneClass class es ≡ true → charges es ≡ totalsAlone t class es
+  one-class-total {es} r one =
+      let level : t .level 0 + 2 ≡ 2 = omega (arith, state-level tree) in
+      omega (arith, state-total tree r, upper r one 2 0 (tree .state) level, lower r one 2 0 (tree .state) level (open-state es))
+
+  -- ---- The order of the rides.
+
+  -- what totals alone give goes by the prices of each area's own rides
+  result-mono :
+      (es fs : List Entry) → ((x : ℕ) → x < t .size → ownPrices x es ≤ ownPrices x fs) → (depth x : ℕ) → x < t .size
+      → resultOf t class es depth x ≤ resultOf t class fs depth x
+  unfolding resultOf
+  result-mono es fs prices zero x h = capped-mono (capOf t class x) (prices x h)
+  result-mono es fs prices (suc depth) x h =
+      capped-mono (capOf t class x)
+      (omega (
+        arith,
+        prices x h,
+        over-mono t x (resultOf t class es depth) (resultOf t class fs depth) (t .size) λ y k child.
+            result-mono es fs prices depth y k,
+      ))
+
+  -- Two windows of one class with the same prices in each area are charged the same in all, whatever the order of their rides.
+  pub order-free :
+      {es fs : List Entry} → Charged t es → Charged t fs → oneClass class es ≡ true → oneClass class fs ≡ true
+      → ((x : ℕ) → x < t .size → ownPrices x es ≡ ownPrices x fs) → charges es ≡ charges fs
+  order-free {es} {fs} r s one two same =
+      omega (
+        arith,
+        one-class-total r one,
+        one-class-total s two,
+        result-mono es fs (λ x h. omega (arith, same x h)) 2 0 (tree .state),
+        result-mono fs es (λ x h. omega (arith, same x h)) 2 0 (tree .state),
+      )

@@ -1,0 +1,4 @@
+pub mod Tree
+pub mod Charged
+pub mod Conditions
+pub mod Runs

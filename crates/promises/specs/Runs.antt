@@ -1,0 +1,96 @@
+-- Runs: trips settled one after another from a fresh book under one tariff, the latest first; and a rider's rides in the window that is
+-- open at the run's end, read off the trips and the records that were written. Every window of a longer run is the window open at the end
+-- of one of its beginnings.
+use Prim.Native.Nat.{ℕ, _+_, _-_, _*_}
+use mathlib.Core.List.{List, [], _∷_}
+use mathlib.Core.Bool.{Bool, cond}
+use lib.Dec.{leb, ltb}
+use Rattle.wire.specs.Number.{getLe}
+use Rattle.tariff.specs.declared.Counts.{Counts}
+use Rattle.tariff.specs.Rules.{levelOf}
+use Rattle.tariff.specs.Areas.{areaAt, parentOf, liesWithin}
+use Rattle.trip.specs.declared.Trip.{Trip}
+use Rattle.trip.specs.declared.Party.{Party}
+use Rattle.trip.specs.declared.Offered.the-variants.{Good, BadRecord, BadParty, UnknownStop, BadStamp, BadOrder}
+use Rattle.trip.specs.Trips.{readTrip}
+use Rattle.fare.specs.Rides.{rideOf}
+use Rattle.fare.specs.Prices.{priceOf}
+use Rattle.book.specs.Words.{freshBook}
+use Rattle.book.specs.Windows.{belongs}
+use Rattle.book.specs.Caps.{capsHere}
+use Rattle.settle.specs.Outcome.{Outcome, refused, accepted, settled, bookAfter}
+use Rattle.promises.specs.Tree.{Tree}
+use Rattle.promises.specs.Charged.{Entry}
+
+-- a trip offered: its bytes, and the room for its record
+pub record Offer : Type 0 where
+  pub bytes : List ℕ
+  pub room : ℕ
+
+-- the book after a run
+unfoldable pub bookOf : List ℕ → List Offer → List ℕ
+bookOf tariff [] = freshBook
+bookOf tariff (o ∷ run) = bookAfter (settled tariff (bookOf tariff run) (o .bytes) (o .room)) (bookOf tariff run)
+
+-- riders 11 to 20 are the children
+abbrev pub isChild : ℕ → Bool
+isChild rider = ltb 10 rider
+
+-- whether a party carries a rider: the holder is always there, adults and children are those numbered from 1
+abbrev pub carries : Party → ℕ → Bool
+carries party rider = cond (isChild rider) (ltb (rider - 11) (party .children)) (leb rider (party .adults))
+
+-- where a carried rider's charge stands among the record's charges: account holder, adults, children
+abbrev pub placeOf : Party → ℕ → ℕ
+placeOf party rider = cond (isChild rider) (1 + party .adults + (rider - 11)) rider
+
+-- a rider's ride: its area, class and price, and the 4-byte number at the rider's place in the written record
+unfoldable pub entryOf : List ℕ → Counts → ℕ → List ℕ → Trip → List ℕ → Entry
+entryOf tariff counts rider bytes trip entry =
+    let ride = rideOf tariff (counts .areas) bytes trip in
+    record {
+      area = ride .area;
+      class = trip .party .class;
+      price = priceOf (areaAt tariff (ride .area)) ride (isChild rider);
+      charge = getLe 4 entry (13 + 4 * placeOf (trip .party) rider);
+    }
+
+-- the rider's rides so far, with an accepted trip: one more where it carries the rider; and none from before where it opens a window
+unfoldable pub ridesWith : List ℕ → Counts → ℕ → List ℕ → List ℕ → Trip → List ℕ → List Entry → List Entry
+ridesWith tariff counts rider book bytes trip entry before =
+    let kept = cond (belongs book (trip .checkout .0)) before [] in
+    cond (carries (trip .party) rider) (entryOf tariff counts rider bytes trip entry ∷ kept) kept
+
+-- the rider's rides so far, with an outcome: a refusal leaves them
+unfoldable pub ridesAfter : List ℕ → Counts → ℕ → List ℕ → List ℕ → Outcome → List Entry → List Entry
+ridesAfter tariff counts rider book bytes outcome before =
+    elim outcome [
+      | refused number place ↦ before
+      | accepted new entry ↦
+          elim (readTrip bytes (counts .stops)) [
+            | Good trip ↦ ridesWith tariff counts rider book bytes trip entry before
+            | BadRecord ↦ before
+            | BadParty ↦ before
+            | UnknownStop ↦ before
+            | BadStamp ↦ before
+            | BadOrder ↦ before
+          ]
+    ]
+
+-- a rider's rides in the window that is open at the run's end, the latest first
+unfoldable pub ridesOf : List ℕ → Counts → ℕ → List Offer → List Entry
+ridesOf tariff counts rider [] = []
+ridesOf tariff counts rider (o ∷ run) =
+    ridesAfter tariff counts rider (bookOf tariff run) (o .bytes) (settled tariff (bookOf tariff run) (o .bytes) (o .room))
+    (ridesOf tariff counts rider run)
+
+-- the tariff's areas, with a rider's caps
+abbrev pub treeOf : List ℕ → Counts → Bool → Tree
+treeOf tariff counts child =
+    record {
+      size = counts .areas;
+      parent = parentOf tariff;
+      level = levelOf tariff;
+      within = liesWithin tariff;
+      caps = λ area. capsHere (areaAt tariff area) child;
+    }

@@ -1,0 +1,4 @@
+pub mod Head
+pub mod Amounts
+pub mod Ways
+pub mod Clear

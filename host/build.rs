@@ -1,0 +1,72 @@
+//! Feature `library`: links libsettle.a. Feature `planted`: makes the copies of the model that have an error planted.
+
+#[path = "src/planted/edits.rs"]
+mod edits;
+
+use std::path::{Path, PathBuf};
+use std::{env, fs};
+
+fn main() {
+    println!("cargo::rerun-if-changed=build.rs");
+    let package = PathBuf::from(env::var_os("CARGO_MANIFEST_DIR").expect("cargo says where the package is"));
+    if env::var_os("CARGO_FEATURE_LIBRARY").is_some() {
+        link_library(&package);
+    }
+    if env::var_os("CARGO_FEATURE_PLANTED").is_some() {
+        let out = PathBuf::from(env::var_os("OUT_DIR").expect("cargo says where to write"));
+        plant(&package, &out);
+    }
+}
+
+/// MILECOPPER_LIB_DIR is the archive's directory, seen from the package; ../target/staticlib unless set.
+fn link_library(package: &Path) {
+    println!("cargo::rerun-if-env-changed=MILECOPPER_LIB_DIR");
+    let directory = package.join(env::var("MILECOPPER_LIB_DIR").unwrap_or("../target/staticlib".to_string()));
+    let archive = directory.join("libsettle.a");
+    println!("cargo::rerun-if-changed={}", archive.display());
+    if archive.is_file() {
+        println!("cargo::rustc-link-search=native={}", directory.display());
+        println!("cargo::rustc-link-lib=static=settle");
+    } else {
+        println!("cargo::error={} is not there: set MILECOPPER_LIB_DIR to its directory", archive.display());
+    }
+}
+
+/// For each planted error a copy of the model's files with its edits, and one file that names them all.
+fn plant(package: &Path, out: &Path) {
+    println!("cargo::rerun-if-changed=src");
+    let mut modules = String::new();
+    let mut copies = String::new();
+    for edits::Planted { name, edits } in &edits::PLANTED {
+        let directory = out.join(name);
+        fs::create_dir_all(&directory).expect("a directory for the copy");
+        for file in model_files(package) {
+            let file_name = file.file_name().and_then(|name| name.to_str()).expect("a file's name");
+            let mut text = fs::read_to_string(&file).expect("a file of the model");
+            text = text.replace("#[cfg(test)]\nmod tests;\n", "");
+            for (_, from, to) in edits.iter().filter(|edit| edit.0 == file_name) {
+                assert_eq!(text.matches(from).count(), 1, "{name}: the text to replace in {file_name}");
+                text = text.replace(from, to);
+            }
+            fs::write(directory.join(file_name), text).expect("a file of the copy");
+        }
+        let copy = directory.join("model.rs");
+        modules += &format!("#[allow(warnings)]\n#[path = {copy:?}]\nmod {name};\n");
+        copies += &format!(
+            "    ({name:?}, |tariff, book, trip, statement| {{
+        let answer = {name}::settle(tariff, book, trip, statement);
+        number_of(answer.map_err(|refusal| model::Refusal {{ number: refusal.number, place: refusal.place }}))
+    }}),\n"
+        );
+    }
+    let many = edits::PLANTED.len();
+    let text = format!("{modules}\nconst COPIES: [(&str, Settle); {many}] = [\n{copies}];\n");
+    fs::write(out.join("planted.rs"), text).expect("the file that names the copies");
+}
+
+/// src/model.rs and the files of src/model/.
+fn model_files(package: &Path) -> Vec<PathBuf> {
+    let directory = fs::read_dir(package.join("src/model")).expect("the model's directory");
+    let files = directory.map(|entry| entry.expect("an entry").path());
+    files.filter(|file| file.is_file() && !file.ends_with("tests.rs")).chain([package.join("src/model.rs")]).collect()
+}

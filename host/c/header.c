@@ -1,0 +1,71 @@
+/* What include/milecopper.h says by itself, without the library: sizes, answers, texts, the fields of a record. */
+#include "milecopper.h"
+
+#include <stdio.h>
+#include <string.h>
+
+static int faults;
+
+static void check(int well, const char *what)
+{
+    if (!well) {
+        printf("header: %s\n", what);
+        faults += 1;
+    }
+}
+
+static void sizes(void)
+{
+    check(MILECOPPER_BOOK_BYTES == 4 * (3 + 21 * 32 * 2 + MILECOPPER_MOST_BICYCLES), "the book");
+    check(MILECOPPER_MOST_CHARGES == 1 + MILECOPPER_MOST_ADULTS + MILECOPPER_MOST_CHILDREN + MILECOPPER_MOST_BICYCLES,
+          "the charges");
+    check(milecopper_record_bytes_for(0, 0, 0) == MILECOPPER_SMALLEST_RECORD_BYTES, "the smallest record");
+    check(milecopper_record_bytes_for(10, 10, 10) == MILECOPPER_LARGEST_RECORD_BYTES, "the largest record");
+    check(MILECOPPER_LARGEST_TRIP_BYTES == 4 + 18 + 2 * MILECOPPER_MOST_STOPS_IN_A_TRIP, "the largest trip");
+    check(MILECOPPER_LARGEST_TARIFF_BYTES == 29 * MILECOPPER_MOST_AREAS + 13 * MILECOPPER_MOST_STOPS, "the largest tariff");
+}
+
+static void answers(void)
+{
+    uint64_t accepted = 17;
+    uint64_t refused = ((uint64_t)3 << 32) + 29;
+    check(milecopper_accepted(accepted) && milecopper_bytes_written(accepted) == 17, "an accepted trip");
+    check(milecopper_refusal_of(accepted) == MILECOPPER_NOT_REFUSED && milecopper_place(accepted) == 0, "no refusal");
+    check(!milecopper_accepted(refused) && milecopper_bytes_written(refused) == 0, "a refused trip");
+    check(milecopper_refusal_of(refused) == MILECOPPER_TARIFF_VALUE && milecopper_place(refused) == 29, "its refusal");
+    check(milecopper_refusal_of((uint64_t)12 << 32) == MILECOPPER_NO_ROOM, "the last refusal");
+}
+
+static void texts(void)
+{
+    int one;
+    int other;
+    for (one = 0; one <= 12; one += 1)
+        for (other = 0; other < one; other += 1)
+            check(strcmp(milecopper_refusal_text((enum milecopper_refusal)one),
+                         milecopper_refusal_text((enum milecopper_refusal)other)) != 0, "two refusals with one text");
+}
+
+static void records(void)
+{
+    /* Length 19, kind 4; opening 0x01020304, area 5, 0x0607 km, 0x0809 minutes; charges 258 and 70,000. */
+    static const uint8_t record[] = {19, 0, 4, 0, 4, 3, 2, 1, 5, 7, 6, 9, 8, 2, 1, 0, 0, 0x70, 0x11, 1, 0};
+    check(milecopper_record_bytes(record) == sizeof record, "a record's length");
+    check(milecopper_record_opening(record) == 0x01020304, "a record's opening");
+    check(milecopper_record_area(record) == 5, "a record's area");
+    check(milecopper_record_km(record) == 0x0607, "a record's kilometres");
+    check(milecopper_record_minutes(record) == 0x0809, "a record's minutes");
+    check(milecopper_record_charges(record) == 2, "the number of charges");
+    check(milecopper_record_charge(record, 0) == 258 && milecopper_record_charge(record, 1) == 70000, "the charges");
+    check(milecopper_record_total(record) == 70258, "their sum");
+    check(milecopper_number((const uint8_t *)"\xff\xff\xff\xff", 4) == 0xFFFFFFFFu, "the largest number");
+}
+
+int main(void)
+{
+    sizes();
+    answers();
+    texts();
+    records();
+    return faults == 0 ? 0 : 1;
+}

@@ -1,0 +1,170 @@
+/*
+ * Settles a roll of trips on one account, starting from a fresh book, and says what each cost.
+ *
+ *     night TARIFF ROLL
+ *
+ * TARIFF holds a tariff's bytes and ROLL trip records, one after another. C99 and C++11.
+ */
+#include "milecopper.h"
+
+#include <stdio.h>
+#include <stdlib.h>
+
+/* Where a trip record says who and what is carried. */
+enum { TRIP_ADULTS = 18, TRIP_CHILDREN = 19, TRIP_BICYCLES = 20 };
+
+struct bytes {
+    uint8_t *start;
+    size_t length;
+};
+
+/* What has been settled so far. The slices are blocks of exactly their length, so that memcheck sees a byte beyond them. */
+struct night {
+    struct bytes tariff;
+    struct bytes book;
+    struct bytes statement;
+    uint32_t opening; /* of the window of the last accepted trip */
+    unsigned accepted;
+    unsigned refused;
+    uint64_t cents;
+};
+
+/* A block of zeros, to be freed by the caller. Its pointer is not null, not even with length 0. */
+static struct bytes zeros(size_t length)
+{
+    struct bytes block = {NULL, 0};
+    block.start = (uint8_t *)calloc(length > 0 ? length : 1, 1);
+    block.length = length;
+    if (block.start == NULL) {
+        fprintf(stderr, "night: out of memory\n");
+        exit(1);
+    }
+    return block;
+}
+
+/* The bytes of a file, to be freed by the caller. */
+static struct bytes bytes_of(const char *name)
+{
+    struct bytes all = {NULL, 0};
+    long length = -1;
+    FILE *file = fopen(name, "rb");
+    if (file != NULL && fseek(file, 0, SEEK_END) == 0)
+        length = ftell(file);
+    if (length >= 0 && fseek(file, 0, SEEK_SET) == 0)
+        all = zeros((size_t)length);
+    if (all.start == NULL || fread(all.start, 1, all.length, file) != all.length) {
+        fprintf(stderr, "night: %s cannot be read\n", name);
+        exit(1);
+    }
+    fclose(file);
+    return all;
+}
+
+static void print_money(uint64_t cents)
+{
+    printf("%lu.%02lu euro", (unsigned long)(cents / 100), (unsigned long)(cents % 100));
+}
+
+/* Prints ", 2.30 euro for adult 1" and so on for `many` charges of the record, the first of them at `from`. */
+static void print_charges(const uint8_t *record, unsigned from, unsigned many, const char *who)
+{
+    unsigned i;
+    for (i = 0; i < many; i += 1) {
+        printf(", ");
+        print_money(milecopper_record_charge(record, from + i));
+        printf(" for %s %u", who, i + 1);
+    }
+}
+
+static void print_accepted(struct night *night, unsigned number, const uint8_t *trip, const uint8_t *record)
+{
+    unsigned adults = trip[TRIP_ADULTS];
+    unsigned children = trip[TRIP_CHILDREN];
+    unsigned bicycles = trip[TRIP_BICYCLES];
+    uint32_t total = milecopper_record_total(record);
+    uint32_t opening = milecopper_record_opening(record);
+
+    if (night->accepted == 0 || opening != night->opening)
+        printf("A window opens at minute %lu.\n", (unsigned long)opening);
+    printf("Trip %u, %u km and %u minutes in area %u, costs ", number, milecopper_record_km(record),
+           milecopper_record_minutes(record), milecopper_record_area(record));
+    print_money(total);
+    if (milecopper_record_charges(record) > 1) {
+        printf(": ");
+        print_money(milecopper_record_charge(record, 0));
+        printf(" for the account holder");
+        print_charges(record, 1, adults, "adult");
+        print_charges(record, 1 + adults, children, "child");
+        print_charges(record, 1 + adults + children, bicycles, "bicycle");
+    }
+    printf(".\n");
+    night->opening = opening;
+    night->accepted += 1;
+    night->cents += total;
+}
+
+static void print_refused(struct night *night, unsigned number, uint64_t answer)
+{
+    enum milecopper_refusal refusal = milecopper_refusal_of(answer);
+    printf("Trip %u is refused (%d). %s", number, (int)refusal, milecopper_refusal_text(refusal));
+    if (refusal <= MILECOPPER_TARIFF_VALUE)
+        printf(" Look at byte %lu of it.", (unsigned long)milecopper_place(answer));
+    printf("\n");
+    night->refused += 1;
+}
+
+/* Settles the trip in these bytes. */
+static void settle(struct night *night, unsigned number, const uint8_t *trip, size_t length)
+{
+    uint64_t answer = milecopper_settle(night->tariff.start, night->tariff.length,
+                                        night->book.start, night->book.length,
+                                        trip, length,
+                                        night->statement.start, night->statement.length);
+    if (milecopper_accepted(answer))
+        print_accepted(night, number, trip, night->statement.start);
+    else
+        print_refused(night, number, answer);
+}
+
+/* The bytes of the next record; all that is left where its frame is broken, which settling then refuses. */
+static size_t next_record(const uint8_t *rest, size_t left)
+{
+    size_t length = left < 4 ? 0 : milecopper_number(rest, 2);
+    int whole = length >= 2 && length <= 1024 && length <= left - 2;
+    return whole ? 2 + length : left;
+}
+
+static void settle_roll(struct night *night, struct bytes roll)
+{
+    unsigned number = 0;
+    size_t place = 0;
+    while (place < roll.length) {
+        size_t length = next_record(roll.start + place, roll.length - place);
+        number += 1;
+        settle(night, number, roll.start + place, length);
+        place += length;
+    }
+    printf("%u trips accepted, %u refused; together ", night->accepted, night->refused);
+    print_money(night->cents);
+    printf(".\n");
+}
+
+int main(int argc, char **argv)
+{
+    struct night night = {{NULL, 0}, {NULL, 0}, {NULL, 0}, 0, 0, 0, 0};
+    struct bytes roll;
+    if (argc != 3) {
+        fprintf(stderr, "usage: night TARIFF ROLL\n");
+        return 2;
+    }
+    night.tariff = bytes_of(argv[1]);
+    night.book = zeros(MILECOPPER_BOOK_BYTES); /* a fresh book */
+    night.statement = zeros(MILECOPPER_LARGEST_RECORD_BYTES);
+    roll = bytes_of(argv[2]);
+    settle_roll(&night, roll);
+    free(night.tariff.start);
+    free(night.book.start);
+    free(night.statement.start);
+    free(roll.start);
+    return 0;
+}

@@ -1,0 +1,109 @@
+//! The number that settling answers, taken apart.
+
+use std::fmt;
+
+/// What became of a trip.
+#[derive(Clone, Copy, Debug, PartialEq, Eq)]
+pub enum Answer {
+    /// So many bytes were written to the statement.
+    Accepted { bytes: u32 },
+    /// `place` is the offset in the tariff for the first three refusals, else 0.
+    Refused { refusal: Refusal, place: u32 },
+}
+
+/// The twelve refusals, in the order in which they are tried.
+#[derive(Clone, Copy, Debug, PartialEq, Eq)]
+pub enum Refusal {
+    TariffBroken = 1,
+    TariffMisshapen = 2,
+    TariffValue = 3,
+    BookUnsound = 4,
+    TripMisshapen = 5,
+    TripCounts = 6,
+    UnknownStop = 7,
+    NoSuchTime = 8,
+    TripBackward = 9,
+    BeforeLastTrip = 10,
+    WindowFull = 11,
+    NoRoom = 12,
+}
+
+impl Answer {
+    /// The answer that this number stands for, or nothing where settling never answers it.
+    pub fn of(number: u64) -> Option<Answer> {
+        let low = number as u32;
+        match number >> 32 {
+            0 if low == 0 => None,
+            0 => Some(Answer::Accepted { bytes: low }),
+            refusal => Some(Answer::Refused { refusal: Refusal::of(refusal)?, place: low }),
+        }
+    }
+}
+
+impl Refusal {
+    pub const ALL: [Refusal; 12] = [
+        Refusal::TariffBroken,
+        Refusal::TariffMisshapen,
+        Refusal::TariffValue,
+        Refusal::BookUnsound,
+        Refusal::TripMisshapen,
+        Refusal::TripCounts,
+        Refusal::UnknownStop,
+        Refusal::NoSuchTime,
+        Refusal::TripBackward,
+        Refusal::BeforeLastTrip,
+        Refusal::WindowFull,
+        Refusal::NoRoom,
+    ];
+
+    /// The refusal with this number.
+    pub fn of(number: u64) -> Option<Refusal> {
+        Refusal::ALL.into_iter().find(|&refusal| refusal as u64 == number)
+    }
+
+    /// A few words about it.
+    pub fn text(self) -> &'static str {
+        match self {
+            Refusal::TariffBroken => "tariff frame broken",
+            Refusal::TariffMisshapen => "tariff misshapen",
+            Refusal::TariffValue => "tariff value",
+            Refusal::BookUnsound => "book not sound",
+            Refusal::TripMisshapen => "trip misshapen",
+            Refusal::TripCounts => "trip counts",
+            Refusal::UnknownStop => "unknown stop",
+            Refusal::NoSuchTime => "no such time",
+            Refusal::TripBackward => "trip backward or too long",
+            Refusal::BeforeLastTrip => "before the last check-out",
+            Refusal::WindowFull => "257th trip of the window",
+            Refusal::NoRoom => "statement too short",
+        }
+    }
+}
+
+impl fmt::Display for Answer {
+    fn fmt(&self, out: &mut fmt::Formatter) -> fmt::Result {
+        match self {
+            Answer::Accepted { bytes } => write!(out, "accepted, {bytes} bytes written"),
+            Answer::Refused { refusal, place } => {
+                write!(out, "refused {} at {place} ({})", *refusal as u32, refusal.text())
+            }
+        }
+    }
+}
+
+#[cfg(test)]
+mod tests {
+    use super::*;
+
+    #[test]
+    fn numbers_and_what_they_stand_for() {
+        assert_eq!(Answer::of(0), None);
+        assert_eq!(Answer::of(17), Some(Answer::Accepted { bytes: 17 }));
+        assert_eq!(Answer::of(1 << 32), Some(Answer::Refused { refusal: Refusal::TariffBroken, place: 0 }));
+        assert_eq!(Answer::of((3 << 32) + 29), Some(Answer::Refused { refusal: Refusal::TariffValue, place: 29 }));
+        assert_eq!(Answer::of(12 << 32), Some(Answer::Refused { refusal: Refusal::NoRoom, place: 0 }));
+        assert_eq!(Answer::of(13 << 32), None);
+        assert_eq!(Answer::of(u64::MAX), None);
+        assert!((1..=12).all(|number| Refusal::of(number).is_some_and(|refusal| refusal as u64 == number)));
+    }
+}

@@ -1,0 +1,73 @@
+//! The differential test: the library and the model settle the same cases, and must agree in the answer, in every byte
+//! of the book and in every byte of the statement.
+//!
+//! A run has parts, which can be repeated one by one. Part 0 of a seed is a sweep ([`sweeps`]): a good case and all that
+//! lie one step away from it. Every other part is a chain ([`chains`]): trips settled one after another on one book, with
+//! damaged cases in between ([`damage`]). What settles on the library's side gets slices beside protected pages
+//! ([`guarded`]), so that a byte touched outside them is seen.
+
+mod books;
+mod cases;
+mod chains;
+mod counts;
+mod damage;
+mod fields;
+mod guarded;
+mod kinds;
+mod options;
+mod random;
+mod report;
+mod run;
+mod signals;
+mod sweeps;
+mod tariffs;
+mod trips;
+
+pub use options::{Options, USAGE};
+pub use run::{number_of, Difference, Settle};
+
+use random::Random;
+use run::Run;
+use std::process::ExitCode;
+use std::time::Instant;
+
+/// Chains of each seed.
+const CHAINS: u64 = 2_200;
+
+/// Compares `settle`, which is called `name`, with the model. Prints the seeds first and the counts at the end. An error
+/// is the first difference, or says what was met too seldom.
+pub fn compare(name: &'static str, settle: Settle, options: &Options) -> Result<(), Difference> {
+    let seeds: Vec<String> = options.seeds.iter().map(u64::to_string).collect();
+    println!("{name} and the model, seeds {}", seeds.join(" "));
+    signals::tell_signals();
+    let clock = Instant::now();
+    let mut run = Run::of(name, settle, options.part.is_some());
+    for &seed in &options.seeds {
+        for part in options.part.map_or(0..1 + options.longer * CHAINS, |part| part..part + 1) {
+            run.start_part(seed, part);
+            let mut random = Random::of(seed, part);
+            match part {
+                0 => sweeps::sweep(&mut random, &mut run)?,
+                _ => chains::chain(&mut random, &mut run)?,
+            }
+        }
+    }
+    signals::unset_alarm();
+    println!("no difference\n{}\n{:.1} seconds", run.counts, clock.elapsed().as_secs_f64());
+    let too_few = run.counts.too_few();
+    if options.part.is_none() && !too_few.is_empty() {
+        return Err(format!("under 1 % of their half: {}", too_few.join(", ")));
+    }
+    Ok(())
+}
+
+/// The status with which a program that compares ends; an error is printed.
+pub fn status(compared: Result<(), Difference>) -> ExitCode {
+    match compared {
+        Ok(()) => ExitCode::SUCCESS,
+        Err(text) => {
+            println!("{text}");
+            ExitCode::FAILURE
+        }
+    }
+}

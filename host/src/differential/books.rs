@@ -1,0 +1,138 @@
+//! Books: fresh ones, sound ones at the edges, and unsound ones that miss by one.
+
+use super::random::Random;
+use super::trips::{DAY, LAST_MINUTE};
+use crate::numbers::number;
+
+pub const BYTES: usize = 5_428;
+pub const WORDS: usize = 1_357;
+/// The words of the window.
+pub const TRIPS: usize = 0;
+pub const OPENING: usize = 1;
+pub const LAST_CHECK_OUT: usize = 2;
+/// The first of the ten words of the bicycles.
+pub const BICYCLES: usize = 1_347;
+/// The pairs of sums: 21 riders, 32 areas.
+const PAIRS: usize = 672;
+/// No sum is larger than this times the trips in the window.
+const MOST_A_TRIP: u64 = 3_790_000;
+
+pub fn fresh() -> Vec<u8> {
+    vec![0; BYTES]
+}
+
+/// A word of the book; 0 where the book is too short for it.
+pub fn word(book: &[u8], place: usize) -> u64 {
+    book.get(4 * place..4 * place + 4).map_or(0, number)
+}
+
+/// Sets a word of the book, unless the book is too short for it.
+pub fn set_word(book: &mut [u8], place: usize, value: u64) {
+    if let Some(found) = book.get_mut(4 * place..4 * place + 4) {
+        found.copy_from_slice(&value.to_le_bytes()[..4]);
+    }
+}
+
+/// The two words of a pair of sums: second class, all classes.
+pub fn pair(pair: usize) -> (usize, usize) {
+    (3 + 2 * pair, 4 + 2 * pair)
+}
+
+/// A sound book for a tariff of so many areas, with its last check-out at `latest` or shortly before, and its numbers at
+/// the ends of their ranges.
+pub fn sound_at_the_edges(random: &mut Random, areas: usize, latest: u64) -> Vec<u8> {
+    let mut book = fresh();
+    let trips = random.pick(&[1, 1, 2, 3, 10, 100, 254, 255, 256]);
+    let last = latest.min(LAST_MINUTE).saturating_sub(random.pick(&[0, 0, 1, 60, 1_439, 1_440, 1_441]));
+    let opening = last.saturating_sub(random.pick(&[0, 1, 60, 200, 1_000, 1_439, 1_440]));
+    set_word(&mut book, TRIPS, trips);
+    set_word(&mut book, OPENING, opening);
+    set_word(&mut book, LAST_CHECK_OUT, last);
+    let limit = trips * MOST_A_TRIP;
+    let filled = random.pick(&[0, 1, 5, 30, 300]);
+    for _ in 0..filled {
+        let (second, all) = pair(random.index(PAIRS));
+        let sum = random.pick(&[1, 100, 200, 400, 800, 1_500, 2_500, 60_000, limit - 1, limit, limit]);
+        set_word(&mut book, second, random.pick(&[0, 1, sum / 2, sum - 1, sum, sum]));
+        set_word(&mut book, all, sum);
+    }
+    for bicycle in 0..10 {
+        let any = random.within(0, areas as u64);
+        set_word(&mut book, BICYCLES + bicycle, random.pick(&[0, 0, 1, areas as u64, any]));
+    }
+    book
+}
+
+/// Makes the book unsound in one way, mostly by the least that is enough.
+pub fn spoil(random: &mut Random, book: &mut Vec<u8>, areas: usize) {
+    if word(book, TRIPS) == 0 && random.chance(30) {
+        set_word(book, random.index(WORDS - 1) + 1, random.pick(&[1, 2, 1 << 8, 1 << 31]));
+        return;
+    }
+    if word(book, TRIPS) == 0 {
+        set_word(book, TRIPS, 1);
+    }
+    let trips = word(book, TRIPS);
+    let opening = word(book, OPENING);
+    let (second, all) = pair(random.index(PAIRS));
+    let limit = trips * MOST_A_TRIP;
+    match random.below(10) {
+        0 => set_word(book, TRIPS, random.pick(&[257, 258, 512, 1_134, 65_536, 1 << 31, u64::from(u32::MAX)])),
+        1 => {
+            set_word(book, TRIPS, 0);
+            set_word(book, LAST_CHECK_OUT, opening.max(1));
+        }
+        2 => {
+            set_word(book, OPENING, opening + 1);
+            set_word(book, LAST_CHECK_OUT, opening);
+        }
+        3 => set_word(book, LAST_CHECK_OUT, opening + DAY + random.pick(&[1, 1, 2, 1_000])),
+        4 => {
+            set_word(book, OPENING, LAST_MINUTE - random.pick(&[0, 1, DAY - 1]));
+            set_word(book, LAST_CHECK_OUT, LAST_MINUTE + 1);
+        }
+        5 => {
+            let late = u64::from(u32::MAX) - random.below(2 * DAY);
+            set_word(book, OPENING, late);
+            set_word(book, LAST_CHECK_OUT, random.pick(&[late, (late + DAY) % (1 << 32), 0]));
+        }
+        6 => {
+            let sum = random.pick(&[word(book, all), 0, 7, limit]);
+            set_word(book, all, sum);
+            set_word(book, second, sum + random.pick(&[1, 1, 1_000]));
+        }
+        7 => set_word(book, all, random.pick(&[limit + 1, limit + 1, u64::from(u32::MAX)])),
+        8 => {
+            let covering = random.pick(&[areas as u64 + 1, areas as u64 + 1, 33, 256, u64::from(u32::MAX)]);
+            set_word(book, BICYCLES + random.index(10), covering.max(areas as u64 + 1));
+        }
+        _ => book.resize(random.pick(&[0, 1, 4, 5_424, 5_427, 5_429, 5_432, 10_856]), 0),
+    }
+}
+
+#[cfg(test)]
+mod tests {
+    use super::*;
+    use crate::model::book::Book;
+
+    fn is_sound(book: &[u8], areas: usize) -> bool {
+        Book::read(book).is_some_and(|book| book.is_sound(areas))
+    }
+
+    #[test]
+    fn sound_and_unsound() {
+        let mut random = Random::of(1, 0);
+        for _ in 0..3_000 {
+            let areas = random.within(1, 32) as usize;
+            let mut book = if random.chance(20) {
+                fresh()
+            } else {
+                let latest = random.pick(&[0, 1, 5_000_000, LAST_MINUTE]);
+                sound_at_the_edges(&mut random, areas, latest)
+            };
+            assert!(is_sound(&book, areas));
+            spoil(&mut random, &mut book, areas);
+            assert!(!is_sound(&book, areas));
+        }
+    }
+}

@@ -1,0 +1,24 @@
+//! A case, and the draft of one.
+
+use super::trips::Plan;
+
+/// What is given to both sides: three slices, and the length of the fourth.
+#[derive(Clone, Debug)]
+pub struct Case {
+    pub tariff: Vec<u8>,
+    pub book: Vec<u8>,
+    pub trip: Vec<u8>,
+    /// Bytes of the statement slice.
+    pub room: usize,
+    /// How it was made, for whoever reads about a difference.
+    pub story: Vec<&'static str>,
+}
+
+/// A case together with what it was made of, before any damage.
+#[derive(Clone, Debug)]
+pub struct Draft {
+    pub case: Case,
+    pub areas: usize,
+    pub stops: usize,
+    pub plan: Plan,
+}

@@ -1,0 +1,71 @@
+//! How many cases ended in each refusal and in each kind of acceptance.
+
+use super::cases::Case;
+use super::kinds::{kinds_of, KINDS};
+use crate::answer::Refusal;
+use crate::model::charge::ChargeRecord;
+use std::fmt;
+
+#[derive(Default)]
+pub struct Counts {
+    accepted: u64,
+    /// One case may be of several kinds.
+    kinds: [u64; KINDS.len()],
+    /// By number, from 1.
+    refusals: [u64; 13],
+}
+
+impl Counts {
+    pub fn count_accepted(&mut self, case: &Case, record: &ChargeRecord) {
+        self.accepted += 1;
+        for (count, is_of_it) in self.kinds.iter_mut().zip(kinds_of(case, record)) {
+            *count += u64::from(is_of_it);
+        }
+    }
+
+    pub fn count_refused(&mut self, number: u32) {
+        self.refusals[number as usize] += 1;
+    }
+
+    pub fn refused(&self) -> u64 {
+        self.refusals.iter().sum()
+    }
+
+    pub fn cases(&self) -> u64 {
+        self.accepted + self.refused()
+    }
+
+    /// The refusals and kinds that fewer than 1 % of their half ended in.
+    pub fn too_few(&self) -> Vec<String> {
+        let refusals =
+            Refusal::ALL.into_iter().filter(|&refusal| self.refusals[refusal as usize] * 100 < self.refused());
+        let kinds = KINDS.iter().zip(self.kinds).filter(|&(_, count)| count * 100 < self.accepted);
+        let refusals = refusals.map(|refusal| format!("refusal {}", refusal as u32));
+        let mut all: Vec<String> = refusals.chain(kinds.map(|(kind, _)| kind.to_string())).collect();
+        if self.accepted == 0 {
+            all.push("accepted cases".to_string());
+        }
+        if self.refused() == 0 {
+            all.push("refused cases".to_string());
+        }
+        all
+    }
+}
+
+impl fmt::Display for Counts {
+    fn fmt(&self, out: &mut fmt::Formatter) -> fmt::Result {
+        let line = |out: &mut fmt::Formatter, count: u64, half: u64, what: &str| {
+            writeln!(out, "  {count:>8} {:>5.1} %  {what}", 100.0 * count as f64 / half.max(1) as f64)
+        };
+        writeln!(out, "refused {}", self.refused())?;
+        for refusal in Refusal::ALL {
+            let what = format!("{:>2} {}", refusal as u32, refusal.text());
+            line(out, self.refusals[refusal as usize], self.refused(), &what)?;
+        }
+        writeln!(out, "accepted {}; one case may be of several kinds", self.accepted)?;
+        for (kind, count) in KINDS.iter().zip(self.kinds) {
+            line(out, count, self.accepted, kind)?;
+        }
+        write!(out, "cases {}", self.cases())
+    }
+}

@@ -1,0 +1,92 @@
+//! Damage to the tariff: refusals 1 to 3.
+
+use super::some_record;
+use crate::differential::cases::Draft;
+use crate::differential::fields::{self, set, values, AREA, KINDS, LENGTHS, STOP};
+use crate::differential::random::Random;
+
+/// Cut anywhere, one to three bytes too many, or a length that is no length.
+pub fn frames(random: &mut Random, draft: &mut Draft) {
+    let length = draft.case.tariff.len();
+    match random.below(4) {
+        0 => draft.case.tariff.truncate(random.index(length + 1)),
+        1 => draft.case.tariff.truncate(length.saturating_sub(random.index(5))),
+        2 => draft.case.tariff.resize(length + 1 + random.index(4), random.pick(&[0, 1, 2, 11, 27, 255])),
+        _ => {
+            let (record, ..) = some_record(random, draft);
+            let any = random.below(65_536);
+            let value = random.pick(&[0, 1, 1_025, 1_026, 65_535, any]);
+            set(&mut draft.case.tariff, record, &LENGTHS, value);
+        }
+    }
+}
+
+/// Another kind, a body that is too short or too long, another order, too many, or none.
+pub fn shape(random: &mut Random, draft: &mut Draft) {
+    let (areas, stops) = (draft.areas, draft.stops);
+    let tariff = &mut draft.case.tariff;
+    let stops_start = (AREA * areas).min(tariff.len());
+    match random.below(9) {
+        0 => {
+            let (record, ..) = some_record(random, draft);
+            let kind = random.pick(KINDS.edges);
+            set(&mut draft.case.tariff, record, &KINDS, kind);
+        }
+        1 | 2 => resized_record(random, draft),
+        3 => tariff.clear(),
+        4 => {
+            // A stop first, or the stops alone.
+            let first = random.index(areas) * AREA;
+            tariff.drain(..(if random.chance(50) { stops_start } else { first }).min(stops_start));
+        }
+        5 => {
+            // An area, or part of one, after the stops.
+            let area = tariff[..AREA.min(tariff.len())].to_vec();
+            tariff.extend(area);
+        }
+        6 => {
+            // A stop between the areas.
+            let stop = tariff[stops_start..(stops_start + STOP).min(tariff.len())].to_vec();
+            let place = (AREA * random.index(areas + 1)).min(tariff.len());
+            tariff.splice(place..place, stop);
+        }
+        7 => repeat(tariff, stops_start.saturating_sub(AREA), AREA, random.within(32, 34) as usize - areas.min(32)),
+        _ => {
+            let last = tariff.len().saturating_sub(STOP).max(stops_start);
+            repeat(tariff, last, STOP, random.within(1_000, 1_001) as usize - stops.min(1_000));
+        }
+    }
+}
+
+/// A record whose frame is whole, with a body that is some bytes too short or too long.
+fn resized_record(random: &mut Random, draft: &mut Draft) {
+    let (record, size, _) = some_record(random, draft);
+    let tariff = &mut draft.case.tariff;
+    if record + size > tariff.len() {
+        return;
+    }
+    if random.chance(50) {
+        let less = 1 + random.index(size - 4);
+        tariff.drain(record + size - less..record + size);
+        set(tariff, record, &LENGTHS, (size - 2 - less) as u64);
+    } else {
+        let more = random.pick(&[1, 1, 2, STOP, AREA, 1_024 - (size - 2)]);
+        tariff.splice(record + size..record + size, vec![0; more]);
+        set(tariff, record, &LENGTHS, (size - 2 + more) as u64);
+    }
+}
+
+/// Puts the `size` bytes at `place` in `times` more times.
+fn repeat(tariff: &mut Vec<u8>, place: usize, size: usize, times: usize) {
+    let record = tariff[place..(place + size).min(tariff.len())].to_vec();
+    tariff.splice(place..place, record.repeat(times));
+}
+
+/// A field of an area or a stop at an edge, but for length and kind.
+pub fn value(random: &mut Random, draft: &mut Draft) {
+    let (record, _, all) = some_record(random, draft);
+    let field = &all[2 + random.index(all.len() - 2)];
+    let present = fields::value(&draft.case.tariff, record, field).unwrap_or(0);
+    let value = random.pick(&values(field, present, &[draft.areas, record / AREA]));
+    set(&mut draft.case.tariff, record, field, value);
+}

@@ -1,0 +1,80 @@
+//! Damage to the trip: refusals 5 to 9.
+
+use crate::differential::cases::Draft;
+use crate::differential::fields::{set, stop_field, value, values, Field};
+use crate::differential::fields::{COUNT_FIELDS, KINDS, LENGTHS, NUMBER_OF_STOPS, STAMP_FIELDS, TRIP_HEAD};
+use crate::differential::random::Random;
+use crate::differential::trips::{stamp, DAY};
+
+/// Cut, too long, of another kind, or with a length or a number of stops that do not fit.
+pub fn shape(random: &mut Random, draft: &mut Draft) {
+    let trip = &mut draft.case.trip;
+    match random.below(6) {
+        0 => trip.truncate(random.index(trip.len() + 1)),
+        1 => trip.extend([3, 0, 2, 0][..1 + random.index(4)].iter()),
+        2 => set(trip, 0, &KINDS, random.pick(KINDS.edges)),
+        3 => at_an_edge(random, trip, &LENGTHS, 0),
+        4 => at_an_edge(random, trip, &NUMBER_OF_STOPS, 0),
+        _ => {
+            // A whole frame with a body of any length.
+            let body = random.pick(&[0, 1, 17, 18, 19, 21, 1_022]);
+            trip.resize(4 + body, 2);
+            set(trip, 0, &LENGTHS, 2 + body as u64);
+        }
+    }
+}
+
+/// A count at an edge, or a number of stops that its length fits.
+pub fn counts(random: &mut Random, draft: &mut Draft) {
+    let trip = &mut draft.case.trip;
+    if random.chance(70) {
+        let field = &COUNT_FIELDS[random.index(COUNT_FIELDS.len())];
+        at_an_edge(random, trip, field, 0);
+    } else {
+        let stops = random.pick(&[0, 1, 2, 32, 33, 33, 34, 255]);
+        trip.resize(TRIP_HEAD + 2 * stops, 0);
+        set(trip, 0, &LENGTHS, (TRIP_HEAD - 2 + 2 * stops) as u64);
+        set(trip, 0, &NUMBER_OF_STOPS, stops as u64);
+    }
+}
+
+/// A stop number at the end of the tariff's, or past it.
+pub fn stops(random: &mut Random, draft: &mut Draft) {
+    let field = stop_field(random.index(draft.plan.stops.len()));
+    let stops = draft.stops as u64;
+    let number = random.pick(&[stops.saturating_sub(1), stops, stops, stops, stops + 1, 1_000, 65_535]);
+    set(&mut draft.case.trip, 0, &field, number);
+}
+
+/// A field of a stamp at an edge, or a date around the end of a month.
+pub fn stamps(random: &mut Random, draft: &mut Draft) {
+    let trip = &mut draft.case.trip;
+    if random.chance(60) {
+        let field = &STAMP_FIELDS[random.index(STAMP_FIELDS.len())];
+        at_an_edge(random, trip, field, 0);
+    } else {
+        let both = random.pick(&[&STAMP_FIELDS[..5], &STAMP_FIELDS[5..]]);
+        set(trip, 0, &both[0], random.pick(&[2000, 2001, 2003, 2004, 2096, 2099, 2100]));
+        set(trip, 0, &both[1], random.within(1, 12));
+        set(trip, 0, &both[2], random.within(28, 31));
+    }
+}
+
+/// A check-out a minute too early, a minute too late, or just inside.
+pub fn duration(random: &mut Random, draft: &mut Draft) {
+    let (check_in, check_out) = match random.below(6) {
+        0..2 => (draft.plan.check_in + 1, draft.plan.check_in),
+        2 => (draft.plan.check_in + random.within(0, 3 * DAY), draft.plan.check_out),
+        3 => (draft.plan.check_in, draft.plan.check_in + DAY),
+        _ => (draft.plan.check_in, draft.plan.check_in + DAY + random.pick(&[1, 1, 1, 2, DAY, 525_600])),
+    };
+    if let Some(stamps) = draft.case.trip.get_mut(4..16) {
+        stamps[..6].copy_from_slice(&stamp(check_in));
+        stamps[6..].copy_from_slice(&stamp(check_out));
+    }
+}
+
+fn at_an_edge(random: &mut Random, trip: &mut [u8], field: &Field, record: usize) {
+    let present = value(trip, record, field).unwrap_or(0);
+    set(trip, record, field, random.pick(&values(field, present, &[])));
+}

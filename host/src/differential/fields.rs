@@ -1,0 +1,116 @@
+//! Where each field of a record stands, and the values just inside and just outside its range.
+
+use crate::numbers::number;
+
+/// Bytes of an area record, of a stop record, and of a trip record before its stops.
+pub const AREA: usize = 29;
+pub const STOP: usize = 13;
+pub const TRIP_HEAD: usize = 22;
+
+/// A field of a record, counted from the record's first byte.
+pub struct Field {
+    pub place: usize,
+    pub width: usize,
+    /// Just inside and just outside, and the ends of what fits in the width.
+    pub edges: &'static [u64],
+}
+
+const fn field(place: usize, width: usize, edges: &'static [u64]) -> Field {
+    Field { place, width, edges }
+}
+
+pub const LENGTHS: Field = field(0, 2, &[0, 1, 2, 3, 11, 27, 1_023, 1_024, 1_025, 65_535]);
+pub const KINDS: Field = field(2, 2, &[0, 1, 2, 3, 4, 5, 256, 257, 258, 259, 65_535]);
+
+const PERCENTAGE: &[u64] = &[0, 1, 99, 100, 101, 255];
+const MINUTES: &[u64] = &[0, 29, 30, 31, 1_439, 1_440, 1_441, 65_535];
+const MONEY: &[u64] = &[0, 1, 59_999, 60_000, 60_001, 65_534, 65_535];
+const MONEY_OR_MINUTES: &[u64] = &[0, 1, 29, 30, 1_440, 1_441, 60_000, 60_001, 65_535];
+const METRES: &[u64] = &[0, 1, 999_999, 1_000_000, 1_000_001, 2_147_483_648, 4_294_967_295];
+
+pub static AREA_FIELDS: [Field; 17] = [
+    LENGTHS,
+    KINDS,
+    field(4, 1, &[0, 1, 2, 3, 255]),
+    field(5, 1, &[0, 1, 2, 31, 32, 255]),
+    field(6, 2, &[0, 1, 9_999, 10_000, 10_001, 65_535]),
+    field(8, 2, &[0, 1, 999, 1_000, 1_001, 65_535]),
+    field(10, 2, MINUTES),
+    field(12, 1, PERCENTAGE),
+    field(13, 1, PERCENTAGE),
+    field(14, 1, &[0, 1, 2, 3, 255]),
+    field(15, 2, MONEY),
+    field(17, 2, MONEY_OR_MINUTES),
+    field(19, 2, MONEY),
+    field(21, 2, MONEY),
+    field(23, 2, MONEY),
+    field(25, 2, MONEY),
+    field(27, 2, MONEY),
+];
+
+pub static STOP_FIELDS: [Field; 5] =
+    [LENGTHS, KINDS, field(4, 1, &[0, 1, 31, 32, 255]), field(5, 4, METRES), field(9, 4, METRES)];
+
+const YEAR: &[u64] = &[0, 1_999, 2_000, 2_001, 2_024, 2_025, 2_096, 2_098, 2_099, 2_100, 65_535];
+const MONTH: &[u64] = &[0, 1, 2, 3, 4, 6, 9, 11, 12, 13, 255];
+const DAY: &[u64] = &[0, 1, 28, 29, 30, 31, 32, 255];
+const HOUR: &[u64] = &[0, 1, 22, 23, 24, 255];
+const MINUTE: &[u64] = &[0, 1, 58, 59, 60, 255];
+const CARRIED: &[u64] = &[0, 1, 9, 10, 11, 255];
+
+/// Those of both stamps.
+pub static STAMP_FIELDS: [Field; 10] = [
+    field(4, 2, YEAR),
+    field(6, 1, MONTH),
+    field(7, 1, DAY),
+    field(8, 1, HOUR),
+    field(9, 1, MINUTE),
+    field(10, 2, YEAR),
+    field(12, 1, MONTH),
+    field(13, 1, DAY),
+    field(14, 1, HOUR),
+    field(15, 1, MINUTE),
+];
+
+/// Class, ticket level, adults, children and bicycles.
+pub static COUNT_FIELDS: [Field; 5] = [
+    field(16, 1, &[0, 1, 2, 3, 255]),
+    field(17, 1, &[0, 1, 2, 3, 4, 5, 6, 255]),
+    field(18, 1, CARRIED),
+    field(19, 1, CARRIED),
+    field(20, 1, CARRIED),
+];
+
+pub const NUMBER_OF_STOPS: Field = field(21, 1, &[0, 1, 2, 3, 31, 32, 33, 127, 255]);
+
+/// The field of a trip's stop.
+pub fn stop_field(stop: usize) -> Field {
+    field(TRIP_HEAD + 2 * stop, 2, &[0, 1, 255, 256, 999, 1_000, 65_535])
+}
+
+/// The value of a field of the record at `record`; nothing where it lies outside the bytes.
+pub fn value(bytes: &[u8], record: usize, field: &Field) -> Option<u64> {
+    let place = record + field.place;
+    bytes.get(place..place + field.width).map(number)
+}
+
+/// Sets a field of the record at `record`, unless it lies outside the bytes. A number that is too large is cut.
+pub fn set(bytes: &mut [u8], record: usize, field: &Field, value: u64) {
+    let place = record + field.place;
+    if let Some(found) = bytes.get_mut(place..place + field.width) {
+        found.copy_from_slice(&value.to_le_bytes()[..field.width]);
+    }
+}
+
+/// The values to try: the edges, the neighbours of the present value, and the neighbours of these counts.
+pub fn values(field: &Field, present: u64, counts: &[usize]) -> Vec<u64> {
+    let largest = (1 << (8 * field.width)) - 1;
+    let mut values = field.edges.to_vec();
+    for near in counts.iter().map(|&count| count as u64).chain([present]) {
+        values.extend([near.wrapping_sub(1), near, near + 1]);
+    }
+    values.retain(|&value| value <= largest);
+    values.sort_unstable();
+    values.dedup();
+    values
+}

@@ -1,0 +1,162 @@
+//! One good case, and all that lie one step away from it: each field at each of its edges, each bit flipped, each cut,
+//! each word of the book a little off, each length of the statement.
+
+use super::books::{fresh, set_word, word, BICYCLES, WORDS};
+use super::cases::Case;
+use super::fields::{set, stop_field, value, values, Field, AREA, AREA_FIELDS, COUNT_FIELDS};
+use super::fields::{KINDS, LENGTHS, NUMBER_OF_STOPS, STAMP_FIELDS, STOP, STOP_FIELDS};
+use super::random::Random;
+use super::run::{Difference, Run};
+use super::tariffs::ordinary_tariff;
+use super::trips::{plan, start, Plan};
+use crate::model::read_tariff;
+
+const AREAS: usize = 5;
+const STOPS: usize = 12;
+const TRIPS_BEFORE: usize = 6;
+
+pub fn sweep(random: &mut Random, run: &mut Run) -> Result<(), Difference> {
+    let good = good_case(random, run)?;
+    tariff_fields(run, &good)?;
+    trip_fields(run, &good)?;
+    bits_and_cuts(run, &good, |case| &mut case.tariff, "tariff")?;
+    bits_and_cuts(run, &good, |case| &mut case.trip, "trip")?;
+    book_words(run, &good)?;
+    book_lengths(run, &good)?;
+    statement_lengths(run, &good)?;
+    month_ends(run, &good)
+}
+
+/// A trip with some of everything, after a few others on the same book.
+fn good_case(random: &mut Random, run: &mut Run) -> Result<Case, Difference> {
+    let bytes = ordinary_tariff(random, AREAS, STOPS);
+    let tariff = read_tariff(&bytes).expect("the makers of tariffs make no faults");
+    let (mut book, now) = (fresh(), start(random) / 2);
+    for _ in 0..TRIPS_BEFORE {
+        let plan = Plan { party: [2, 2, 2], ..plan(random, &tariff, &book, now) };
+        let case = case_of(&bytes, &book, &plan);
+        book = run.check(&case)?.book;
+    }
+    let plan = Plan { party: [1, 2, 3], ..plan(random, &tariff, &book, now) };
+    Ok(case_of(&bytes, &book, &plan))
+}
+
+fn case_of(tariff: &[u8], book: &[u8], plan: &Plan) -> Case {
+    let (tariff, book, trip) = (tariff.to_vec(), book.to_vec(), plan.bytes());
+    Case { tariff, book, trip, room: plan.record_bytes(), story: vec!["the good case of a sweep"] }
+}
+
+/// The good case with one change.
+fn check_with(
+    run: &mut Run,
+    good: &Case,
+    story: &'static str,
+    change: impl FnOnce(&mut Case),
+) -> Result<(), Difference> {
+    let mut case = good.clone();
+    change(&mut case);
+    case.story.push(story);
+    run.check(&case).map(drop)
+}
+
+fn tariff_fields(run: &mut Run, good: &Case) -> Result<(), Difference> {
+    let areas = (0..AREAS).map(|area| (area, AREA * area, &AREA_FIELDS[..]));
+    let stops = (0..STOPS).map(|stop| (0, AREA * AREAS + STOP * stop, &STOP_FIELDS[..]));
+    for (number, record, fields) in areas.chain(stops) {
+        for field in fields {
+            let present = value(&good.tariff, record, field).expect("a field of the tariff");
+            for value in values(field, present, &[AREAS, number]) {
+                let change = |case: &mut Case| set(&mut case.tariff, record, field, value);
+                check_with(run, good, "a field of the tariff at an edge", change)?;
+            }
+        }
+    }
+    Ok(())
+}
+
+fn trip_fields(run: &mut Run, good: &Case) -> Result<(), Difference> {
+    let stops = value(&good.trip, 0, &NUMBER_OF_STOPS).expect("a number of stops") as usize;
+    let heads = [LENGTHS, KINDS, NUMBER_OF_STOPS];
+    let of_stops: Vec<Field> = (0..stops).map(stop_field).collect();
+    for field in heads.iter().chain(&STAMP_FIELDS).chain(&COUNT_FIELDS).chain(&of_stops) {
+        let present = value(&good.trip, 0, field).expect("a field of the trip");
+        for value in values(field, present, &[STOPS]) {
+            let change = |case: &mut Case| set(&mut case.trip, 0, field, value);
+            check_with(run, good, "a field of the trip at an edge", change)?;
+        }
+    }
+    Ok(())
+}
+
+fn bits_and_cuts(
+    run: &mut Run,
+    good: &Case,
+    slice: fn(&mut Case) -> &mut Vec<u8>,
+    what: &'static str,
+) -> Result<(), Difference> {
+    let length = slice(&mut good.clone()).len();
+    for place in 0..length {
+        for bit in 0..8 {
+            check_with(run, good, "a bit flipped", |case| slice(case)[place] ^= 1 << bit)?;
+        }
+        check_with(run, good, "cut", |case| slice(case).truncate(place))?;
+    }
+    for more in 1..=STOP + AREA {
+        // Zeros, and the same bytes once more.
+        check_with(run, good, what, |case| slice(case).resize(length + more, 0))?;
+        check_with(run, good, what, |case| {
+            let again: Vec<u8> = slice(case).iter().copied().cycle().take(more).collect();
+            slice(case).extend(again);
+        })?;
+    }
+    Ok(())
+}
+
+fn book_words(run: &mut Run, good: &Case) -> Result<(), Difference> {
+    for place in 0..WORDS {
+        let present = word(&good.book, place);
+        let mut tried = vec![0, 1, present.saturating_sub(1), present + 1, u64::from(u32::MAX)];
+        if place < 3 {
+            tried.extend([255, 256, 257, present + 1_440, present + 1_441, 52_595_999, 52_596_000]);
+        }
+        if place >= BICYCLES {
+            tried.extend([AREAS as u64, AREAS as u64 + 1, 32, 33]);
+        }
+        for value in tried {
+            check_with(run, good, "a word of the book", |case| set_word(&mut case.book, place, value))?;
+        }
+    }
+    Ok(())
+}
+
+fn book_lengths(run: &mut Run, good: &Case) -> Result<(), Difference> {
+    for length in (0..12).chain(5_416..5_440) {
+        check_with(run, good, "a book of another length", |case| case.book.resize(length, 0))?;
+    }
+    Ok(())
+}
+
+fn statement_lengths(run: &mut Run, good: &Case) -> Result<(), Difference> {
+    for length in 0..2 * good.room + 4 {
+        check_with(run, good, "a statement of another length", |case| case.room = length)?;
+    }
+    Ok(())
+}
+
+/// The last days of every month of the century, and those that a month lacks, on a fresh book.
+fn month_ends(run: &mut Run, good: &Case) -> Result<(), Difference> {
+    for (year, month) in (2_000..2_100).flat_map(|year| (1..=12).map(move |month| (year, month))) {
+        for day in 28..=31 {
+            let change = |case: &mut Case| {
+                case.book = fresh();
+                for stamp in STAMP_FIELDS.chunks(5) {
+                    for (field, value) in stamp.iter().zip([year, month, day, 23, 59]) {
+                        set(&mut case.trip, 0, field, value);
+                    }
+                }
+            };
+            check_with(run, good, "the end of a month", change)?;
+        }
+    }
+    Ok(())
+}

@@ -1,0 +1,212 @@
+//! Faultless tariffs of all sorts.
+
+use super::fields::{AREA, STOP};
+use super::random::Random;
+use crate::numbers::put;
+
+/// The day cap that means none.
+const NONE: u64 = 65_535;
+
+/// An area's numbers as the record holds them.
+struct Area {
+    level: u64,
+    parent: usize,
+    base: u64,
+    km: u64,
+    validity: u64,
+    first: u64,
+    child: u64,
+    sort: u64,
+    trip_cap: [u64; 5],
+    day_cap: u64,
+    flat: u64,
+}
+
+/// How a tariff's numbers are chosen.
+#[derive(Clone, Copy)]
+enum Numbers {
+    /// As in the published papers, with caps that a few trips reach.
+    Ordinary,
+    /// Anywhere in their ranges.
+    Wide,
+    /// At the ends of their ranges.
+    Ends,
+}
+
+/// A faultless tariff: most are small, a few are as large as can be.
+pub fn tariff(random: &mut Random) -> Vec<u8> {
+    let areas = match random.below(100) {
+        0..6 => 1,
+        6..12 => 2,
+        12..95 => random.within(3, 9),
+        95..98 => random.within(10, 31),
+        _ => 32,
+    };
+    let stops = match random.below(100) {
+        0 => 0,
+        1..3 => 1,
+        3..97 => random.within(2 * areas, 4 * areas + 4),
+        97..99 => random.within(100, 300),
+        _ => 1_000,
+    };
+    let numbers = match random.below(100) {
+        0..76 => Numbers::Ordinary,
+        76..88 => Numbers::Wide,
+        _ => Numbers::Ends,
+    };
+    tariff_with(random, areas as usize, stops as usize, numbers)
+}
+
+/// An ordinary tariff with this many areas and stops.
+pub fn ordinary_tariff(random: &mut Random, areas: usize, stops: usize) -> Vec<u8> {
+    tariff_with(random, areas, stops, Numbers::Ordinary)
+}
+
+fn tariff_with(random: &mut Random, areas: usize, stops: usize, numbers: Numbers) -> Vec<u8> {
+    let mut bytes = Vec::with_capacity(AREA * areas + STOP * stops);
+    let mut earlier: Vec<Area> = Vec::new();
+    for _ in 0..areas {
+        let area = next_area(random, &earlier, numbers);
+        put_area(&mut bytes, &area);
+        earlier.push(area);
+    }
+    let mut last = [500_000, 500_000];
+    for _ in 0..stops {
+        last = next_position(random, last);
+        put_stop(&mut bytes, random.below(areas as u64), last);
+    }
+    bytes
+}
+
+fn next_area(random: &mut Random, earlier: &[Area], numbers: Numbers) -> Area {
+    let regions: Vec<usize> = (0..earlier.len()).filter(|&area| earlier[area].level == 1).collect();
+    let (level, parent) = if earlier.is_empty() {
+        (0, 0)
+    } else if regions.is_empty() || random.chance(30) {
+        (1, 0)
+    } else {
+        (2, random.pick(&regions))
+    };
+    let most = earlier.get(parent).map_or(60_000, |above| above.flat);
+    let (sort, trip_cap) = trip_cap(random, numbers);
+    Area {
+        level,
+        parent,
+        base: money(random, numbers, 60, 300, 10_000),
+        km: money(random, numbers, 2, 40, 1_000),
+        validity: minutes(random, numbers),
+        first: percentage(random, numbers),
+        child: percentage(random, numbers),
+        sort,
+        trip_cap,
+        day_cap: day_cap(random, numbers, level),
+        flat: money(random, numbers, 100, 600, 60_000).min(most),
+    }
+}
+
+/// An amount of up to `most`; an ordinary one is from `low` to `high`.
+fn money(random: &mut Random, numbers: Numbers, low: u64, high: u64, most: u64) -> u64 {
+    match numbers {
+        Numbers::Ordinary => random.within(low, high),
+        Numbers::Wide => random.within(0, most),
+        Numbers::Ends => random.pick(&[0, 1, most - 1, most, most]),
+    }
+}
+
+fn minutes(random: &mut Random, numbers: Numbers) -> u64 {
+    match numbers {
+        Numbers::Ordinary => random.pick(&[30, 60, 90, 90, 240, 360]),
+        Numbers::Wide => random.within(30, 1_440),
+        Numbers::Ends => random.pick(&[30, 31, 1_439, 1_440]),
+    }
+}
+
+fn percentage(random: &mut Random, numbers: Numbers) -> u64 {
+    match numbers {
+        Numbers::Ordinary => random.pick(&[50, 50, 50, 33, 25, 60, 0]),
+        Numbers::Wide => random.within(0, 100),
+        Numbers::Ends => random.pick(&[0, 1, 99, 100]),
+    }
+}
+
+fn trip_cap(random: &mut Random, numbers: Numbers) -> (u64, [u64; 5]) {
+    let mut amounts = [0; 5];
+    let sort = random.below(3);
+    if sort == 1 {
+        amounts[0] = money(random, numbers, 100, 400, 60_000);
+        amounts[1] = minutes(random, numbers);
+    }
+    if sort == 2 {
+        amounts = amounts.map(|_| money(random, numbers, 150, 1_500, 60_000));
+    }
+    (sort, amounts)
+}
+
+/// None, or one that a few ordinary trips reach; at times a larger area has a smaller one than those within it.
+fn day_cap(random: &mut Random, numbers: Numbers, level: u64) -> u64 {
+    if random.chance(20) {
+        return NONE;
+    }
+    match (numbers, level) {
+        (Numbers::Ordinary, _) if random.chance(15) => random.within(0, 2_500),
+        (Numbers::Ordinary, 0) => random.within(1_200, 4_000),
+        (Numbers::Ordinary, 1) => random.within(700, 3_000),
+        _ => money(random, numbers, 250, 900, 60_000),
+    }
+}
+
+/// Near by, an exact number of kilometres from the last one but for a metre, or at an end of the plane.
+fn next_position(random: &mut Random, last: [u64; 2]) -> [u64; 2] {
+    match random.below(10) {
+        0..6 => [random.within(480_000, 520_000), random.within(480_000, 520_000)],
+        6..9 => {
+            let [dx, dy] = random.pick(&[[1_000, 0], [0, 1_000], [3_000, 4_000], [5_000, 12_000], [8_000, 6_000]]);
+            let times = random.pick(&[0, 1, 1, 2, 3]);
+            let metre = random.pick(&[0, 0, 1]);
+            [(last[0] + times * dx + metre).min(1_000_000), (last[1] + times * dy).min(1_000_000)]
+        }
+        _ => [random.pick(&[0, 1, 999_999, 1_000_000]), random.pick(&[0, 1, 999_999, 1_000_000])],
+    }
+}
+
+fn put_area(bytes: &mut Vec<u8>, area: &Area) {
+    put(bytes, 2, 27);
+    put(bytes, 2, 1);
+    put(bytes, 1, area.level);
+    put(bytes, 1, area.parent as u64);
+    put(bytes, 2, area.base);
+    put(bytes, 2, area.km);
+    put(bytes, 2, area.validity);
+    put(bytes, 1, area.first);
+    put(bytes, 1, area.child);
+    put(bytes, 1, area.sort);
+    for amount in area.trip_cap {
+        put(bytes, 2, amount);
+    }
+    put(bytes, 2, area.day_cap);
+    put(bytes, 2, area.flat);
+}
+
+fn put_stop(bytes: &mut Vec<u8>, area: u64, [x, y]: [u64; 2]) {
+    put(bytes, 2, 11);
+    put(bytes, 2, 2);
+    put(bytes, 1, area);
+    put(bytes, 4, x);
+    put(bytes, 4, y);
+}
+
+#[cfg(test)]
+mod tests {
+    use super::*;
+    use crate::model::read_tariff;
+
+    #[test]
+    fn every_one_is_faultless() {
+        let mut random = Random::of(1, 0);
+        for _ in 0..2_000 {
+            let bytes = tariff(&mut random);
+            let read = read_tariff(&bytes).expect("a faultless tariff");
+            assert_eq!(bytes.len(), AREA * read.areas.len() + STOP * read.stops.len());
+        }
+    }
+}

@@ -1,0 +1,190 @@
+//! Trips that fit a tariff and a book, so that most of them are accepted.
+
+use super::books::{word, LAST_CHECK_OUT, OPENING, TRIPS};
+use super::fields::TRIP_HEAD;
+use super::random::Random;
+use crate::model::tariff::{Tariff, TripCap};
+use crate::numbers::put;
+
+pub const DAY: u64 = 1_440;
+/// 2099-12-31 23:59.
+pub const LAST_MINUTE: u64 = 52_595_999;
+
+/// What a trip record is made of. The minutes may lie outside 2000 to 2099.
+#[derive(Clone, Debug)]
+pub struct Plan {
+    pub check_in: u64,
+    pub check_out: u64,
+    pub class: u64,
+    pub level: u64,
+    /// Adults, children, bicycles.
+    pub party: [u64; 3],
+    pub stops: Vec<usize>,
+}
+
+impl Plan {
+    pub fn bytes(&self) -> Vec<u8> {
+        let mut bytes = Vec::with_capacity(TRIP_HEAD + 2 * self.stops.len());
+        put(&mut bytes, 2, (TRIP_HEAD - 2 + 2 * self.stops.len()) as u64);
+        put(&mut bytes, 2, 3);
+        bytes.extend(stamp(self.check_in));
+        bytes.extend(stamp(self.check_out));
+        put(&mut bytes, 1, self.class);
+        put(&mut bytes, 1, self.level);
+        for carried in self.party {
+            put(&mut bytes, 1, carried);
+        }
+        put(&mut bytes, 1, self.stops.len() as u64);
+        for &stop in &self.stops {
+            put(&mut bytes, 2, stop as u64);
+        }
+        bytes
+    }
+
+    /// The bytes of its charge record.
+    pub fn record_bytes(&self) -> usize {
+        17 + 4 * self.party.iter().sum::<u64>() as usize
+    }
+}
+
+/// The six bytes of the stamp of a minute since 2000-01-01 00:00.
+pub fn stamp(minute: u64) -> [u8; 6] {
+    let (mut year, mut month, mut days) = (2000, 1, minute / DAY);
+    while days >= days_in_year(year) {
+        days -= days_in_year(year);
+        year += 1;
+    }
+    while days >= days_in_month(year, month) {
+        days -= days_in_month(year, month);
+        month += 1;
+    }
+    let [low, high] = (year as u16).to_le_bytes();
+    [low, high, month as u8, days as u8 + 1, (minute % DAY / 60) as u8, (minute % 60) as u8]
+}
+
+fn days_in_year(year: u64) -> u64 {
+    if year.is_multiple_of(4) {
+        366
+    } else {
+        365
+    }
+}
+
+fn days_in_month(year: u64, month: u64) -> u64 {
+    match month {
+        2 => days_in_year(year) - 337,
+        4 | 6 | 9 | 11 => 30,
+        _ => 31,
+    }
+}
+
+/// A minute at which to start a chain of trips: at times shortly before the end of a month, or at an end of the century.
+pub fn start(random: &mut Random) -> u64 {
+    match random.below(20) {
+        0 => random.below(10),
+        1 => LAST_MINUTE - random.below(4 * DAY),
+        2..8 => {
+            let months = random.below(1_200);
+            let days: u64 = (0..=months).map(|month| days_in_month(2000 + month / 12, 1 + month % 12)).sum();
+            days * DAY - 1 - random.below(400)
+        }
+        _ => random.below(LAST_MINUTE),
+    }
+}
+
+/// A trip that comes after the book's last one; `now` is the minute where the book has none.
+pub fn plan(random: &mut Random, tariff: &Tariff, book: &[u8], now: u64) -> Plan {
+    let stops = stops(random, tariff);
+    let areas: Vec<usize> = stops.iter().filter_map(|&stop| Some(tariff.stops.get(stop)?.area)).collect();
+    let area = &tariff.areas[if areas.is_empty() { 0 } else { tariff.smallest_containing(&areas) }];
+    let duration = match (random.below(20), &area.trip_cap) {
+        (0..2, _) => {
+            let periods = random.pick(&[1, 1, 2, 3]);
+            near(random, area.base_validity * periods)
+        }
+        (2..4, &TripCap::Flat { minutes, .. }) => near(random, minutes),
+        (4, _) => random.pick(&[0, 1, DAY - 1, DAY]),
+        (5, _) => random.within(0, DAY),
+        _ => random.within(0, 100),
+    };
+    let duration = duration.min(DAY);
+    let check_in = check_in(random, book, now, duration);
+    Plan {
+        check_in,
+        check_out: check_in + duration,
+        class: random.pick(&[1, 2, 2]),
+        level: random.pick(&[0, 0, 1, 2, 3, 4, 5]),
+        party: party(random),
+        stops,
+    }
+}
+
+/// After the last check-out: at once, soon, later, or so that the trip ends where the window does.
+fn check_in(random: &mut Random, book: &[u8], now: u64, duration: u64) -> u64 {
+    if word(book, TRIPS) == 0 {
+        return now;
+    }
+    let last = word(book, LAST_CHECK_OUT);
+    let window_end = word(book, OPENING) + DAY;
+    match random.below(20) {
+        0..2 => last,
+        2..4 if window_end > last + duration => near(random, window_end - duration).max(last),
+        4 => last + random.within(0, 3 * DAY),
+        _ => last + random.within(0, 90),
+    }
+}
+
+fn near(random: &mut Random, minute: u64) -> u64 {
+    (minute + random.below(3)).saturating_sub(1)
+}
+
+/// Mostly alone or few; at times as many as there may be.
+fn party(random: &mut Random) -> [u64; 3] {
+    match random.below(20) {
+        0..8 => [0; 3],
+        8 => [10; 3],
+        9 => [0; 3].map(|_| random.within(0, 10)),
+        _ => [0; 3].map(|_| random.pick(&[0, 0, 1, 1, 2])),
+    }
+}
+
+/// Two or more stops, mostly all in one area or within it. A tariff without stops lacks them.
+fn stops(random: &mut Random, tariff: &Tariff) -> Vec<usize> {
+    if tariff.stops.is_empty() {
+        return vec![0, 0];
+    }
+    let home = tariff.stops[random.index(tariff.stops.len())].area;
+    let within = match random.below(10) {
+        0..6 => home,
+        6..9 => tariff.areas[home].parent,
+        _ => 0,
+    };
+    let possible: Vec<usize> =
+        (0..tariff.stops.len()).filter(|&stop| tariff.contains(within, tariff.stops[stop].area)).collect();
+    let many = match random.below(20) {
+        0 => 32,
+        1..3 => random.within(2, 32),
+        _ => random.pick(&[2, 2, 2, 3, 4]),
+    };
+    (0..many).map(|_| random.pick(&possible)).collect()
+}
+
+#[cfg(test)]
+mod tests {
+    use super::*;
+    use crate::model::trip::Trip;
+
+    #[test]
+    fn stamps_are_those_of_their_minutes() {
+        let mut random = Random::of(1, 0);
+        let some = [0, 1, 1_439, 1_440, LAST_MINUTE - 1_440, LAST_MINUTE];
+        for minute in some.into_iter().chain((0..5_000).map(|_| start(&mut random))) {
+            let plan =
+                Plan { check_in: minute, check_out: minute, class: 1, level: 0, party: [0; 3], stops: vec![0, 0] };
+            let trip = Trip::read(&plan.bytes()).expect("a trip");
+            assert_eq!(trip.check_in.minute_number(), Some(minute));
+            assert_eq!(trip.check_out.minute_number(), Some(minute));
+        }
+        assert_eq!(stamp(LAST_MINUTE + 1)[..4], [0x34, 0x08, 1, 1], "2100-01-01");
+    }
+}

@@ -1,0 +1,67 @@
+//! `c/expected.txt` is what the model makes of the sample, in the words of `c/night.c`.
+
+use milecopper_host::maker::bytes_of;
+use milecopper_host::model::book::BOOK_BYTES;
+use milecopper_host::model::charge::ChargeRecord;
+use milecopper_host::model::record::record_at;
+use milecopper_host::model::settle;
+use milecopper_host::model::trip::Trip;
+
+fn euro(cents: u64) -> String {
+    format!("{}.{:02} euro", cents / 100, cents % 100)
+}
+
+/// The sentence about an accepted trip.
+fn accepted(number: usize, trip: &Trip, record: &ChargeRecord) -> String {
+    let ChargeRecord { area, km, minutes, charges, .. } = record;
+    let mut text =
+        format!("Trip {number}, {km} km and {minutes} minutes in area {area}, costs {}", euro(record.total()));
+    let adults = (1..=trip.adults).map(|i| format!("adult {i}"));
+    let children = (1..=trip.children).map(|i| format!("child {i}"));
+    let bicycles = (1..=trip.bicycles).map(|i| format!("bicycle {i}"));
+    let whom: Vec<String> =
+        [String::from("the account holder")].into_iter().chain(adults).chain(children).chain(bicycles).collect();
+    assert_eq!(whom.len(), charges.len());
+    if charges.len() > 1 {
+        let parts: Vec<String> =
+            charges.iter().zip(whom).map(|(&cents, who)| format!("{} for {who}", euro(cents))).collect();
+        text += &format!(": {}", parts.join(", "));
+    }
+    text + ".\n"
+}
+
+#[test]
+fn the_night_of_the_sample() {
+    let tariff = bytes_of(include_str!("../../samples/tariff.txt")).expect("a tariff");
+    let roll = bytes_of(include_str!("../../samples/roll.txt")).expect("a roll");
+    let mut book = vec![0; BOOK_BYTES];
+    let mut text = String::new();
+    let (mut number, mut place, mut opening) = (0, 0, None);
+    let (mut yes, mut no, mut cents) = (0, 0, 0);
+    while place < roll.len() {
+        let trip = &roll[place..place + record_at(&roll, place).expect("a whole record").size()];
+        place += trip.len();
+        number += 1;
+        let mut statement = [0; 137];
+        match settle(&tariff, &mut book, trip, &mut statement) {
+            Ok(written) => {
+                let record = ChargeRecord::read(&statement[..written]).expect("a charge record");
+                if opening != Some(record.opening) {
+                    text += &format!("A window opens at minute {}.\n", record.opening);
+                }
+                text += &accepted(number, &Trip::read(trip).expect("a trip"), &record);
+                opening = Some(record.opening);
+                yes += 1;
+                cents += record.total();
+            }
+            Err(refusal) => {
+                assert_eq!(refusal.number, 10, "the sample has no other refusal");
+                text +=
+                    &format!("Trip {number} is refused (10). The trip starts before this account's last trip ended.\n");
+                no += 1;
+            }
+        }
+    }
+    text += &format!("{yes} trips accepted, {no} refused; together {}.\n", euro(cents));
+    assert_eq!(text, include_str!("../c/expected.txt"));
+}

@@ -1,0 +1,249 @@
+/*
+ * milecopper.h: prices one trip, charges it against an account's book and writes a charge record.
+ *
+ * For C99 and later and C++11 and later. Link with the static library `settle` (libsettle.a).
+ *
+ *     static uint8_t book[MILECOPPER_BOOK_BYTES];            // all zero: a fresh book, one for each account
+ *     uint8_t statement[MILECOPPER_LARGEST_RECORD_BYTES];
+ *     uint64_t answer = milecopper_settle(tariff, tariff_len, book, sizeof book,
+ *                                         trip, trip_len, statement, sizeof statement);
+ *     if (milecopper_accepted(answer))
+ *         printf("%lu cents\n", (unsigned long)milecopper_record_total(statement));
+ *     else
+ *         puts(milecopper_refusal_text(milecopper_refusal_of(answer)));
+ *
+ * All numbers in a tariff, a book, a trip and a charge record are little-endian on every machine, so these bytes can
+ * be stored and sent as they are. No slice needs any alignment.
+ *
+ * Duties of the caller
+ *
+ *   - Each pointer points to at least as many bytes as the length beside it says. `tariff` and `trip` are only read;
+ *     `book` and `statement` may be written within their lengths, and only there.
+ *   - The four slices do not overlap, not even in part.
+ *   - No pointer is null, not even with length 0: an empty slice may have any pointer that is not null.
+ *   - A fresh book is MILECOPPER_BOOK_BYTES bytes, all zero. From then on only this library writes into it. Each
+ *     account has a book of its own, and the caller keeps it from one trip to the next. An account's trips are
+ *     settled in the order in which they were ridden.
+ *   - During a call no other thread reads or writes its book or its statement, and none writes its tariff or its
+ *     trip. Calls on different books may run at the same time, and they may share one tariff.
+ *
+ * What the library does not do
+ *
+ *   - It allocates nothing and keeps nothing: no memory, no pointer, no state from one call to the next. All four
+ *     slices belong to the caller before, during and after the call. It reads no clock and no file and prints nothing.
+ *   - A trip that is refused changes no byte of the book or the statement. One that is accepted replaces the book and
+ *     writes the charge record at the start of the statement; the statement's further bytes stay as they were.
+ */
+#ifndef MILECOPPER_H
+#define MILECOPPER_H
+
+#include <stddef.h>
+#include <stdint.h>
+
+/* The book's length. */
+#define MILECOPPER_BOOK_BYTES 5428
+
+/* Charge records: the smallest has one charge, the largest MILECOPPER_MOST_CHARGES. */
+#define MILECOPPER_SMALLEST_RECORD_BYTES 17
+#define MILECOPPER_LARGEST_RECORD_BYTES 137
+#define MILECOPPER_MOST_CHARGES 31
+
+/* Whom and what an account holder may take along on one trip. */
+#define MILECOPPER_MOST_ADULTS 10
+#define MILECOPPER_MOST_CHILDREN 10
+#define MILECOPPER_MOST_BICYCLES 10
+
+/* A trip's stops, and its record's length with the most stops. */
+#define MILECOPPER_FEWEST_STOPS_IN_A_TRIP 2
+#define MILECOPPER_MOST_STOPS_IN_A_TRIP 32
+#define MILECOPPER_LARGEST_TRIP_BYTES 86
+
+/* What a tariff may hold, and its length with the most of both. */
+#define MILECOPPER_MOST_AREAS 32
+#define MILECOPPER_MOST_STOPS 1000
+#define MILECOPPER_LARGEST_TARIFF_BYTES 13928
+
+/* A window is open for so many minutes, and takes so many trips. No trip may last longer than a window. */
+#define MILECOPPER_WINDOW_MINUTES 1440
+#define MILECOPPER_MOST_TRIPS_IN_A_WINDOW 256
+
+/* Why a trip was refused. Where several apply, the answer is the first of them in this order. */
+enum milecopper_refusal {
+    MILECOPPER_NOT_REFUSED = 0,
+    MILECOPPER_TARIFF_BROKEN = 1,     /* tariff: a record's frame is broken */
+    MILECOPPER_TARIFF_MISSHAPEN = 2,  /* tariff: kind, length, order or number of records wrong; no area at all */
+    MILECOPPER_TARIFF_VALUE = 3,      /* tariff: a value outside its range */
+    MILECOPPER_BOOK_UNSOUND = 4,      /* book: wrong length, or words that cannot stand together */
+    MILECOPPER_TRIP_MISSHAPEN = 5,    /* trip: frame, kind or length wrong, or bytes after the record */
+    MILECOPPER_TRIP_COUNTS = 6,       /* trip: class, ticket level, party or number of stops out of range */
+    MILECOPPER_UNKNOWN_STOP = 7,      /* trip: a stop number that the tariff lacks */
+    MILECOPPER_NO_SUCH_TIME = 8,      /* trip: no date of 2000 to 2099, or no clock time */
+    MILECOPPER_TRIP_BACKWARD = 9,     /* trip: check-out before check-in, or over 1,440 minutes after it */
+    MILECOPPER_BEFORE_LAST_TRIP = 10, /* trip: check-in before the book's last check-out */
+    MILECOPPER_WINDOW_FULL = 11,      /* trip: would be the 257th of its window */
+    MILECOPPER_NO_ROOM = 12           /* statement shorter than the charge record */
+};
+
+#ifdef __cplusplus
+extern "C" {
+#endif
+
+/*
+ * Settles one trip. The duties of the caller stand at the top of this file.
+ *
+ * Accepted: the number of bytes written to the statement, MILECOPPER_SMALLEST_RECORD_BYTES to
+ * MILECOPPER_LARGEST_RECORD_BYTES. Refused: the refusal's number times 2^32, plus the place. The functions below take
+ * the answer apart.
+ */
+uint64_t milecopper_settle(const uint8_t *tariff, size_t tariff_len,
+                           uint8_t *book, size_t book_len,
+                           const uint8_t *trip, size_t trip_len,
+                           uint8_t *statement, size_t statement_len);
+
+#ifdef __cplusplus
+}
+#endif
+
+/* ---- The answer ----
+ *
+ * `answer` is one that milecopper_settle gave.
+ */
+
+/* 1 if the trip was accepted, else 0. */
+static inline int milecopper_accepted(uint64_t answer)
+{
+    return (answer >> 32) == 0;
+}
+
+/* The length of the charge record at the start of the statement; 0 if the trip was refused. */
+static inline size_t milecopper_bytes_written(uint64_t answer)
+{
+    return milecopper_accepted(answer) ? (size_t)answer : 0;
+}
+
+/* Why the trip was refused; MILECOPPER_NOT_REFUSED if it was accepted. */
+static inline enum milecopper_refusal milecopper_refusal_of(uint64_t answer)
+{
+    return (enum milecopper_refusal)(answer >> 32);
+}
+
+/*
+ * For refusals 1 to 3 the offset in the tariff of the faulty record's first byte, or the tariff's length where it ends
+ * with a record still due. Else 0.
+ */
+static inline uint32_t milecopper_place(uint64_t answer)
+{
+    return milecopper_accepted(answer) ? 0 : (uint32_t)(answer & 0xFFFFFFFFu);
+}
+
+/* A sentence that someone at the desk understands. The text is constant and must not be freed. */
+static inline const char *milecopper_refusal_text(enum milecopper_refusal refusal)
+{
+    switch (refusal) {
+    case MILECOPPER_NOT_REFUSED:
+        return "The trip was accepted.";
+    case MILECOPPER_TARIFF_BROKEN:
+        return "The price file is damaged: one of its records is cut short or has an impossible length.";
+    case MILECOPPER_TARIFF_MISSHAPEN:
+        return "The price file is put together wrongly: a record is missing, too many, out of order or of the wrong kind.";
+    case MILECOPPER_TARIFF_VALUE:
+        return "The price file holds a number that is not allowed.";
+    case MILECOPPER_BOOK_UNSOUND:
+        return "The account's book is damaged, or it was kept with a different price file.";
+    case MILECOPPER_TRIP_MISSHAPEN:
+        return "The trip's data are damaged, or they are not a trip.";
+    case MILECOPPER_TRIP_COUNTS:
+        return "The trip's class, ticket level, number of people or bicycles, or number of stops is not allowed.";
+    case MILECOPPER_UNKNOWN_STOP:
+        return "The trip uses a stop that is not in the price file.";
+    case MILECOPPER_NO_SUCH_TIME:
+        return "The trip has a date or a time of day that does not exist, or one outside the years 2000 to 2099.";
+    case MILECOPPER_TRIP_BACKWARD:
+        return "The trip ends before it starts, or it lasts longer than 24 hours.";
+    case MILECOPPER_BEFORE_LAST_TRIP:
+        return "The trip starts before this account's last trip ended.";
+    case MILECOPPER_WINDOW_FULL:
+        return "This account already has 256 trips within the same 24 hours.";
+    case MILECOPPER_NO_ROOM:
+        return "There is not enough room to write down what the trip costs.";
+    }
+    return "This is no answer that the library gives.";
+}
+
+/* ---- The charge record ----
+ *
+ * `record` is the start of a statement into which an accepted trip was settled. The charges stand in this order: the
+ * account holder, the adults, the children, the bicycles, each as many as the trip carried. Money is in cents.
+ */
+
+/* The little-endian number of `width` bytes, at most 4, that starts at `bytes`. */
+static inline uint32_t milecopper_number(const uint8_t *bytes, size_t width)
+{
+    uint32_t number = 0;
+    while (width > 0) {
+        width -= 1;
+        number = (number << 8) | bytes[width];
+    }
+    return number;
+}
+
+/* The length of the record of a trip that carries so many; the statement needs as many bytes. */
+static inline size_t milecopper_record_bytes_for(unsigned adults, unsigned children, unsigned bicycles)
+{
+    return 17 + 4 * ((size_t)adults + children + bicycles);
+}
+
+/* The record's length in bytes. */
+static inline size_t milecopper_record_bytes(const uint8_t *record)
+{
+    return 2 + (size_t)milecopper_number(record, 2);
+}
+
+/* The minute at which the trip's window opened. Minute 0 is 2000-01-01 00:00; every day has 1,440 minutes. */
+static inline uint32_t milecopper_record_opening(const uint8_t *record)
+{
+    return milecopper_number(record + 4, 4);
+}
+
+/* The number of the trip's area in the tariff. */
+static inline unsigned milecopper_record_area(const uint8_t *record)
+{
+    return record[8];
+}
+
+/* The started kilometres between the first stop and the last. */
+static inline unsigned milecopper_record_km(const uint8_t *record)
+{
+    return (unsigned)milecopper_number(record + 9, 2);
+}
+
+/* The minutes from check-in to check-out. */
+static inline unsigned milecopper_record_minutes(const uint8_t *record)
+{
+    return (unsigned)milecopper_number(record + 11, 2);
+}
+
+/* The number of charges: 1 to MILECOPPER_MOST_CHARGES. */
+static inline unsigned milecopper_record_charges(const uint8_t *record)
+{
+    return (unsigned)((milecopper_record_bytes(record) - 13) / 4);
+}
+
+/* Charge number i in cents, counted from 0. `i` is below milecopper_record_charges(record). */
+static inline uint32_t milecopper_record_charge(const uint8_t *record, unsigned i)
+{
+    return milecopper_number(record + 13 + 4 * (size_t)i, 4);
+}
+
+/* The sum of all charges in cents. */
+static inline uint32_t milecopper_record_total(const uint8_t *record)
+{
+    uint32_t total = 0;
+    unsigned charges = milecopper_record_charges(record);
+    unsigned i;
+    for (i = 0; i < charges; i += 1)
+        total += milecopper_record_charge(record, i);
+    return total;
+}
+
+#endif
