@@ -1,43 +1,40 @@
 -- Refusals and acceptance: what each says, and that each is given exactly then; and that what comes back is determined.
 -- Assumes nothing.
-use Prim.Native.Nat.{ℕ, zero, suc, _+_, _-_, _*_, _/_, _%_, _^_, _≤_, _<_}
+use Prim.Native.Nat.{ℕ, _+_, _-_, _*_, _/_, _%_, _^_, _≤_, _<_}
 use native.Mathlib.Nat.{zero-add}
 use native.Mathlib.Omega.{arith}
 use native.Mathlib.Decide.{decLt}
 use mathlib.Core.Path.{_≡_, refl, sym, _∙_}
 use mathlib.Core.Logic.{_↔_, ⊎-elim}
 use mathlib.Core.List.{List}
-use borrow.Author.Tests.{ne-eqb, le-ltb}
 use lib.ListN.{length, getD}
 use Rattle.wire.specs.Number.{getLe, bytesOf}
 use Rattle.calendar.specs.Stamps.{lastMinute}
 use Rattle.tariff.specs.declared.Counts.{Counts}
-use Rattle.tariff.specs.Scan.{Passed, FaultSays}
+use Rattle.tariff.specs.Scan.{FaultSays}
 use Rattle.tariff.specs.Scan as scan
-use Rattle.tariff.specs.declared.Stop.{Stop}
-use Rattle.tariff.specs.Areas.{Read, StopRanges}
+use Rattle.tariff.specs.Areas.{Read}
 use Rattle.tariff.proofs.Faultless.{faultless}
-use Rattle.tariff.specs.Fields.{stopPlace}
-use Rattle.tariff.proofs.Entries.{stop-entry}
 use Rattle.tariff.proofs.Faults.{fault-exactly, fault-number}
 use Rattle.trip.specs.declared.Trip.{Trip}
 use Rattle.trip.specs.declared.Offered.the-variants.{Good}
 use Rattle.trip.specs.Record.{partyAt}
 use Rattle.trip.specs.Trips.{readTrip}
+use Rattle.trip.proofs.Ranges.{party-ranges}
+use Rattle.trip.proofs.Good as offered
 use Rattle.fare.specs.declared.Ride.{Ride}
-use Rattle.fare.specs.Distance.{square, gap, apart}
 use Rattle.fare.specs.Rides.{Riding, rideOf}
-use Rattle.fare.proofs.Distance.{across, km-holds, km-least, km-range}
+use Rattle.fare.proofs.Distance.{km-holds, km-least, km-range}
 use Rattle.fare.proofs.Stops.{stop-there, area-of-stops}
 use Rattle.book.specs.Windows.{windowOf, inWindow}
+use Rattle.book.specs.Charging.{chargesOf}
 use Rattle.book.proofs.SoundLaws.{sound-has}
 use Rattle.book.proofs.SoundAgain.{WindowRight, window-right}
-use Rattle.book.specs.Charging.{chargesOf}
 use Rattle.book.proofs.ChargeLaws.{charges-length, adult-stands, child-stands, bicycle-stands, charges-most}
 use Rattle.settle.specs.Record.{recordSize, headBytes, recordOf}
 use Rattle.settle.specs.Outcome.{Outcome, refused, accepted, acceptedTrip, settled, answerOf, Settled}
-use Rattle.trip.proofs.Ranges.{party-ranges}
-use Rattle.trip.proofs.Good as offered
+use Rattle.settle.proofs.Ways.{sound-way, clear-way, fault-way, accepted-way, fault-most}
+use Rattle.promises.specs.Conditions.{checkinOf, checkoutOf, condition, RefusedBy, by-tariff, by-others, AcceptedBy, RecordSays}
 use Rattle.promises.proofs.TripConditions.{good-read}
 use Rattle.promises.proofs.Refusing.{
   Answered,
@@ -47,28 +44,14 @@ use Rattle.promises.proofs.Refusing.{
   NoneBelow,
   next,
   no-fault,
-  counts-are,
   none-of-ten,
+  no-more,
   early-not,
-  at-fault,
-  through,
-  offer-given,
-  clear,
 }
 use Rattle.promises.proofs.Records.{record-length, charge-at, opening-at, area-at, km-at, minutes-at}
-use Rattle.promises.proofs.GoodRides.{good-ride}
-use Rattle.promises.specs.Conditions.{checkinOf, checkoutOf, condition, RefusedBy, by-tariff, by-others, AcceptedBy, RecordSays}
+use Rattle.promises.proofs.GoodRides.{apart-most, good-ride}
 
 -- ---- What the record says.
-
--- two stops of the plane are no farther apart than 1,415 kilometres reach
-reached : {areas : ℕ} (from to : Stop) → StopRanges areas from → StopRanges areas to → apart from to ≤ square (1000 * 1415)
-unfolding apart
-reached from to one other =
-    omega (arith, across _ _ (wide (from .x .0) (to .x .0) (one .x) (other .x)) (wide (from .y .0) (to .y .0) (one .y) (other .y)))
-  where
-    wide : (m n : ℕ) → m ≤ 1000000 → n ≤ 1000000 → gap m n ≤ 1000000
-    wide m n h k = omega arith
 
 -- the window of an accepted trip
 pub right-window :
@@ -119,7 +102,7 @@ module _ (tariff bytes w : List ℕ) (counts : Counts) (trip : Trip) (opens : �
       let smallest = rw zero-add at (area-of-stops riding 0 last (omega arith)) in
       let from = stop-there riding 0 (omega arith) in
       let to = stop-there riding last there in
-      let near = reached _ _ (from .ranges) (to .ranges) in
+      let near = apart-most _ _ (from .ranges) (to .ranges) in
       let small : ride .area < 256 = omega (arith, smallest .there, faultless tariff counts read .few-areas) in
       let count = charges-length tariff w ride in
       record {
@@ -179,26 +162,6 @@ module _ (tariff book bytes : List ℕ) (room : ℕ) where
       go (refused n place) e = absurd (none n (refused-holds (refused-is e)))
       go (accepted new entry) e = (new, entry, e)
 
-  -- no number above 12 has a condition
-  no-more : (n : ℕ) → 12 < n → condition tariff book bytes room n → ⊥
-  unfolding condition
-  no-more n h =
-      rw (
-        ne-eqb n 1 (λ e. omega arith),
-        ne-eqb n 2 (λ e. omega arith),
-        ne-eqb n 3 (λ e. omega arith),
-        ne-eqb n 4 (λ e. omega arith),
-        ne-eqb n 5 (λ e. omega arith),
-        ne-eqb n 6 (λ e. omega arith),
-        ne-eqb n 7 (λ e. omega arith),
-        ne-eqb n 8 (λ e. omega arith),
-        ne-eqb n 9 (λ e. omega arith),
-        ne-eqb n 10 (λ e. omega arith),
-        ne-eqb n 11 (λ e. omega arith),
-        ne-eqb n 12 (λ e. omega arith),
-      )
-      (λ none. none)
-
   -- And an accepted trip meets none of the twelve.
   pub accepted-meets-none : {new entry : List ℕ} → AcceptedBy tariff book bytes room new entry → (n : ℕ) → condition tariff book bytes room n → ⊥
   unfolding condition
@@ -206,7 +169,6 @@ module _ (tariff book bytes : List ℕ) (room : ℕ) where
       let counts = a .counts in
       let trip = a .trip in
       let g = good-read bytes (counts .stops) trip (a .good) in
-      let same = counts-are tariff book bytes room counts (a .read) in
       let at-most : windowOf book (checkinOf bytes) (checkoutOf bytes) .trips ≤ 256 = rw (← g .from, ← g .to, ← a .window-is) (a .few) in
       let fits : recordSize (partyAt bytes 0) ≤ room = rw (← g .party) (a .fits) in
       let below : NoneBelow tariff book bytes room 13 =
@@ -218,7 +180,7 @@ module _ (tariff book bytes : List ℕ) (room : ℕ) where
       (λ h. omega arith))
       (λ h. omega arith)
       in
-      elim (decLt n 13) [ yes h ↦ below n h | no h ↦ no-more n (omega arith) ]
+      elim (decLt n 13) [ yes h ↦ below n h | no h ↦ no-more tariff book bytes room n (omega arith) ]
 
   -- The record of an accepted trip says the window's opening, the smallest area containing all its stops, the least kilometres between
   -- the first and the last, check-out less check-in, and the charges in the order holder, adults, children, bicycles.
@@ -250,9 +212,9 @@ module _ (tariff book bytes : List ℕ) (room : ℕ) where
           let trip = a .trip in
           let window = windowOf book (trip .checkin .0) (trip .checkout .0) in
           let few : window .trips ≤ 256 = rw (← a .window-is) (a .few) in
-          through tariff book bytes room counts trip window (a .read)
-          (offer-given counts book bytes room (a .sound-book) (a .good)
-          ∙ clear book trip room (a .on-time) (le-ltb 256 (window .trips) few) (le-ltb room (recordSize (trip .party)) (a .fits)))
+          accepted-way tariff book bytes room counts (a .read) trip window
+          (sound-way counts book bytes room (a .sound-book) (Good trip) (a .good)
+          ∙ sym (clear-way book trip room (a .on-time) window refl few (a .fits)))
           ∙ made a
 
   -- A trip is accepted exactly when none of the twelve conditions holds.
@@ -283,37 +245,28 @@ module _ (tariff book bytes : List ℕ) (room : ℕ) where
           (o : Outcome) → Answered tariff book bytes room o → (counts : Counts) → Read tariff counts → place ≡ 0
           → condition tariff book bytes room n → NoneBelow tariff book bytes room n → o ≡ refused n place
       met (refused m at) (refusing (by-tariff areas stops found says)) counts read none holds before =
-          absurd (no-fault tariff book bytes room counts read m at areas stops (found .passed) says)
+          absurd (no-fault tariff counts read m at areas stops (found .passed) says)
       met (refused m at) (refusing (by-others counts′ read′ none′ low high holds′ before′)) counts read none holds before =
           same m at holds before holds′ before′ none none′
       met (accepted new entry) (accepting a) counts read none holds before = absurd (accepted-meets-none a n holds)
 
       back : RefusedBy tariff book bytes room n place → settled tariff book bytes room ≡ refused n place
       back (by-tariff areas stops found says) =
-          at-fault tariff book bytes room n place (fault-exactly tariff n place .1 (areas, stops, found .passed, says))
+          fault-way tariff book bytes room n place (fault-exactly tariff n place .1 (areas, stops, found .passed, says))
       back (by-others counts read none low high holds before) =
           met (settled tariff book bytes room) (answered tariff book bytes room) counts read none holds before
 
   -- A refusal's number is 1 to 12; its place is at most 13,928, the length of the longest tariff, and 0 for 4 to 12.
-  pub refused-number : {n place : ℕ} → settled tariff book bytes room ≡ refused n place → (1 ≤ n) × (n ≤ 12) × (place ≤ 13928)
+  pub refused-number :
+      {n place : ℕ} → settled tariff book bytes room ≡ refused n place → (1 ≤ n) × (n ≤ 12) × (place ≤ 13928) × (4 ≤ n → place ≡ 0)
   refused-number {n} {place} e = met (refused-is e)
     where
-      few-stops-passed : (areas stops : ℕ) → Passed tariff place areas stops → stops ≤ 1000
-      few-stops-passed areas zero passed = omega arith
-      few-stops-passed areas (suc stops) passed =
-          omega (arith, stop-entry tariff (stopPlace areas stops) areas stops (passed .stop stops (omega arith)) .few)
-
-      met : RefusedBy tariff book bytes room n place → (1 ≤ n) × (n ≤ 12) × (place ≤ 13928)
-      met (by-others counts read none low high holds before) = (omega arith, high, omega arith)
+      met : RefusedBy tariff book bytes room n place → (1 ≤ n) × (n ≤ 12) × (place ≤ 13928) × (4 ≤ n → place ≡ 0)
+      met (by-others counts read none low high holds before) = (omega arith, high, omega arith, λ _. none)
       met (by-tariff areas stops found says) =
           let number = fault-number tariff n place areas stops found in
-          let place-most : place ≤ 13928 =
-          omega (arith, found .passed .reached .place, found .passed .reached .few, few-stops-passed areas stops (found .passed))
-          in (
-            ⊎-elim (λ is. omega arith) (⊎-elim (λ is. omega arith) (λ is. omega arith)) number,
-            ⊎-elim (λ is. omega arith) (⊎-elim (λ is. omega arith) (λ is. omega arith)) number,
-            place-most,
-          )
+          let (high, near) = fault-most tariff n place (fault-exactly tariff n place .1 (areas, stops, found .passed, says)) in
+          (⊎-elim (λ is. omega arith) (⊎-elim (λ is. omega arith) (λ is. omega arith)) number, omega arith, near, λ h. absurd (omega arith))
 
   -- ---- What comes back.
 
@@ -331,7 +284,7 @@ module _ (tariff book bytes : List ℕ) (room : ℕ) where
       × (answerOf (settled tariff book bytes room) / 2 ^ 32 ≡ n)
       × (answerOf (settled tariff book bytes room) % 2 ^ 32 ≡ place)
   refused-answer {n} {place} e =
-      let (low, high, near) = refused-number e in
+      let (low, high, near, none) = refused-number e in
       rw e (omega arith, omega arith, omega arith)
 
   -- An acceptance answers the bytes written, 17 to 137.
@@ -346,9 +299,10 @@ module _ (tariff book bytes : List ℕ) (room : ℕ) where
 
 -- Two results that the exported contract allows for the same input are equal: the answer, the book and every byte of the statement.
 pub determined :
-    {outcome : Outcome} {book b₁ b₂ statement s₁ s₂ : List ℕ} {r₁ r₂ : ℕ} → Settled outcome book b₁ statement s₁ r₁
-    → Settled outcome book b₂ statement s₂ r₂ → (r₁ ≡ r₂) × (b₁ ≡ b₂) × (s₁ ≡ s₂)
-determined one other = (
+    (tariff book trip statement : List ℕ) {b₁ b₂ s₁ s₂ : List ℕ} {r₁ r₂ : ℕ}
+    → Settled (settled tariff book trip (length statement)) book b₁ statement s₁ r₁
+    → Settled (settled tariff book trip (length statement)) book b₂ statement s₂ r₂ → (r₁ ≡ r₂) × (b₁ ≡ b₂) × (s₁ ≡ s₂)
+determined tariff book trip statement one other = (
   one .answer ∙ sym (other .answer),
   one .book-is ∙ sym (other .book-is),
   one .statement-is ∙ sym (other .statement-is),

@@ -23,7 +23,7 @@ use Rattle.book.specs.Sound.{sound}
 use Rattle.book.specs.Charging.{Rideable}
 
 -- two stops of the plane are no farther apart than 1,415 kilometres reach
-apart-most : {areas : ℕ} (from to : Stop) → StopRanges areas from → StopRanges areas to → apart from to ≤ square (1000 * 1415)
+pub apart-most : {areas : ℕ} (from to : Stop) → StopRanges areas from → StopRanges areas to → apart from to ≤ square (1000 * 1415)
 unfolding apart
 apart-most from to one other = omega (arith, across _ _ (wide (from .x .0) (to .x .0) (one .x) (other .x)) (wide (from .y .0) (to .y .0) (one .y) (other .y)))
   where

@@ -1,7 +1,11 @@
 pub mod Promises
 pub mod Answers
+pub mod Midnight
+pub mod Table
 pub mod Refusing
 pub mod TripConditions
+pub mod Shifts
+pub mod Alike
 pub mod RunLaws
 pub mod Records
 pub mod GoodRides

@@ -1,16 +1,16 @@
 -- The conditions 5 to 9 of a trip, and what the trip's reading says: a refused reading meets its condition and none before it, and a good
 -- one meets none.
 -- Assumes nothing.
-use Prim.Native.Nat.{ℕ, _+_, _*_, _≤_}
+use Prim.Native.Nat.{ℕ, _+_, _*_, _≤_, _<_}
 use native.Mathlib.Omega.{arith}
 use native.Mathlib.Decide.{decLt}
 use mathlib.Core.Path.{_≡_, sym, _∙_}
 use mathlib.Core.Logic.{_⊎_, inl, inr, ⊎-elim}
 use mathlib.Core.List.{List}
 use mathlib.Core.Bool.{true, false≢true}
+use Rattle.units.specs.declared.Minutes.{Minutes}
 use Rattle.wire.specs.Frame.{frameAt}
 use Rattle.wire.specs.declared.Frame.the-variants.{Whole}
-use Rattle.units.specs.declared.Minutes.{Minutes}
 use Rattle.trip.specs.declared.Trip.{Trip}
 use Rattle.trip.specs.declared.Offered.the-variants.{Good}
 use Rattle.trip.specs.declared.Party.{Party}
@@ -73,6 +73,10 @@ is-five bytes (offered.none (shapes.short-body kind body frame short)) = short-b
 is-five bytes (offered.none (shapes.other-body kind body frame other)) = other-body kind body frame other
 is-five bytes (offered.not-filling n trip other) = not-filling 3 (18 + 2 * n) (trip .frame) (λ e. other (omega arith))
 
+-- a number is above another, or at most that
+at-most : {A : Type 0} (n most : ℕ) → (most < n → A) → (n ≤ most → A) → A
+at-most n most above within = elim (decLt most n) [ yes h ↦ above h | no h ↦ within (omega arith) ]
+
 module _ (party : Party) (n : ℕ) where
   not-six : partyRight party n ≡ true → WrongParty party n → ⊥
   not-six e wrong = go (party-ranges party n e) wrong
@@ -88,44 +92,17 @@ module _ (party : Party) (n : ℕ) where
 
   is-six : (PartyRanges party n → ⊥) → WrongParty party n
   is-six out =
-      elim (decLt 5 (party .level)) [
-        | yes h ↦ high-level h
-        | no level ↦
-            elim (decLt 10 (party .adults)) [
-              | yes h ↦ many-adults h
-              | no adults ↦
-                  elim (decLt 10 (party .children)) [
-                    | yes h ↦ many-children h
-                    | no children ↦
-                        elim (decLt 10 (party .bicycles)) [
-                          | yes h ↦ many-bicycles h
-                          | no bicycles ↦
-                              elim (decLt n 2) [
-                                | yes h ↦ few-stops h
-                                | no least ↦
-                                    elim (decLt 32 n) [
-                                      | yes h ↦ many-stops h
-                                      | no most ↦
-                                          let in-range : (party .class ≡ 1) ⊎ (party .class ≡ 2) → ⊥ =
-                                          λ class.
-                                          out
-                                          (record {
-                                            class-is = class;
-                                            level = omega arith;
-                                            adults = omega arith;
-                                            children = omega arith;
-                                            bicycles = omega arith;
-                                            least = omega arith;
-                                            most = omega arith;
-                                          })
-                                          in
-                                          no-class (λ e. in-range (inl e)) (λ e. in-range (inr e))
-                                    ]
-                              ]
-                        ]
-                  ]
-            ]
-      ]
+      at-most (party .level) 5 high-level λ level.
+      at-most (party .adults) 10 many-adults λ adults.
+      at-most (party .children) 10 many-children λ children.
+      at-most (party .bicycles) 10 many-bicycles λ bicycles.
+      at-most 2 n few-stops λ least.
+      at-most n 32 many-stops λ most.
+      let ranges : (party .class ≡ 1) ⊎ (party .class ≡ 2) → PartyRanges party n =
+      λ class.
+      record { class-is = class; level = level; adults = adults; children = children; bicycles = bicycles; least = least; most = most }
+      in
+      no-class (λ e. out (ranges (inl e))) (λ e. out (ranges (inr e)))
 
 -- a trip with a party in its ranges, whose stops the tariff has
 module _ (bytes : List ℕ) (known n : ℕ) where
@@ -168,6 +145,7 @@ pub record GoodRead (bytes : List ℕ) (known : ℕ) (trip : Trip) : Type 0 wher
   pub from : trip .checkin .0 ≡ checkinOf bytes
   pub to : trip .checkout .0 ≡ checkoutOf bytes
   pub party : trip .party ≡ partyAt bytes 0
+  pub stops : trip .stops ≡ countAt bytes 0
 
 pub good-read : (bytes : List ℕ) (known : ℕ) (trip : Trip) → readTrip bytes known ≡ Good trip → GoodRead bytes known trip
 good-read bytes known trip e =
@@ -188,6 +166,7 @@ good-read bytes known trip e =
       from = one .minute;
       to = two .minute;
       party = g .party-is;
+      stops = sym (counted bytes known n filled);
     }
   where
     not-nine :

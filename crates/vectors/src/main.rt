@@ -1,51 +1,170 @@
-// Runs outside vectors: each section of the input is one tariff or one trip, and prints a line or two.
-// A section is a tag byte, a length in 4 bytes, and that many bytes. samples/vectors.txt is the readable source of input and output.
+// Runs outside vectors: each section of the input is a tariff, a trip to be priced, a trip to be settled, or a fresh book, and prints a
+// line or two. A section is a tag byte, a length in 4 bytes, and that many bytes. samples/vectors.txt is the readable source of input and
+// output.
+use fare::prices::price;
+use fare::rides::ride_of;
 use libc::STDIN_FILENO;
 use libc::STDOUT_FILENO;
+use settle::milecopper_settle;
+use tariff::Counts;
 use tariff::Reading;
+use tariff::areas::area;
 use tariff::scan::read_tariff;
+use trip::Offered;
+use trip::Trip;
+use trip::read_trip;
 use wire::four_at;
-ghost use Prim.Native.Nat.{_≤_};
+use wire::one_at;
+use wire::two_at;
+ghost use mathlib.Core.Path.{_≡_};
+ghost use Prim.Native.Nat.{_+_, _≤_};
+ghost use lib.ListN.{length};
+ghost use Rattle.tariff.specs.Areas.{Read};
+ghost use Rattle.trip.specs.Trips.{readTrip};
+ghost use Rattle.trip.specs.declared.Offered.the-variants.{Good};
 
 const TARIFF: u8 = 84;
+
+const PRICE: u8 = 80;
+
+const SETTLE: u8 = 83;
+
+const FRESH: u8 = 66;
 
 fn say(text: &[u8]) {
     io::write_all(STDOUT_FILENO, text);
 }
 
-fn say_number(n: u64) {
+fn say_number(text: &[u8], n: u64) {
+    io::write_all(STDOUT_FILENO, text);
     io::print_decimal(STDOUT_FILENO, n);
 }
 
 fn show_tariff(tariff: &[u8]) {
     match read_tariff(tariff) {
         Reading::Fault { number, at } => {
-            say(b"tariff refused ");
-            say_number(number as u64);
-            say(b" at ");
-            say_number(at as u64);
+            say_number(b"tariff refused ", number as u64);
+            say_number(b" at ", at as u64);
         }
         Reading::Faultless(counts) => {
-            say(b"tariff faultless, areas ");
-            say_number(counts.areas as u64);
-            say(b" stops ");
-            say_number(counts.stops as u64);
+            say_number(b"tariff faultless, areas ", counts.areas as u64);
+            say_number(b" stops ", counts.stops as u64);
         }
     }
     say(b"\n");
 }
 
-fn show(tag: u8, body: &[u8]) {
-    if tag == TARIFF {
-        show_tariff(body);
-    } else {
-        say(b"no such section\n");
+fn say_ride(at: u64, km: u64, minutes: u64, adult: u64, child: u64) {
+    say_number(b"area ", at);
+    say_number(b" km ", km);
+    say_number(b" min ", minutes);
+    say_number(b" price ", adult);
+    say_number(b" child ", child);
+    say(b"\n");
+}
+
+// A ride's area, kilometres and minutes, its price and the child's.
+fn show_ride(tariff: &[u8], counts: Counts, bytes: &[u8], fields: Trip)
+    requires { ⌜ Read (now tariff) counts × (readTrip (now bytes) (counts .stops) ≡ Good fields) ⌝ }
+{
+    let ride = ride_of(tariff, counts, bytes, fields);
+    let at = ride.area;
+    let km = ride.km;
+    let minutes = ride.minutes;
+    let here = area(tariff, counts, at);
+    let adult = price(here, ride, false);
+    let child = price(here, ride, true);
+    say_ride(
+        at as u64,
+        km.0 as u64,
+        minutes.0 as u64,
+        adult.0 as u64,
+        child.0 as u64,
+    );
+}
+
+fn show_price(tariff: &[u8], trip: &[u8]) {
+    let Reading::Faultless(counts) = read_tariff(tariff) else {
+        say(b"no tariff\n");
+        return;
+    };
+    match read_trip(trip, counts.stops) {
+        Offered::Good(fields) => show_ride(tariff, counts, trip, fields),
+        Offered::BadRecord => say(b"refused 5\n"),
+        Offered::BadParty => say(b"refused 6\n"),
+        Offered::UnknownStop => say(b"refused 7\n"),
+        Offered::BadStamp => say(b"refused 8\n"),
+        Offered::BadOrder => say(b"refused 9\n"),
     }
 }
 
-// The sections one after another, as far as they are whole.
-fn sections(input: &[u8]) {
+fn show_charge(entry: &[u8], place: usize)
+    requires { ⌜ place + 4 ≤ length (now entry) ⌝ }
+{
+    say_number(b" ", four_at(entry, place) as u64);
+}
+
+// The charges of a record that ends at a place.
+fn show_charges(entry: &[u8], end: usize)
+    requires { ⌜ length (now entry) ≡ 137 ⌝ }
+{
+    for i in 0..31usize {
+        let place = 13 + 4 * i;
+        if place < end {
+            show_charge(entry, place);
+        }
+    }
+}
+
+// A charge record: the window's opening, area, kilometres, minutes, and each charge.
+fn show_entry(entry: &[u8])
+    requires { ⌜ length (now entry) ≡ 137 ⌝ }
+{
+    say_number(b"open ", four_at(entry, 4) as u64);
+    say_number(b" area ", one_at(entry, 8) as u64);
+    say_number(b" km ", two_at(entry, 9) as u64);
+    say_number(b" min ", two_at(entry, 11) as u64);
+    say(b" cents");
+    show_charges(entry, two_at(entry, 0) as usize + 2);
+    say(b"\n");
+}
+
+fn show_settled(tariff: &[u8], book: &mut [u8], trip: &[u8]) {
+    let mut statement = [0u8; 137];
+    let answer = milecopper_settle(tariff, book, trip, &mut statement);
+    let number = answer / 4_294_967_296;
+    if number == 0 {
+        show_entry(&statement);
+    } else {
+        say_number(b"refused ", number);
+        say_number(b" at ", answer % 4_294_967_296);
+        say(b"\n");
+    }
+}
+
+fn clear(book: &mut [u8]) {
+    for i in 0..book.len() {
+        book[i] = 0;
+    }
+}
+
+fn show(tag: u8, tariff: &[u8], book: &mut [u8], body: &[u8]) {
+    if tag == PRICE {
+        show_price(tariff, body);
+    } else if tag == SETTLE {
+        show_settled(tariff, book, body);
+    } else if tag == FRESH {
+        clear(book);
+    } else {
+        show_tariff(body);
+    }
+}
+
+// The sections one after another, as far as they are whole, each under the tariff last given.
+fn sections(input: &[u8], book: &mut [u8]) {
     let mut at = 0;
+    let mut first = 0;
+    let mut last = 0;
     while at < input.len() {
         if input.len() - at < 5 {
             return;
@@ -56,7 +175,12 @@ fn sections(input: &[u8]) {
             return;
         }
         let next = from + long;
-        show(input[at], &input[from..next]);
+        let tag = input[at];
+        if tag == TARIFF {
+            first = from;
+            last = next;
+        }
+        show(tag, &input[first..last], book, &input[from..next]);
         at = next;
     }
 }
@@ -64,5 +188,6 @@ fn sections(input: &[u8]) {
 fn main() {
     let mut room = io::large_buffer();
     let end = io::read_full(STDIN_FILENO, &mut room);
-    sections(&room[..end]);
+    let mut book = [0u8; 5428];
+    sections(&room[..end], &mut book);
 }

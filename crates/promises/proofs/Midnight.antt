@@ -1,0 +1,139 @@
+-- Midnight: windows look at minutes, never at dates. A trip opens a new window exactly when none is open or its check-out is over 1,440
+-- minutes after the opening; and a night moved on the calendar, over midnight, a month's end or a year's end, is settled alike.
+-- Assumes nothing.
+use Prim.Native.Nat.{ℕ, _+_, _<_}
+use native.Mathlib.Nat.{add-zero}
+use native.Mathlib.Omega.{arith}
+use mathlib.Core.Path.{_≡_, refl, sym}
+use mathlib.Core.Logic.{_↔_, _⊎_, inl, inr, ⊎-elim}
+use mathlib.Core.List.{List}
+use mathlib.Core.Bool.{Bool, true, false, not, _&&_, false≢true}
+use borrow.Author.Tests.{leb-true, leb-false, eq-eqb, ne-eqb, eqb-true, eqb-false}
+use lib.Dec.{leb, eqb}
+use Rattle.book.specs.Words.{freshBook, tripsOf, openingOf}
+use Rattle.book.specs.Windows.{belongs, windowOf}
+use Rattle.book.proofs.WordLaws.{word-fresh}
+use Rattle.settle.specs.Outcome.{Outcome, refused, accepted, settled, bookAfter}
+use Rattle.promises.specs.Runs.{Offer, bookOf}
+use Rattle.promises.specs.Conditions.{RefusedBy, by-tariff, by-others}
+use Rattle.promises.specs.Moved.{MovedTrip, MovedBook, MovedOutcome, both-refused, both-accepted, MovedRun, moved-none, moved-more}
+use Rattle.promises.proofs.Answers.{accepted-is, accepts, accepted-meets-none, refused-is, refused-exactly}
+use Rattle.promises.proofs.Shifts.{Shifted, shifted-back, conditions-alike, moved-record, moved-book}
+use Rattle.promises.proofs.Alike.{alike-self}
+
+-- ---- Windows.
+
+module _ (book : List ℕ) (checkin checkout : ℕ) where
+  by-window : (none : Bool) → eqb (tripsOf book) 0 ≡ none → (soon : Bool) → leb checkout (openingOf book + 1440) ≡ soon
+      → (not none && soon ≡ false) ↔ ((tripsOf book ≡ 0) ⊎ (openingOf book + 1440 < checkout))
+  by-window true e soon e′ = (λ _. inl (eqb-true _ _ e), λ _. refl)
+  by-window false e true e′ = (
+    λ never. absurd (false≢true (sym never)),
+    ⊎-elim (λ is. absurd (eqb-false _ _ e is)) (λ late. absurd (let soon = leb-true checkout (openingOf book + 1440) e′ in omega arith)),
+  )
+  by-window false e false e′ = (λ _. inr (leb-false checkout (openingOf book + 1440) e′), λ _. refl)
+
+  -- A trip opens a new window exactly when none is open, or its check-out is over 1,440 minutes after the opening of the open one.
+  pub new-window : windowOf book checkin checkout .current ≡ false ↔ ((tripsOf book ≡ 0) ⊎ (openingOf book + 1440 < checkout))
+  unfolding windowOf belongs
+  new-window = by-window (eqb (tripsOf book) 0) refl (leb checkout (openingOf book + 1440)) refl
+
+  -- The new window opens at the trip's check-in, and the trip is its first.
+  pub new-window-opens :
+      windowOf book checkin checkout .current ≡ false
+      → (windowOf book checkin checkout .opening .0 ≡ checkin) × (windowOf book checkin checkout .trips ≡ 1)
+  unfolding windowOf
+  new-window-opens e = (rw e, rw e)
+
+  -- In the open window the opening stays, and the trip is one more.
+  pub same-window-stays :
+      windowOf book checkin checkout .current ≡ true
+      → (windowOf book checkin checkout .opening .0 ≡ openingOf book) × (windowOf book checkin checkout .trips ≡ tripsOf book + 1)
+  unfolding windowOf
+  same-window-stays e = (rw e, rw e)
+
+-- ---- A night moved.
+
+-- a trip and a book so moved
+shifted :
+    {d : ℕ} {book bytes book′ bytes′ : List ℕ} → MovedTrip d bytes bytes′ → MovedBook d book book′ → Shifted 0 d book bytes book′ bytes′
+shifted {d} {book} t b =
+    record {
+      trip = t .alike;
+      stamps = (t .checkin-right, t .checkout-right);
+      stamps′ = (t .checkin-right′, t .checkout-right′);
+      checkin = omega (arith, t .checkin);
+      checkout = omega (arith, t .checkout);
+      others = b .alike;
+      opening = λ used. omega (arith, rw (ne-eqb (tripsOf book) 0 used) at (b .opening));
+      last = λ used. omega (arith, rw (ne-eqb (tripsOf book) 0 used) at (b .last));
+      unused = λ none.
+          (omega (arith, rw (eq-eqb (tripsOf book) 0 none) at (b .opening)), omega (arith, rw (eq-eqb (tripsOf book) 0 none) at (b .last)));
+      in-calendar = (omega (arith, b .last, b .in-calendar), b .in-calendar);
+    }
+
+module _ (tariff : List ℕ) (room d : ℕ) {book bytes book′ bytes′ : List ℕ} (trip : MovedTrip d bytes bytes′) (moved : MovedBook d book book′) where
+  s : Shifted 0 d book bytes book′ bytes′
+  s = shifted trip moved
+
+  refused-too : {n place : ℕ} → RefusedBy tariff book bytes room n place → RefusedBy tariff book′ bytes′ room n place
+  refused-too (by-tariff areas stops found says) = by-tariff areas stops found says
+  refused-too {n} (by-others counts read none low high holds before) =
+      by-others counts read none low high (conditions-alike s tariff room n holds)
+      (λ m h w. before m h (conditions-alike (shifted-back s) tariff room m w))
+
+  -- Windows do not look at dates. Where a trip's stamps, and with them the opening and the last check-out of the book, are moved by one number
+  -- of minutes, over midnight, a month's end or a year's end, the outcome is the same but for the opening: the same refusal; or the same area,
+  -- kilometres, minutes and charges, and a book with the same sums and covering areas.
+  pub moved-alike : MovedOutcome d (settled tariff book bytes room) (settled tariff book′ bytes′ room)
+  moved-alike = go (settled tariff book bytes room) refl
+    where
+      go : (o : Outcome) → settled tariff book bytes room ≡ o → MovedOutcome d (settled tariff book bytes room) (settled tariff book′ bytes′ room)
+      go (refused n place) e =
+          rw (e, refused-exactly tariff book′ bytes′ room n place .1 (refused-too (refused-is tariff book bytes room e))) (both-refused n place)
+      go (accepted new entry) e =
+          let a = accepted-is tariff book bytes room e in
+          let (new′, entry′, e′) =
+          accepts tariff book′ bytes′ room
+          (λ n w. accepted-meets-none tariff book bytes room a n (conditions-alike (shifted-back s) tariff room n w))
+          in
+          let a′ = accepted-is tariff book′ bytes′ room e′ in
+          rw (e, e′) (both-accepted (moved-book s a a′) (moved-record s a a′))
+
+-- the same of a trip offered with room for its record
+offer-moved :
+    (tariff : List ℕ) {d : ℕ} {o o′ : Offer} {book book′ : List ℕ} → MovedTrip d (o .bytes) (o′ .bytes) → o′ .room ≡ o .room
+    → MovedBook d book book′ → MovedOutcome d (settled tariff book (o .bytes) (o .room)) (settled tariff book′ (o′ .bytes) (o′ .room))
+offer-moved tariff {d} {o} trip room books = rw room (moved-alike tariff (o .room) d trip books)
+
+-- the books that two such outcomes leave
+book-after :
+    {d : ℕ} {o o′ : Outcome} {book book′ : List ℕ} → MovedOutcome d o o′ → MovedBook d book book′ → MovedBook d (bookAfter o book) (bookAfter o′ book′)
+book-after (both-refused n place) before = before
+book-after (both-accepted books entries) before = books
+
+-- a fresh book is a fresh book, whenever
+fresh-moved : (d : ℕ) → MovedBook d freshBook freshBook
+fresh-moved d =
+    record {
+      alike = alike-self 4 12 freshBook;
+      opening = rw (word-fresh 0, add-zero);
+      last = rw (word-fresh 0, add-zero);
+      in-calendar = omega (arith, word-fresh 2);
+    }
+
+-- One cap for one night, whatever the dates. Where every trip of a run from a fresh book is moved by the same number of minutes, the books
+-- differ in the opening and the last check-out alone.
+pub night-alike :
+    (tariff : List ℕ) {d : ℕ} {run run′ : List Offer} → MovedRun d run run′ → MovedBook d (bookOf tariff run) (bookOf tariff run′)
+unfolding bookOf
+night-alike tariff {d} moved-none = fresh-moved d
+night-alike tariff {d} (moved-more {o} {o′} {run} {run′} trip room before) =
+    book-after (offer-moved tariff {o = o} {o′ = o′} trip room (night-alike tariff before)) (night-alike tariff before)
+
+-- And each trip of the night is refused or accepted as before, with the same charges.
+pub night-outcomes :
+    (tariff : List ℕ) {d : ℕ} {o o′ : Offer} {run run′ : List Offer} → MovedTrip d (o .bytes) (o′ .bytes) → o′ .room ≡ o .room
+    → MovedRun d run run′
+    → MovedOutcome d (settled tariff (bookOf tariff run) (o .bytes) (o .room)) (settled tariff (bookOf tariff run′) (o′ .bytes) (o′ .room))
+night-outcomes tariff {d} {o} {o′} trip room before = offer-moved tariff {o = o} {o′ = o′} trip room (night-alike tariff before)

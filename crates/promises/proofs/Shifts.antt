@@ -1,0 +1,394 @@
+-- Two settlings whose minutes are all moved by one number: each condition holds of both or of neither, and two acceptances have the same
+-- ride, the same charges, and books and records alike but for the minutes.
+-- Assumes nothing.
+use Prim.Native.Nat.{ℕ, zero, suc, _+_, _-_, _*_, _≤_, _<_}
+use native.Mathlib.Nat.{add-zero}
+use native.Mathlib.Omega.{arith}
+use native.Mathlib.Decide.{ℕ-discrete, decLt}
+use mathlib.Core.Path.{_≡_, refl, sym, ap, _∙_, fun-ext}
+use mathlib.Core.Logic.{inl, inr}
+use mathlib.Core.List.{List}
+use mathlib.Core.Bool.{Bool, true, false, cond, not, _&&_, false≢true}
+use borrow.Author.Tests.{le-leb, lt-leb, eq-eqb, ne-eqb}
+use borrow.Author.Count.{below-none, below-more}
+use lib.ListN.{length}
+use lib.Dec.{leb, eqb}
+use Rattle.wire.specs.Each.{each}
+use Rattle.wire.specs.Frame.{broken, frameAt}
+use Rattle.calendar.specs.Stamps.{isStamp, lastMinute}
+use Rattle.tariff.specs.declared.Stop.{Stop}
+use Rattle.tariff.specs.Areas.{smallestOf}
+use Rattle.tariff.proofs.Faultless.{read-one}
+use Rattle.trip.specs.declared.Trip.{Trip}
+use Rattle.trip.specs.Record.{countAt, partyAt, stopNumber}
+use Rattle.fare.specs.Rides.{stopOf, areaOfStops, rideOf}
+use Rattle.book.specs.Words.{bookSize, word, tripsOf, openingOf, lastOutOf, coverWord}
+use Rattle.book.specs.Sound.{allZero, headSound, pairsSound, coversSound, sound}
+use Rattle.book.specs.Windows.{belongs, windowOf, inWindow}
+use Rattle.book.specs.Charging.{chargesOf}
+use Rattle.book.proofs.PostedLaws.{posted-trips, posted-opening, posted-out}
+use Rattle.book.proofs.SoundAgain.{window-room}
+use Rattle.promises.specs.Conditions.{
+  countsOf,
+  checkinStamp,
+  checkoutStamp,
+  checkinOf,
+  checkoutOf,
+  NoTrip,
+  not-filling,
+  other-kind,
+  short-body,
+  other-body,
+  WrongStamp,
+  wrong-checkin,
+  wrong-checkout,
+  WrongOrder,
+  backward,
+  too-long,
+  condition,
+  AcceptedBy,
+}
+use Rattle.promises.specs.Conditions as conditions
+use Rattle.promises.specs.Moved.{AlikeBut, MovedBook, MovedRecord}
+use Rattle.promises.proofs.TripConditions.{GoodRead, good-read}
+use Rattle.promises.proofs.GoodRides.{good-ride}
+use Rattle.promises.proofs.Refusing.{no-more}
+use Rattle.promises.proofs.Answers.{right-window, record-says}
+use Rattle.promises.proofs.Alike.{alike-back, get-alike, sums-alike, words-alike, charges-alike, posted-alike, record-alike}
+
+-- no trip belongs to a window where none is open
+unopened : (book : List ℕ) (checkout : ℕ) → tripsOf book ≡ 0 → belongs book checkout ≡ false
+unfolding belongs
+unopened book checkout none = rw (eq-eqb (tripsOf book) 0 none)
+
+-- ---- Trips and books moved by one number of minutes.
+
+-- m′ is m, moved by d minutes on and c back
+abbrev pub Moved : ℕ → ℕ → ℕ → ℕ → Type 0
+Moved c d m m′ = m′ + c ≡ m + d
+
+-- the two settlings: so moved, it can be read either way
+pub record Shifted (c d : ℕ) (book bytes book′ bytes′ : List ℕ) : Type 0 where
+  pub trip : AlikeBut 4 16 bytes bytes′
+  pub stamps : (isStamp (checkinStamp bytes) ≡ true) × (isStamp (checkoutStamp bytes) ≡ true)
+  pub stamps′ : (isStamp (checkinStamp bytes′) ≡ true) × (isStamp (checkoutStamp bytes′) ≡ true)
+  pub checkin : Moved c d (checkinOf bytes) (checkinOf bytes′)
+  pub checkout : Moved c d (checkoutOf bytes) (checkoutOf bytes′)
+  pub others : AlikeBut 4 12 book book′
+  pub opening : (tripsOf book ≡ 0 → ⊥) → Moved c d (openingOf book) (openingOf book′)
+  pub last : (tripsOf book ≡ 0 → ⊥) → Moved c d (lastOutOf book) (lastOutOf book′)
+  pub unused : tripsOf book ≡ 0 → (openingOf book′ ≡ openingOf book) × (lastOutOf book′ ≡ lastOutOf book)
+  pub in-calendar : (lastOutOf book ≤ lastMinute) × (lastOutOf book′ ≤ lastMinute)
+
+-- a test of two numbers holds of two others alike
+leb-alike : (a b a′ b′ : ℕ) → (a ≤ b → a′ ≤ b′) → (a′ ≤ b′ → a ≤ b) → leb a′ b′ ≡ leb a b
+leb-alike a b a′ b′ there back =
+    elim (decLt b a) [
+      | yes more ↦
+          elim (decLt b′ a′) [
+            | yes more′ ↦ lt-leb a′ b′ more′ ∙ sym (lt-leb a b more)
+            | no less ↦ absurd (omega (arith, back (omega arith)))
+          ]
+      | no less ↦ le-leb a′ b′ (there (omega arith)) ∙ sym (le-leb a b (omega arith))
+    ]
+
+-- a test at each of the first numbers goes by the tests
+each-alike : (n : ℕ) (test test′ : ℕ → Bool) → ((i : ℕ) → test′ i ≡ test i) → each n test′ ≡ each n test
+each-alike n test test′ same = ap (each n) (fun-ext same)
+
+module _ {c d : ℕ} {book bytes book′ bytes′ : List ℕ} (s : Shifted c d book bytes book′ bytes′) where
+  trips-same : tripsOf book′ ≡ tripsOf book
+  trips-same = get-alike (s .others) 4 0 (inl (omega arith))
+
+  pub shifted-back : Shifted d c book′ bytes′ book bytes
+  shifted-back =
+      record {
+        trip = alike-back (s .trip);
+        stamps = s .stamps′;
+        stamps′ = s .stamps;
+        checkin = sym (s .checkin);
+        checkout = sym (s .checkout);
+        others = alike-back (s .others);
+        opening = λ used. sym (s .opening (λ none. used (trips-same ∙ none)));
+        last = λ used. sym (s .last (λ none. used (trips-same ∙ none)));
+        unused = λ none. let (a, b) = s .unused (sym trips-same ∙ none) in (sym a, sym b);
+        in-calendar = (s .in-calendar .1, s .in-calendar .0);
+      }
+
+  -- the book is sound or not alike
+  zeros-same : tripsOf book ≡ 0 → allZero book′ ≡ allZero book
+  unfolding allZero
+  zeros-same none = each-alike 1357 (λ i. eqb (word book i) 0) (λ i. eqb (word book′ i) 0) (λ i. ap (λ v. eqb v 0) (same i))
+    where
+      same : (i : ℕ) → word book′ i ≡ word book i
+      same zero = trips-same
+      same (suc zero) = s .unused none .0
+      same (suc (suc zero)) = s .unused none .1
+      same (suc (suc (suc i))) = sums-alike (s .others) (suc (suc (suc i))) (omega arith)
+
+  pairs-same : (most : ℕ) → pairsSound book′ most ≡ pairsSound book most
+  unfolding pairsSound
+  pairs-same most =
+      each-alike 672 (λ i. leb (word book (3 + 2 * i)) (word book (3 + 2 * i + 1)) && leb (word book (3 + 2 * i + 1)) most)
+      (λ i. leb (word book′ (3 + 2 * i)) (word book′ (3 + 2 * i + 1)) && leb (word book′ (3 + 2 * i + 1)) most)
+      (λ i. rw (sums-alike (s .others) (3 + 2 * i) (omega arith), sums-alike (s .others) (3 + 2 * i + 1) (omega arith)))
+
+  covers-same : (areas : ℕ) → coversSound book′ areas ≡ coversSound book areas
+  unfolding coversSound
+  covers-same areas =
+      each-alike 10 (λ i. leb (coverWord book i) areas) (λ i. leb (coverWord book′ i) areas)
+      (λ i. ap (λ v. leb v areas) (sums-alike (s .others) (1347 + i) (omega arith)))
+
+  head-same :
+      (tripsOf book ≡ 0 → ⊥) → headSound (tripsOf book′) (openingOf book′) (lastOutOf book′) ≡ headSound (tripsOf book) (openingOf book) (lastOutOf book)
+  head-same used =
+      let o = s .opening used in
+      let l = s .last used in
+      rw (
+        trips-same,
+        leb-alike (openingOf book) (lastOutOf book) (openingOf book′) (lastOutOf book′) (λ h. omega arith) (λ h. omega arith),
+        le-leb (lastOutOf book′) lastMinute (s .in-calendar .1),
+        le-leb (lastOutOf book) lastMinute (s .in-calendar .0),
+        leb-alike (lastOutOf book) (openingOf book + 1440) (lastOutOf book′) (openingOf book′ + 1440) (λ h. omega arith) (λ h. omega arith),
+      )
+
+  sound-same : (areas : ℕ) → sound book′ areas ≡ sound book areas
+  unfolding sound
+  sound-same areas = rw (s .others .size, trips-same) (go (ℕ-discrete (tripsOf book) 0))
+    where
+      go : Dec (tripsOf book ≡ 0)
+          → eqb (length book) bookSize
+          && cond (eqb (tripsOf book) 0) (allZero book′)
+          (headSound (tripsOf book) (openingOf book′) (lastOutOf book′) && (pairsSound book′ (tripsOf book * 3790000) && coversSound book′ areas))
+          ≡ eqb (length book) bookSize
+          && cond (eqb (tripsOf book) 0) (allZero book)
+          (headSound (tripsOf book) (openingOf book) (lastOutOf book) && (pairsSound book (tripsOf book * 3790000) && coversSound book areas))
+      go (yes none) = rw (eq-eqb (tripsOf book) 0 none, zeros-same none)
+      go (no used) =
+          rw (ne-eqb (tripsOf book) 0 used, rw trips-same at (head-same used), pairs-same (tripsOf book * 3790000), covers-same areas)
+
+  -- the trip's record is alike but for its stamps
+  frame-same : frameAt bytes′ 0 ≡ frameAt bytes 0
+  unfolding frameAt broken
+  frame-same = rw (s .trip .size, get-alike (s .trip) 2 0 (inl (omega arith)), get-alike (s .trip) 2 2 (inl (omega arith)))
+
+  count-same : countAt bytes′ 0 ≡ countAt bytes 0
+  count-same = get-alike (s .trip) 1 21 (inr (omega arith))
+
+  party-same : partyAt bytes′ 0 ≡ partyAt bytes 0
+  unfolding partyAt
+  party-same =
+      rw (
+        get-alike (s .trip) 1 16 (inr (omega arith)),
+        get-alike (s .trip) 1 17 (inr (omega arith)),
+        get-alike (s .trip) 1 18 (inr (omega arith)),
+        get-alike (s .trip) 1 19 (inr (omega arith)),
+        get-alike (s .trip) 1 20 (inr (omega arith)),
+      )
+
+  stop-same : (i : ℕ) → stopNumber bytes′ i ≡ stopNumber bytes i
+  unfolding stopNumber
+  stop-same i = get-alike (s .trip) 2 (22 + 2 * i) (inr (omega arith))
+
+  -- the trip belongs to the open window or not alike
+  belongs-same : belongs book′ (checkoutOf bytes′) ≡ belongs book (checkoutOf bytes)
+  unfolding belongs
+  belongs-same = rw trips-same (go (ℕ-discrete (tripsOf book) 0))
+    where
+      go : Dec (tripsOf book ≡ 0)
+          → not (eqb (tripsOf book) 0) && leb (checkoutOf bytes′) (openingOf book′ + 1440)
+          ≡ not (eqb (tripsOf book) 0) && leb (checkoutOf bytes) (openingOf book + 1440)
+      go (yes none) = rw (eq-eqb (tripsOf book) 0 none)
+      go (no used) =
+          let o = s .opening used in
+          let out = s .checkout in
+          rw (leb-alike (checkoutOf bytes) (openingOf book + 1440) (checkoutOf bytes′) (openingOf book′ + 1440) (λ h. omega arith) (λ h. omega arith))
+
+  trips-alike : windowOf book′ (checkinOf bytes′) (checkoutOf bytes′) .trips ≡ windowOf book (checkinOf bytes) (checkoutOf bytes) .trips
+  unfolding windowOf
+  trips-alike = rw (belongs-same, trips-same)
+
+  five : NoTrip bytes → NoTrip bytes′
+  five (conditions.broken frame) = conditions.broken (frame-same ∙ frame)
+  five (not-filling kind body frame other) = not-filling kind body (frame-same ∙ frame) (λ e. other (omega (arith, s .trip .size)))
+  five (other-kind kind body frame other) = other-kind kind body (frame-same ∙ frame) other
+  five (short-body kind body frame short) = short-body kind body (frame-same ∙ frame) short
+  five (other-body kind body frame other) = other-body kind body (frame-same ∙ frame) (λ e. other (omega (arith, count-same)))
+
+  eight : WrongStamp bytes → WrongStamp bytes′
+  eight (wrong-checkin e) = absurd (false≢true (sym e ∙ s .stamps .0))
+  eight (wrong-checkout e) = absurd (false≢true (sym e ∙ s .stamps .1))
+
+  nine : WrongOrder bytes → WrongOrder bytes′
+  nine (backward h) = backward (omega (arith, s .checkin, s .checkout))
+  nine (too-long h) = too-long (omega (arith, s .checkin, s .checkout))
+
+  -- each condition holds of both or of neither
+  pub conditions-alike : (tariff : List ℕ) (room n : ℕ) → condition tariff book bytes room n → condition tariff book′ bytes′ room n
+  unfolding condition
+  conditions-alike tariff room n holds = elim (decLt n 13) [ yes h ↦ all n h holds | no h ↦ absurd (no-more tariff book bytes room n (omega arith) holds) ]
+    where
+      on : (i : ℕ) → ((k : ℕ) → k < i → condition tariff book bytes room k → condition tariff book′ bytes′ room k)
+          → (condition tariff book bytes room i → condition tariff book′ bytes′ room i)
+          → (k : ℕ) → k < i + 1 → condition tariff book bytes room k → condition tariff book′ bytes′ room k
+      on i = below-more (λ k. condition tariff book bytes room k → condition tariff book′ bytes′ room k) i
+
+      all : (k : ℕ) → k < 13 → condition tariff book bytes room k → condition tariff book′ bytes′ room k
+      all =
+          on 12
+          (on 11
+          (on 10
+          (on 9
+          (on 8
+          (on 7
+          (on 6
+          (on 5
+          (on 4
+          (on 3 (on 2 (on 1 (on 0 (below-none _) (λ w. w)) (λ w. w)) (λ w. w)) (λ w. w))
+          (λ w. sound-same (countsOf tariff .areas) ∙ w))
+          five)
+          (λ w. rw (party-same, count-same) w))
+          (λ w. record { i = w .i; of-trip = omega (arith, count-same, w .of-trip); lacking = omega (arith, stop-same (w .i), w .lacking) }))
+          eight)
+          nine)
+          (λ w. record { in-use = λ none. w .in-use (sym trips-same ∙ none); early = omega (arith, s .checkin, s .last (w .in-use), w .early) }))
+          (λ w. rw trips-alike w))
+          (λ w. rw party-same w)
+
+  -- ---- The ride and the window.
+
+  stop-of-same : (tariff : List ℕ) (areas i : ℕ) → stopOf tariff areas bytes′ i ≡ stopOf tariff areas bytes i
+  unfolding stopOf
+  stop-of-same tariff areas i = rw (stop-same i)
+
+  area-of-same :
+      (tariff : List ℕ) (areas first more : ℕ) → areaOfStops tariff areas bytes′ first more ≡ areaOfStops tariff areas bytes first more
+  unfolding areaOfStops
+  area-of-same tariff areas first zero = ap (λ (p : Stop). p .area) (stop-of-same tariff areas first)
+  area-of-same tariff areas first (suc more) =
+      ap (λ (a : ℕ). smallestOf tariff a (stopOf tariff areas bytes′ (first + suc more) .area)) (area-of-same tariff areas first more)
+      ∙ ap (λ (p : Stop). smallestOf tariff (areaOfStops tariff areas bytes first more) (p .area)) (stop-of-same tariff areas (first + suc more))
+
+  -- two trips with the same stops, party and minutes are one ride
+  ride-same :
+      (tariff : List ℕ) (areas : ℕ) (trip trip′ : Trip) → trip′ .stops ≡ trip .stops → trip′ .party ≡ trip .party
+      → trip′ .checkout .0 - trip′ .checkin .0 ≡ trip .checkout .0 - trip .checkin .0
+      → rideOf tariff areas bytes′ trip′ ≡ rideOf tariff areas bytes trip
+  unfolding rideOf
+  ride-same tariff areas trip trip′ stops party minutes =
+      rw (
+        stops,
+        party,
+        minutes,
+        area-of-same tariff areas 0 (trip .stops - 1),
+        stop-of-same tariff areas 0,
+        stop-of-same tariff areas (trip .stops - 1),
+      )
+
+  current-same : windowOf book′ (checkinOf bytes′) (checkoutOf bytes′) .current ≡ windowOf book (checkinOf bytes) (checkoutOf bytes) .current
+  unfolding windowOf
+  current-same = belongs-same
+
+  opening-moved :
+      Moved c d (windowOf book (checkinOf bytes) (checkoutOf bytes) .opening .0) (windowOf book′ (checkinOf bytes′) (checkoutOf bytes′) .opening .0)
+  unfolding windowOf
+  opening-moved = rw belongs-same (go (belongs book (checkoutOf bytes)) refl)
+    where
+      go : (t : Bool) → belongs book (checkoutOf bytes) ≡ t
+          → cond t (openingOf book′) (checkinOf bytes′) + c ≡ cond t (openingOf book) (checkinOf bytes) + d
+      go true e = s .opening (λ none. false≢true (sym (unopened book (checkoutOf bytes) none) ∙ e))
+      go false e = s .checkin
+
+-- ---- The outcomes.
+
+-- what an accepted trip leaves in the book's first three words
+record Left (new : List ℕ) (trips opening out : ℕ) : Type 0 where
+  used : tripsOf new ≡ 0 → ⊥
+  opening-is : openingOf new ≡ opening
+  out-is : lastOutOf new ≡ out
+
+left :
+    {tariff book bytes : List ℕ} {room : ℕ} {new entry : List ℕ} (a : AcceptedBy tariff book bytes room new entry)
+    → Left new (a .window .trips) (a .window .opening .0) (a .trip .checkout .0)
+left {tariff} {book} {bytes} a =
+    let ok = good-ride tariff (a .counts) book bytes (a .trip) (a .read) (a .sound-book) (a .good) in
+    let right = right-window a in
+    let head = right .head in
+    let room = window-room right in
+    let out = a .trip .checkout .0 in
+    rw (a .new-is)
+    (record {
+      used = λ none. omega (arith, posted-trips ok (a .window) out room (omega arith));
+      opening-is = posted-opening ok (a .window) out room (omega arith);
+      out-is = posted-out ok (a .window) out room (omega arith);
+    })
+
+-- two acceptances so moved
+module _ {tariff : List ℕ} {room d : ℕ} {book bytes book′ bytes′ : List ℕ} (s : Shifted 0 d book bytes book′ bytes′) {new entry new′ entry′ : List ℕ}
+    (a : AcceptedBy tariff book bytes room new entry) (a′ : AcceptedBy tariff book′ bytes′ room new′ entry′) where
+  counts-same : a′ .counts ≡ a .counts
+  counts-same = read-one tariff (a′ .counts) (a .counts) (a′ .read) (a .read)
+
+  read : GoodRead bytes (a .counts .stops) (a .trip)
+  read = good-read bytes (a .counts .stops) (a .trip) (a .good)
+
+  read′ : GoodRead bytes′ (a′ .counts .stops) (a′ .trip)
+  read′ = good-read bytes′ (a′ .counts .stops) (a′ .trip) (a′ .good)
+
+  one-ride : rideOf tariff (a′ .counts .areas) bytes′ (a′ .trip) ≡ rideOf tariff (a .counts .areas) bytes (a .trip)
+  one-ride =
+      rw counts-same
+      (ride-same s tariff (a .counts .areas) (a .trip) (a′ .trip) (read′ .stops ∙ count-same s ∙ sym (read .stops))
+      (read′ .party ∙ party-same s ∙ sym (read .party))
+      (omega (arith, read .from, read .to, read′ .from, read′ .to, s .checkin, s .checkout)))
+
+  window-is : a .window ≡ windowOf book (checkinOf bytes) (checkoutOf bytes)
+  window-is = a .window-is ∙ rw (read .from, read .to)
+
+  window-is′ : a′ .window ≡ windowOf book′ (checkinOf bytes′) (checkoutOf bytes′)
+  window-is′ = a′ .window-is ∙ rw (read′ .from, read′ .to)
+
+  same-current : a′ .window .current ≡ a .window .current
+  same-current = rw (window-is, window-is′) (current-same s)
+
+  same-trips : a′ .window .trips ≡ a .window .trips
+  same-trips = rw (window-is, window-is′) (trips-alike s)
+
+  later-opening : a′ .window .opening .0 ≡ a .window .opening .0 + d
+  later-opening = rw (window-is, window-is′) (sym (add-zero _) ∙ opening-moved s)
+
+  same-charges :
+      chargesOf tariff (inWindow (a′ .window .current) book′) (rideOf tariff (a′ .counts .areas) bytes′ (a′ .trip))
+      ≡ chargesOf tariff (inWindow (a .window .current) book) (rideOf tariff (a .counts .areas) bytes (a .trip))
+  same-charges =
+      rw (same-current, one-ride)
+      (charges-alike tariff (inWindow (a .window .current) book) (inWindow (a .window .current) book′)
+      (sums-alike (words-alike tariff (a .window .current) (s .others))) (rideOf tariff (a .counts .areas) bytes (a .trip)))
+
+  pub moved-record : MovedRecord d entry entry′
+  moved-record =
+      record {
+        alike =
+            rw (a .entry-is, a′ .entry-is, same-charges, one-ride)
+            (record-alike (a .window .opening .0) (a′ .window .opening .0) (rideOf tariff (a .counts .areas) bytes (a .trip))
+            (chargesOf tariff (inWindow (a .window .current) book) (rideOf tariff (a .counts .areas) bytes (a .trip))));
+        opening =
+            omega (arith, record-says tariff book bytes room a .opening, record-says tariff book′ bytes′ room a′ .opening, later-opening);
+      }
+
+  pub moved-book : MovedBook d new new′
+  moved-book =
+      let l = left a in
+      let l′ = left a′ in
+      let head = right-window a′ .head in
+      record {
+        alike =
+            rw (a .new-is, a′ .new-is, one-ride)
+            (posted-alike tariff (a .window) (a′ .window) (a .trip .checkout .0) (a′ .trip .checkout .0)
+            (rideOf tariff (a .counts .areas) bytes (a .trip)) (s .others) same-current same-trips);
+        opening = rw (ne-eqb (tripsOf new) 0 (l .used)) (omega (arith, l .opening-is, l′ .opening-is, later-opening));
+        last =
+            rw (ne-eqb (tripsOf new) 0 (l .used))
+            (omega (arith, l .out-is, l′ .out-is, read .to, read′ .to, s .checkout));
+        in-calendar = omega (arith, l′ .out-is, head .last);
+      }

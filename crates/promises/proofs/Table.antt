@@ -1,0 +1,258 @@
+-- Paper 01, "Sums to check": the starred cases, computed with the definitions that `settled` uses. A whole book is too large to compute
+-- with; but the holder's rides in the sample's seven areas go by the book's first 17 words alone.
+-- Assumes nothing.
+use Prim.Native.Nat.{ℕ, zero, suc, _+_, _*_, _%_, _/_, _≤_, _<_}
+use native.Mathlib.Omega.{arith}
+use native.Mathlib.Decide.{ℕ-discrete}
+use mathlib.Core.Path.{_≡_, refl, sym, ap, _∙_}
+use mathlib.Core.List.{List, [], _∷_}
+use mathlib.Core.Bool.{Bool, true, false, cond, _&&_}
+use lib.ListN.{length, getD, set, replicate, length-set, length-replicate, getD-replicate}
+use lib.Seq.{getD-set-same, getD-set-other}
+use lib.Dec.{eqb, ltb}
+use Rattle.units.specs.Rounding.{dividedUp, hundredthsOf, periods}
+use Rattle.wire.specs.Number.{getLe, putLe, bytesOf}
+use Rattle.wire.specs.Each.{each}
+use Rattle.wire.specs.Frame.{broken, frameAt}
+use Rattle.wire.proofs.Number.{get-same}
+use Rattle.calendar.specs.Days.{monthDays, daysOfMonths, daysOfYears, dayNumber}
+use Rattle.calendar.specs.Stamps.{stampOf, minuteNumber}
+use Rattle.tariff.specs.Fields.{areaFields}
+use Rattle.tariff.specs.Rules.{levelOf, capsRight, placeRight}
+use Rattle.tariff.specs.Scan.{areaEntry, entryAt, readFrom, readTariff}
+use Rattle.tariff.specs.Levels.{levelCap}
+use Rattle.tariff.specs.Areas.{tripCapOf, dayCapOf, areaOf, areaAt, Read, parentOf}
+use Rattle.tariff.proofs.Tests.{told, both-left, both-right}
+use Rattle.tariff.proofs.Faultless.{faultless}
+use Rattle.tariff.proofs.Within.{parent-there}
+use Rattle.trip.specs.Record.{shapeAt, partyAt, partyRight, stopNumber}
+use Rattle.trip.specs.Moments.{momentAt}
+use Rattle.trip.specs.Trips.{stopsKnown, tripOf, readTrip, refusal}
+use Rattle.fare.specs.declared.Ride.{Ride}
+use Rattle.fare.specs.Distance.{apart, kmFrom, kmOf}
+use Rattle.fare.specs.Rides.{rideOf}
+use Rattle.fare.specs.Prices.{step1, step2, step3, step4, tripCap, priceOf}
+use Rattle.book.specs.Words.{bookSize, freshBook, word, putWord, pairPlace, secondSum, allSum}
+use Rattle.book.specs.Caps.{secondCap, allCap, leftOf, cappedHere}
+use Rattle.book.specs.Charging.{cappedAt, chargeUp, riderCharge, riderCharges, bicycleCharges, chargesOf}
+use Rattle.book.specs.Posting.{addHere, addUp, addList, coverBicycles, opened, posted}
+use Rattle.promises.specs.Cases.{
+  sampleArea,
+  areaBytes,
+  areasBytes,
+  sample,
+  rideIn,
+  charged,
+  cases,
+  sameList,
+  ridesHold,
+  stampBytes,
+  tripBytes,
+  holds,
+  everyHolds,
+  Ridden,
+  Case,
+  areas,
+  price,
+  rides,
+  distance,
+  duration,
+  refuses,
+  oneWindow,
+}
+
+-- ---- Books with the same first words.
+
+-- two byte strings begin with the same n bytes
+record SameStart (n : ℕ) (b b′ : List ℕ) : Type 0 where
+  long : n ≤ length b
+  long′ : n ≤ length b′
+  same : (i : ℕ) → i < n → getD b′ i 0 ≡ getD b i 0
+
+set-start : {n : ℕ} {b b′ : List ℕ} → SameStart n b b′ → (p x : ℕ) → SameStart n (set b p x) (set b′ p x)
+set-start {n} {b} {b′} s p x =
+    record {
+      long = omega (arith, s .long, length-set b p x);
+      long′ = omega (arith, s .long′, length-set b′ p x);
+      same = λ i h. at i h (ℕ-discrete i p);
+    }
+  where
+    at : (i : ℕ) → i < n → Dec (i ≡ p) → getD (set b′ p x) i 0 ≡ getD (set b p x) i 0
+    at i h (no ne) = getD-set-other b′ p i x 0 ne ∙ s .same i h ∙ sym (getD-set-other b p i x 0 ne)
+    at i h (yes e) =
+        rw e (getD-set-same b′ p x 0 (omega (arith, s .long′)) ∙ sym (getD-set-same b p x 0 (omega (arith, s .long))))
+
+put-start : (k : ℕ) {n : ℕ} {b b′ : List ℕ} → SameStart n b b′ → (p v : ℕ) → SameStart n (putLe k b p v) (putLe k b′ p v)
+unfolding putLe
+put-start zero s p v = s
+put-start (suc k) s p v = put-start k (set-start s p (v % 256)) (p + 1) (v / 256)
+
+-- the first 17 words
+word-start : {b b′ : List ℕ} → SameStart 68 b b′ → (i : ℕ) → i < 17 → word b′ i ≡ word b i
+word-start {b} {b′} s i h = get-same 4 b′ b (4 * i) (λ j low high. s .same j (omega arith))
+
+-- ---- The sample.
+
+-- the sample is faultless, so each parent is one of its seven areas
+sample-read : Read sample (record { areas = 7; stops = 0 })
+unfolding readTariff readFrom entryAt areaEntry frameAt broken areaFields capsRight placeRight getLe bytesOf sample areasBytes areaBytes sampleArea
+sample-read = refl
+
+parent-of : (a : ℕ) → a < 7 → parentOf sample a < 7
+parent-of = parent-there (faultless sample (record { areas = 7; stops = 0 }) sample-read)
+
+-- the holder's charge in one of the seven areas
+capped-start :
+    {b b′ : List ℕ} → SameStart 68 b b′ → (class a amount : ℕ) → a < 7
+    → cappedAt sample b′ 0 false class a amount ≡ cappedAt sample b 0 false class a amount
+unfolding cappedAt
+capped-start s class a amount h = rw (word-start s (pairPlace 0 a) (omega arith), word-start s (pairPlace 0 a + 1) (omega arith))
+
+charge-start :
+    (level : ℕ) {b b′ : List ℕ} → SameStart 68 b b′ → (class a amount : ℕ) → a < 7
+    → chargeUp level sample b′ 0 false class a amount ≡ chargeUp level sample b 0 false class a amount
+unfolding chargeUp
+charge-start zero s class a amount h = capped-start s class a amount h
+charge-start (suc level) {b} {b′} s class a amount h =
+    charge-start level s class (parentOf sample a) (cappedAt sample b′ 0 false class a amount) (parent-of a h)
+    ∙ ap (chargeUp level sample b 0 false class (parentOf sample a)) (capped-start s class a amount h)
+
+-- and the sums that it is added to
+here-start :
+    {b b′ : List ℕ} → SameStart 68 b b′ → (class a amount : ℕ) → a < 7 → SameStart 68 (addHere b 0 class a amount) (addHere b′ 0 class a amount)
+unfolding addHere
+here-start {b} {b′} s class a amount h = all (second (eqb class 2))
+  where
+    second :
+        (two : Bool)
+        → SameStart 68 (cond two (putWord b (pairPlace 0 a) (secondSum b 0 a + amount)) b)
+        (cond two (putWord b′ (pairPlace 0 a) (secondSum b′ 0 a + amount)) b′)
+    second true = rw (word-start s (pairPlace 0 a) (omega arith)) (put-start 4 s (4 * pairPlace 0 a) (secondSum b 0 a + amount))
+    second false = s
+
+    all :
+        {c c′ : List ℕ} → SameStart 68 c c′
+        → SameStart 68 (putWord c (pairPlace 0 a + 1) (allSum c 0 a + amount)) (putWord c′ (pairPlace 0 a + 1) (allSum c′ 0 a + amount))
+    all {c} {c′} t =
+        rw (word-start t (pairPlace 0 a + 1) (omega arith)) (put-start 4 t (4 * (pairPlace 0 a + 1)) (allSum c 0 a + amount))
+
+up-start :
+    (level : ℕ) {b b′ : List ℕ} → SameStart 68 b b′ → (class a amount : ℕ) → a < 7
+    → SameStart 68 (addUp level sample b 0 class a amount) (addUp level sample b′ 0 class a amount)
+unfolding addUp
+up-start zero s class a amount h = here-start s class a amount h
+up-start (suc level) s class a amount h = up-start level (here-start s class a amount h) class (parentOf sample a) amount (parent-of a h)
+
+-- ---- The holder's rides.
+
+-- the holder alone, in one of the seven areas
+record Alone (ride : Ride) : Type 0 where
+  adults : ride .party .adults ≡ 0
+  children : ride .party .children ≡ 0
+  bicycles : ride .party .bicycles ≡ 0
+  area : ride .area < 7
+
+module _ (ride : Ride) (alone : Alone ride) (book : List ℕ) where
+  charges-alone : chargesOf sample book ride ≡ riderCharge sample book ride false 0 ∷ []
+  unfolding chargesOf riderCharges bicycleCharges
+  charges-alone = rw (alone .adults, alone .children, alone .bicycles)
+
+  posted-alone :
+      posted sample book oneWindow 0 ride
+      ≡ addUp (levelOf sample (ride .area)) sample (opened oneWindow 0 book) 0 (ride .party .class) (ride .area) (riderCharge sample book ride false 0)
+  unfolding posted addList coverBicycles
+  posted-alone = rw (charges-alone, alone .adults, alone .children, alone .bicycles)
+
+module _ (ride : Ride) (alone : Alone ride) {b b′ : List ℕ} (s : SameStart 68 b b′) where
+  rider-start : riderCharge sample b′ ride false 0 ≡ riderCharge sample b ride false 0
+  unfolding riderCharge
+  rider-start =
+      charge-start (levelOf sample (ride .area)) s (ride .party .class) (ride .area) (priceOf (areaAt sample (ride .area)) ride false)
+      (alone .area)
+
+  charges-start : chargesOf sample b′ ride ≡ chargesOf sample b ride
+  charges-start = rw (charges-alone ride alone b, charges-alone ride alone b′, rider-start)
+
+  opened-start : SameStart 68 (opened oneWindow 0 b) (opened oneWindow 0 b′)
+  unfolding opened
+  opened-start = put-start 4 (put-start 4 (put-start 4 s 0 1) 4 0) 8 0
+
+  posted-start : SameStart 68 (posted sample b oneWindow 0 ride) (posted sample b′ oneWindow 0 ride)
+  posted-start =
+      rw (posted-alone ride alone b, posted-alone ride alone b′, rider-start)
+      (up-start (levelOf sample (ride .area)) opened-start (ride .party .class) (ride .area) (riderCharge sample b ride false 0) (alone .area))
+
+-- ---- The cases.
+
+-- every ride is the holder's alone, in one of the seven areas
+unfoldable aloneIn : List Ridden → Bool
+aloneIn [] = true
+aloneIn (c ∷ more) =
+    eqb (c .ride .party .adults) 0 && eqb (c .ride .party .children) 0 && eqb (c .ride .party .bicycles) 0 && ltb (c .ride .area) 7
+    && aloneIn more
+
+unfoldable aloneOf : Case → Bool
+aloneOf (areas n) = true
+aloneOf (price ride child cents) = true
+aloneOf (rides list) = aloneIn list
+aloneOf (distance metres km) = true
+aloneOf (duration from to minutes) = true
+aloneOf (refuses from to number) = true
+
+-- and so of every case
+unfoldable everyAlone : List Case → Bool
+everyAlone [] = true
+everyAlone (c ∷ more) = aloneOf c && everyAlone more
+
+rides-start :
+    (list : List Ridden) → aloneIn list ≡ true → {b b′ : List ℕ} → SameStart 68 b b′ → ridesHold b′ list ≡ ridesHold b list
+unfolding ridesHold aloneIn
+rides-start [] e s = refl
+rides-start (c ∷ more) e {b} {b′} s =
+    let alone : Alone (c .ride) = search told depth 9 in
+    rw (charges-start (c .ride) alone s, rides-start more (search told depth 9) (posted-start (c .ride) alone s))
+
+case-start : (c : Case) → aloneOf c ≡ true → {b b′ : List ℕ} → SameStart 68 b b′ → holds b′ c ≡ holds b c
+unfolding holds aloneOf
+case-start (areas n) e s = refl
+case-start (price ride child cents) e s = refl
+case-start (rides list) e s = rides-start list e s
+case-start (distance metres km) e s = refl
+case-start (duration from to minutes) e s = refl
+case-start (refuses from to number) e s = refl
+
+cases-start : (list : List Case) → everyAlone list ≡ true → {b b′ : List ℕ} → SameStart 68 b b′ → everyHolds b′ list ≡ everyHolds b list
+unfolding everyHolds everyAlone
+cases-start [] e s = refl
+cases-start (c ∷ more) e s =
+    rw (case-start c (both-left (aloneOf c) (everyAlone more) e) s, cases-start more (both-right (aloneOf c) (everyAlone more) e) s)
+
+-- the first 17 words of a fresh book
+abbrev firstWords : List ℕ
+firstWords = replicate 68 0
+
+first-words : SameStart 68 firstWords freshBook
+first-words =
+    record {
+      long = omega (arith, length-replicate {A = ℕ} 68 0);
+      long′ = omega (arith, length-replicate {A = ℕ} bookSize 0);
+      same = λ i h. getD-replicate {A = ℕ} bookSize i 0 0 (omega arith) ∙ sym (getD-replicate {A = ℕ} 68 i 0 0 h);
+    }
+
+cases-alone : everyAlone cases ≡ true
+unfolding everyAlone aloneOf aloneIn cases charged rideIn
+cases-alone = refl
+
+-- on these the cases are computed
+computed : everyHolds firstWords cases ≡ true
+unfolding everyHolds holds cases sample sampleArea areaBytes areasBytes rideIn charged sameList ridesHold stampBytes tripBytes
+    getLe putLe bytesOf each broken frameAt dividedUp hundredthsOf periods monthDays daysOfMonths daysOfYears dayNumber stampOf minuteNumber
+    areaFields capsRight placeRight areaEntry entryAt readFrom readTariff levelCap tripCapOf dayCapOf areaOf areaAt
+    shapeAt partyAt partyRight stopNumber momentAt stopsKnown tripOf readTrip refusal apart kmFrom kmOf rideOf
+    step1 step2 step3 step4 tripCap priceOf secondCap allCap leftOf cappedHere cappedAt chargeUp riderCharge riderCharges bicycleCharges chargesOf
+    addHere addUp addList coverBicycles opened posted
+computed = refl
+
+-- Every starred sum of the paper comes out, its rides charged one after another from a fresh book on.
+pub table : everyHolds freshBook cases ≡ true
+table = cases-start cases cases-alone first-words ∙ computed

@@ -1,0 +1,55 @@
+-- Nights moved on the calendar: trips, books, records and outcomes that are alike but for their minutes, which are all d later.
+use Prim.Native.Nat.{ℕ, _+_, _≤_, _<_}
+use mathlib.Core.Path.{_≡_}
+use mathlib.Core.Logic.{_⊎_}
+use mathlib.Core.List.{List, [], _∷_}
+use mathlib.Core.Bool.{true, cond}
+use lib.ListN.{length, getD}
+use lib.Dec.{eqb}
+use Rattle.wire.specs.Number.{getLe}
+use Rattle.calendar.specs.Stamps.{isStamp, lastMinute}
+use Rattle.book.specs.Words.{tripsOf, openingOf, lastOutOf}
+use Rattle.settle.specs.Outcome.{Outcome, refused, accepted}
+use Rattle.promises.specs.Conditions.{checkinStamp, checkoutStamp, checkinOf, checkoutOf}
+use Rattle.promises.specs.Runs.{Offer}
+
+-- two byte strings of one length, alike but for the bytes from one place up to another
+pub record AlikeBut (from to : ℕ) (b b′ : List ℕ) : Type 0 where
+  pub size : length b′ ≡ length b
+  pub rest : (i : ℕ) → (i < from) ⊎ (to ≤ i) → getD b′ i 0 ≡ getD b i 0
+
+-- two trips alike but for their stamps, bytes 4 to 15; the second's stamps are dates and clock times d minutes later
+pub record MovedTrip (d : ℕ) (trip trip′ : List ℕ) : Type 0 where
+  pub alike : AlikeBut 4 16 trip trip′
+  pub checkin-right : isStamp (checkinStamp trip) ≡ true
+  pub checkout-right : isStamp (checkoutStamp trip) ≡ true
+  pub checkin-right′ : isStamp (checkinStamp trip′) ≡ true
+  pub checkout-right′ : isStamp (checkoutStamp trip′) ≡ true
+  pub checkin : checkinOf trip′ ≡ checkinOf trip + d
+  pub checkout : checkoutOf trip′ ≡ checkoutOf trip + d
+
+-- two books alike but for words 1 and 2, bytes 4 to 11: where a window is open, its opening and its last check-out are d minutes later in
+-- the second
+pub record MovedBook (d : ℕ) (book book′ : List ℕ) : Type 0 where
+  pub alike : AlikeBut 4 12 book book′
+  pub opening : openingOf book′ ≡ openingOf book + cond (eqb (tripsOf book) 0) 0 d
+  pub last : lastOutOf book′ ≡ lastOutOf book + cond (eqb (tripsOf book) 0) 0 d
+  pub in-calendar : lastOutOf book′ ≤ lastMinute
+
+-- two charge records alike but for the window's opening minute, bytes 4 to 7, which is d later in the second: area, kilometres, minutes and
+-- every charge are the same
+pub record MovedRecord (d : ℕ) (entry entry′ : List ℕ) : Type 0 where
+  pub alike : AlikeBut 4 8 entry entry′
+  pub opening : getLe 4 entry′ 4 ≡ getLe 4 entry 4 + d
+
+-- two outcomes alike: both refused with one number and place, or both accepted, with books and records so moved
+pub data MovedOutcome (d : ℕ) : Outcome → Outcome → Type 0 where
+  both-refused : (n place : ℕ) → MovedOutcome d (refused n place) (refused n place)
+  both-accepted : {new new′ entry entry′ : List ℕ} → MovedBook d new new′ → MovedRecord d entry entry′
+      → MovedOutcome d (accepted new entry) (accepted new′ entry′)
+
+-- two runs, trip by trip alike but for their stamps, which are d minutes later in the second
+pub data MovedRun (d : ℕ) : List Offer → List Offer → Type 0 where
+  moved-none : MovedRun d [] []
+  moved-more : {o o′ : Offer} {run run′ : List Offer} → MovedTrip d (o .bytes) (o′ .bytes) → o′ .room ≡ o .room → MovedRun d run run′
+      → MovedRun d (o ∷ run) (o′ ∷ run′)
