@@ -1,0 +1,282 @@
+-- The lines of a roll do not depend on how it was cut into pieces.
+-- Assumes nothing.
+use Prim.Native.Nat.{ℕ, zero, suc, _+_, _-_, _≤_, _<_}
+use native.Mathlib.Omega.{arith}
+use native.Mathlib.Decide.{decLt}
+use mathlib.Core.Path.{_≡_, refl, sym, ap, _∙_}
+use mathlib.Core.Logic.{_⊎_, inl, inr}
+use mathlib.Core.Bool.{Bool, true, false, cond, not, _&&_, _||_, and-false, or-true, false≢true}
+use mathlib.Core.List.{List, [], _∷_, _++_, append-nil, append-assoc}
+use borrow.Author.Tests.{lt-ltb, le-ltb, le-leb, lt-leb, ltb-false, ltb-true, leb-true}
+use lib.ListN.{length, take, drop, length-append}
+use lib.Seq.{take-append-le, drop-append-le}
+use lib.Dec.{leb, ltb}
+use Rattle.wire.specs.Number.{getLe}
+use Rattle.wire.specs.Frame.{frameAt}
+use Rattle.wire.specs.declared.Frame.{Frame}
+use Rattle.wire.specs.declared.Frame.the-variants as frame
+use Rattle.wire.proofs.Frames.{WholeAt, tested, broken-back, whole, whole-back}
+use Rattle.roll.specs.declared.Line.{Line}
+use Rattle.roll.specs.declared.Line.the-variants.{Refused}
+use Rattle.roll.specs.declared.Step.{Step}
+use Rattle.roll.specs.declared.Step.the-variants.{End, More, Record, Broken}
+use Rattle.roll.specs.Lines.{unfinished, outcomeAt, lineOf, stepOf, bookStep, linesOf, joined, isMore, Come, fetched, fedLines}
+use Rattle.roll.proofs.Outcomes.{get-front}
+use Rattle.roll.proofs.Starts.{few-unfinished, length-decides, more-way, broken-way, whole-way, record-within}
+
+-- ---- Where a piece tells what stands at its start: its length is out of range, or its record ends within it.
+
+data Told (piece : List ℕ) : Type 0 where
+  out : (getLe 2 piece 0 < 2) ⊎ (1024 < getLe 2 piece 0) → Told piece
+  within : 2 ≤ getLe 2 piece 0 → getLe 2 piece 0 ≤ 1024 → 2 + getLe 2 piece 0 ≤ length piece → Told piece
+
+record Decided (piece : List ℕ) : Type 0 where
+  enough : 4 ≤ length piece
+  told : Told piece
+
+decided : (piece : List ℕ) → unfinished piece ≡ false → Decided piece
+decided piece e =
+    elim (decLt (length piece) 4) [
+      | yes few ↦ absurd (false≢true (sym e ∙ sym (few-unfinished piece few)))
+      | no enough ↦ record { enough = omega arith; told = range (omega arith) }
+    ]
+  where
+    long : ℕ
+    long = getLe 2 piece 0
+
+    range : 4 ≤ length piece → Told piece
+    range enough =
+        elim (decLt long 2) [
+          | yes small ↦ out (inl small)
+          | no least ↦
+              elim (decLt 1024 long) [
+                | yes large ↦ out (inr large)
+                | no most ↦
+                    within (omega arith) (omega arith)
+                    (ltb-false (length piece) (2 + long)
+                    (rw (le-leb 2 long (omega arith), le-leb long 1024 (omega arith)) at (length-decides piece long enough refl ∙ e)))
+              ]
+        ]
+
+finished : (piece : List ℕ) → Decided piece → unfinished piece ≡ false
+finished piece d = sym (length-decides piece (getLe 2 piece 0) (d .enough) refl) ∙ go (d .told)
+  where
+    go : Told piece → leb 2 (getLe 2 piece 0) && leb (getLe 2 piece 0) 1024 && ltb (length piece) (2 + getLe 2 piece 0) ≡ false
+    go (out (inl small)) = rw (lt-leb 2 (getLe 2 piece 0) small)
+    go (out (inr large)) = rw (lt-leb (getLe 2 piece 0) 1024 large, and-false)
+    go (within least most fits) = rw (le-ltb (length piece) (2 + getLe 2 piece 0) fits, and-false)
+
+-- a longer piece tells the same
+longer-told : (piece rest : List ℕ) → Decided piece → Decided (piece ++ rest)
+longer-told piece rest d = record { enough = omega (arith, length-append piece rest); told = go (d .told) }
+  where
+    same : getLe 2 (piece ++ rest) 0 ≡ getLe 2 piece 0
+    same = get-front 2 piece rest 0 (omega (arith, d .enough))
+
+    go : Told piece → Told (piece ++ rest)
+    go (out (inl small)) = out (inl (omega (arith, same)))
+    go (out (inr large)) = out (inr (omega (arith, same)))
+    go (within least most fits) = within (omega (arith, same)) (omega (arith, same)) (omega (arith, same, length-append piece rest))
+
+-- what is told is the frame
+out-frame : (piece : List ℕ) → 4 ≤ length piece → (getLe 2 piece 0 < 2) ⊎ (1024 < getLe 2 piece 0) → frameAt piece 0 ≡ frame.Broken
+out-frame piece enough wrong = broken-back piece 0 (tested piece 0 (getLe 2 piece 0) refl (omega arith) ∙ go wrong)
+  where
+    long : ℕ
+    long = getLe 2 piece 0
+
+    go : (long < 2) ⊎ (1024 < long) → (ltb long 2 || ltb 1024 long) || ltb (length piece - 0) (2 + long) ≡ true
+    go (inl small) = rw (lt-ltb long 2 small)
+    go (inr large) = rw (lt-ltb 1024 long large, or-true)
+
+within-frame :
+    (piece : List ℕ) → 2 ≤ getLe 2 piece 0 → getLe 2 piece 0 ≤ 1024 → 2 + getLe 2 piece 0 ≤ length piece
+    → frameAt piece 0 ≡ frame.Whole (getLe 2 piece 2) (getLe 2 piece 0 - 2)
+within-frame piece least most fits =
+    whole-back piece 0 (getLe 2 piece 2) (getLe 2 piece 0 - 2)
+    (record { kind-is = refl; length-is = omega arith; fits = omega arith; short = omega arith })
+
+longer-frame : (piece rest : List ℕ) → Decided piece → frameAt (piece ++ rest) 0 ≡ frameAt piece 0
+longer-frame piece rest d = go (d .told)
+  where
+    same : getLe 2 (piece ++ rest) 0 ≡ getLe 2 piece 0
+    same = get-front 2 piece rest 0 (omega (arith, d .enough))
+
+    longer : length (piece ++ rest) ≡ length piece + length rest
+    longer = length-append piece rest
+
+    go : Told piece → frameAt (piece ++ rest) 0 ≡ frameAt piece 0
+    go (out wrong) =
+        out-frame (piece ++ rest) (omega (arith, longer, d .enough)) (rw same wrong) ∙ sym (out-frame piece (d .enough) wrong)
+    go (within least most fits) =
+        within-frame (piece ++ rest) (omega (arith, same)) (omega (arith, same)) (omega (arith, same, longer))
+        ∙ rw (same, get-front 2 piece rest 2 (omega (arith, d .enough))) (sym (within-frame piece least most fits))
+
+-- ---- Where the step at a piece is not `More`, it is the same at every longer piece, whether more can come or not.
+
+-- such a piece tells what stands at its start
+not-more : (tariff book piece : List ℕ) → (stepOf tariff book piece true ≡ More → ⊥) → unfinished piece ≡ false
+not-more tariff book piece other = go (unfinished piece) refl
+  where
+    go : (t : Bool) → unfinished piece ≡ t → unfinished piece ≡ false
+    go true e = absurd (other (more-way tariff book piece true e .0))
+    go false e = e
+
+step-whole :
+    (tariff book piece rest : List ℕ) (kind body : ℕ) → frameAt piece 0 ≡ frame.Whole kind body
+    → outcomeAt tariff book (piece ++ rest) (4 + body) ≡ outcomeAt tariff book piece (4 + body)
+unfolding outcomeAt
+step-whole tariff book piece rest kind body e =
+    let facts = whole piece 0 kind body e in
+    rw (take-append-le (4 + body) piece rest (omega arith))
+
+pub longer-same :
+    (tariff book piece rest : List ℕ) (more : Bool) → (stepOf tariff book piece true ≡ More → ⊥)
+    → (stepOf tariff book (piece ++ rest) more ≡ stepOf tariff book piece true)
+    × (bookStep tariff book (piece ++ rest) more ≡ bookStep tariff book piece true)
+longer-same tariff book piece rest more other = go (frameAt piece 0) refl
+  where
+    all : List ℕ
+    all = piece ++ rest
+
+    short : true && unfinished piece ≡ false
+    short = not-more tariff book piece other
+
+    d : Decided piece
+    d = decided piece short
+
+    long : more && unfinished all ≡ false
+    long = rw (finished all (longer-told piece rest d), and-false)
+
+    go :
+        (f : Frame) → frameAt piece 0 ≡ f
+        → (stepOf tariff book all more ≡ stepOf tariff book piece true) × (bookStep tariff book all more ≡ bookStep tariff book piece true)
+    go frame.Broken e =
+        let here = broken-way tariff book piece true short (λ none. omega (arith, d .enough)) e in
+        let there = broken-way tariff book all more long (λ none. omega (arith, longer-told piece rest d .enough)) (longer-frame piece rest d ∙ e) in
+        (there .0 ∙ sym (here .0), there .1 ∙ sym (here .1))
+    go (frame.Whole kind body) e =
+        let here = whole-way tariff book piece true short kind body e in
+        let there = whole-way tariff book all more long kind body (longer-frame piece rest d ∙ e) in
+        let same = step-whole tariff book piece rest kind body e in
+        (rw same at (there .0) ∙ sym (here .0), rw same at (there .1) ∙ sym (here .1))
+
+-- ---- A whole roll.
+
+-- a step that is not said to be `More` is not
+is-more : (s : Step) → isMore s ≡ false → s ≡ More → ⊥
+is-more End e z = absurd (let z : _≡_ {A = ℕ} 0 1 = cc in omega arith)
+is-more More e z = false≢true (sym e)
+is-more Broken e z = absurd (let z : _≡_ {A = ℕ} 0 1 = cc in omega arith)
+is-more (Record line used) e z = absurd (let z : _≡_ {A = ℕ} 0 1 = cc in omega arith)
+
+-- What has come and what has not make up the roll; and the step is not `More`, or nothing can come any more.
+record Right (tariff book roll : List ℕ) (come : Come) : Type 0 where
+  whole-roll : come .kept ++ joined (come .pieces) ≡ roll
+  decides : ((come .more ≡ true) × (stepOf tariff book (come .kept) true ≡ More → ⊥)) ⊎ ((come .more ≡ false) × (come .pieces ≡ []))
+
+right : (tariff book kept : List ℕ) (pieces : List (List ℕ)) → Right tariff book (kept ++ joined pieces) (fetched tariff book kept pieces)
+unfolding fetched joined
+right tariff book kept [] = record { whole-roll = refl; decides = go (isMore (stepOf tariff book kept true)) refl }
+  where
+    go :
+        (t : Bool) → isMore (stepOf tariff book kept true) ≡ t
+        → ((not (isMore (stepOf tariff book kept true)) ≡ true) × (stepOf tariff book kept true ≡ More → ⊥))
+        ⊎ ((not (isMore (stepOf tariff book kept true)) ≡ false) × (_≡_ {A = List (List ℕ)} [] []))
+    go true e = inr (rw e, refl)
+    go false e = inl (rw e, is-more (stepOf tariff book kept true) e)
+right tariff book kept (piece ∷ pieces) =
+    go (right tariff book (kept ++ piece) pieces) (isMore (stepOf tariff book kept true)) refl
+  where
+    go :
+        Right tariff book ((kept ++ piece) ++ joined pieces) (fetched tariff book (kept ++ piece) pieces)
+        → (t : Bool) → isMore (stepOf tariff book kept true) ≡ t
+        → Right tariff book (kept ++ (piece ++ joined pieces)) (fetched tariff book kept (piece ∷ pieces))
+    go on true e = rw e (rw append-assoc at on)
+    go on false e =
+        rw e (record { whole-roll = refl; decides = inl (refl, is-more (stepOf tariff book kept true) e) })
+
+-- What stands at the start of what has come stands at the start of the roll.
+record SameStart (tariff book roll : List ℕ) (come : Come) : Type 0 where
+  step : stepOf tariff book roll false ≡ stepOf tariff book (come .kept) (come .more)
+  book-after : bookStep tariff book roll false ≡ bookStep tariff book (come .kept) (come .more)
+
+same-start : (tariff book roll : List ℕ) (come : Come) → Right tariff book roll come → SameStart tariff book roll come
+unfolding joined
+same-start tariff book roll come r = go (r .decides)
+  where
+    go :
+        ((come .more ≡ true) × (stepOf tariff book (come .kept) true ≡ More → ⊥)) ⊎ ((come .more ≡ false) × (come .pieces ≡ []))
+        → SameStart tariff book roll come
+    go (inl now) =
+        let same = longer-same tariff book (come .kept) (joined (come .pieces)) false (now .1) in
+        rw (← r .whole-roll, now .0) (record { step = same .0; book-after = same .1 })
+    go (inr over) = rw (← r .whole-roll, over .1, over .0) (rw (append-nil (come .kept)) (record { step = refl; book-after = refl }))
+
+-- the lines of a roll, and of one that comes in pieces, by the first step
+afterStep : Step → (Line → ℕ → List Line) → List Line
+afterStep End on = []
+afterStep More on = []
+afterStep Broken on = Refused 5 ∷ []
+afterStep (Record line used) on = line ∷ on line used
+
+lines-step :
+    (records : ℕ) (tariff book roll : List ℕ) (s : Step) → stepOf tariff book roll false ≡ s
+    → linesOf (suc records) tariff book roll
+    ≡ afterStep s (λ line used. linesOf records tariff (bookStep tariff book roll false) (drop used roll))
+unfolding linesOf afterStep
+lines-step records tariff book roll End e = rw (e, linesOf)
+lines-step records tariff book roll More e = rw (e, linesOf)
+lines-step records tariff book roll Broken e = rw (e, linesOf)
+lines-step records tariff book roll (Record line used) e = rw (e, linesOf)
+
+fed-step :
+    (records : ℕ) (tariff book kept : List ℕ) (pieces : List (List ℕ)) (s : Step)
+    → stepOf tariff book (fetched tariff book kept pieces .kept) (fetched tariff book kept pieces .more) ≡ s
+    → fedLines (suc records) tariff book kept pieces
+    ≡ afterStep s
+    (λ line used.
+    let come = fetched tariff book kept pieces in
+    fedLines records tariff (bookStep tariff book (come .kept) (come .more)) (drop used (come .kept)) (come .pieces))
+unfolding fedLines afterStep
+fed-step records tariff book kept pieces End e = rw (e, fedLines)
+fed-step records tariff book kept pieces More e = rw (e, fedLines)
+fed-step records tariff book kept pieces Broken e = rw (e, fedLines)
+fed-step records tariff book kept pieces (Record line used) e = rw (e, fedLines)
+
+-- the lines behind a record are those of the rest of the roll, of which less is kept
+behind :
+    (records : ℕ) (tariff book roll : List ℕ) (come : Come) → Right tariff book roll come → SameStart tariff book roll come
+    → ((book′ kept : List ℕ) (pieces : List (List ℕ)) → fedLines records tariff book′ kept pieces ≡ linesOf records tariff book′ (kept ++ joined pieces))
+    → (s : Step) → stepOf tariff book (come .kept) (come .more) ≡ s
+    → afterStep s (λ line used. fedLines records tariff (bookStep tariff book (come .kept) (come .more)) (drop used (come .kept)) (come .pieces))
+    ≡ afterStep s (λ line used. linesOf records tariff (bookStep tariff book roll false) (drop used roll))
+unfolding afterStep
+behind records tariff book roll come all start on End e = refl
+behind records tariff book roll come all start on More e = refl
+behind records tariff book roll come all start on Broken e = refl
+behind records tariff book roll come all start on (Record line used) e =
+    let fits = record-within tariff book (come .kept) (come .more) line used e in
+    ap (line ∷_)
+    (on (bookStep tariff book (come .kept) (come .more)) (drop used (come .kept)) (come .pieces)
+    ∙ rw (start .book-after, ← all .whole-roll, drop-append-le used (come .kept) (joined (come .pieces)) (fits .1)))
+
+-- The lines of a roll are the same however it comes.
+pub fed-same :
+    (records : ℕ) (tariff book kept : List ℕ) (pieces : List (List ℕ))
+    → fedLines records tariff book kept pieces ≡ linesOf records tariff book (kept ++ joined pieces)
+unfolding fedLines linesOf
+fed-same zero tariff book kept pieces = refl
+fed-same (suc records) tariff book kept pieces =
+    let come = fetched tariff book kept pieces in
+    let all = right tariff book kept pieces in
+    let start = same-start tariff book (kept ++ joined pieces) come all in
+    fed-step records tariff book kept pieces (stepOf tariff book (come .kept) (come .more)) refl
+    ∙ behind records tariff book (kept ++ joined pieces) come all start (fed-same records tariff) (stepOf tariff book (come .kept) (come .more)) refl
+    ∙ sym (lines-step records tariff book (kept ++ joined pieces) (stepOf tariff book (come .kept) (come .more)) (start .step))
+
+-- A roll cut into pieces anywhere, from a book on with nothing kept.
+pub cut-same :
+    (records : ℕ) (tariff book : List ℕ) (pieces : List (List ℕ))
+    → fedLines records tariff book [] pieces ≡ linesOf records tariff book (joined pieces)
+cut-same records tariff book pieces = fed-same records tariff book [] pieces

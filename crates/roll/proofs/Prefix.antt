@@ -1,0 +1,180 @@
+-- The first 14,954 bytes of a tariff decide what reading it comes to: 32 areas, 1,000 stops, and the frame of one record too many.
+-- Assumes nothing.
+use Prim.Native.Nat.{ℕ, zero, suc, _+_, _-_, _≤_, _<_}
+use native.Mathlib.Omega.{arith}
+use native.Mathlib.Decide.{ℕ-discrete, decLt}
+use mathlib.Core.Path.{_≡_, refl, sym, ap, _∙_}
+use mathlib.Core.Bool.{Bool, true, false, _||_, or-true, or-false}
+use mathlib.Core.List.{List}
+use borrow.Author.Tests.{lt-ltb, le-ltb}
+use lib.ListN.{length, take}
+use lib.Seq.{take-all, length-take-le}
+use lib.Dec.{ltb}
+use Rattle.wire.specs.Number.{getLe}
+use Rattle.wire.specs.Frame.{broken, frameAt}
+use Rattle.wire.specs.declared.Frame.{Frame}
+use Rattle.wire.specs.declared.Frame.the-variants.{Whole, Broken}
+use Rattle.wire.proofs.Number.{get-take}
+use Rattle.wire.proofs.Frames.{tested}
+use Rattle.tariff.specs.declared.fields.AreaFields.{AreaFields}
+use Rattle.tariff.specs.declared.Reading.{Reading}
+use Rattle.tariff.specs.Fields.{areaFields, stopFields, areaPlace, stopPlace}
+use Rattle.tariff.specs.Rules.{placeRight, levelOf, flatOf}
+use Rattle.tariff.specs.Scan.{areaEntry, stopEntry, entryAt, readTariff, Passed}
+use Rattle.tariff.proofs.Entries.{broken-frame, area-frame, stop-frame, other-frame, stop-entry, end-entry}
+use Rattle.tariff.proofs.Passed.{Ends, fault, finish, ends, at-fault}
+
+-- where 1,026 bytes follow, a frame is broken by its length alone
+by-length : (b : List ℕ) (at : ℕ) → at + 1026 ≤ length b → broken b at ≡ ltb (getLe 2 b at) 2 || ltb 1024 (getLe 2 b at)
+by-length b at fits = tested b at (getLe 2 b at) refl (omega arith) ∙ go
+  where
+    long : ℕ
+    long = getLe 2 b at
+
+    go : (ltb long 2 || ltb 1024 long) || ltb (length b - at) (2 + long) ≡ ltb long 2 || ltb 1024 long
+    go =
+        elim (decLt 1024 long) [
+          | yes large ↦ rw (lt-ltb 1024 long large, or-true)
+          | no most ↦ rw (le-ltb (length b - at) (2 + long) (omega arith), or-false)
+        ]
+
+-- ---- What stands at a place is decided by 1,026 bytes from there on, and by the areas before it.
+
+module _ (n : ℕ) (b : List ℕ) (there : n ≤ length b) where
+  first-length : length (take n b) ≡ n
+  first-length = length-take-le n b there
+
+  first-frame : (at : ℕ) → at + 1026 ≤ n → frameAt (take n b) at ≡ frameAt b at
+  unfolding frameAt
+  first-frame at fits =
+      rw (
+        by-length (take n b) at (omega (arith, first-length)),
+        by-length b at (omega arith),
+        get-take 2 n b at (omega arith),
+        get-take 2 n b (at + 2) (omega arith),
+      )
+
+  first-area : (at : ℕ) → at + 29 ≤ n → areaFields (take n b) at ≡ areaFields b at
+  unfolding areaFields
+  first-area at fits =
+      rw (
+        get-take 1 n b (at + 4) (omega arith),
+        get-take 1 n b (at + 5) (omega arith),
+        get-take 2 n b (at + 6) (omega arith),
+        get-take 2 n b (at + 8) (omega arith),
+        get-take 2 n b (at + 10) (omega arith),
+        get-take 1 n b (at + 12) (omega arith),
+        get-take 1 n b (at + 13) (omega arith),
+        get-take 1 n b (at + 14) (omega arith),
+        get-take 2 n b (at + 15) (omega arith),
+        get-take 2 n b (at + 17) (omega arith),
+        get-take 2 n b (at + 19) (omega arith),
+        get-take 2 n b (at + 21) (omega arith),
+        get-take 2 n b (at + 23) (omega arith),
+        get-take 2 n b (at + 25) (omega arith),
+        get-take 2 n b (at + 27) (omega arith),
+      )
+
+  first-stop : (at : ℕ) → at + 13 ≤ n → stopFields (take n b) at ≡ stopFields b at
+  unfolding stopFields
+  first-stop at fits =
+      rw (
+        get-take 1 n b (at + 4) (omega arith),
+        get-take 4 n b (at + 5) (omega arith),
+        get-take 4 n b (at + 9) (omega arith),
+      )
+
+  -- the parent is looked at only where it is an earlier area
+  first-place : (areas : ℕ) (f : AreaFields) → areas ≤ 32 → 928 ≤ n → placeRight (take n b) areas f ≡ placeRight b areas f
+  unfolding placeRight
+  first-place areas f few wide =
+      elim (decLt (f .parent) areas) [
+        | yes earlier ↦
+            let parent = first-area (areaPlace (f .parent)) (omega arith) in
+            let level : levelOf (take n b) (f .parent) ≡ levelOf b (f .parent) = ap (λ (g : AreaFields). g .level) parent in
+            let flat : flatOf (take n b) (f .parent) ≡ flatOf b (f .parent) = ap (λ (g : AreaFields). g .flat) parent in
+            rw (level, flat)
+        | no later ↦ rw (le-ltb (f .parent) areas (omega arith))
+      ]
+
+  module _ (at areas stops : ℕ) (fits : at + 1026 ≤ n) (few : areas ≤ 32) (wide : 928 ≤ n) where
+    first-area-entry : (body : ℕ) → areaEntry (take n b) at areas stops body ≡ areaEntry b at areas stops body
+    unfolding areaEntry
+    first-area-entry body = rw (first-area at (omega arith), first-place areas (areaFields b at) few wide)
+
+    first-stop-entry : (body : ℕ) → stopEntry (take n b) at areas stops body ≡ stopEntry b at areas stops body
+    unfolding stopEntry
+    first-stop-entry body = rw (first-stop at (omega arith))
+
+    first-entry : entryAt (take n b) at areas stops ≡ entryAt b at areas stops
+    first-entry = go (frameAt b at) refl
+      where
+        go : (f : Frame) → frameAt b at ≡ f → entryAt (take n b) at areas stops ≡ entryAt b at areas stops
+        go Broken e =
+            broken-frame (take n b) at areas stops (omega (arith, first-length)) (first-frame at fits ∙ e)
+            ∙ sym (broken-frame b at areas stops (omega arith) e)
+        go (Whole kind body) e =
+            elim (ℕ-discrete kind 1) [
+              | yes is-one ↦
+                  let e′ : frameAt b at ≡ Whole 1 body = cc in
+                  area-frame (take n b) at areas stops body (first-frame at fits ∙ e′) ∙ first-area-entry body
+                  ∙ sym (area-frame b at areas stops body e′)
+              | no not-one ↦
+                  elim (ℕ-discrete kind 2) [
+                    | yes is-two ↦
+                        let e′ : frameAt b at ≡ Whole 2 body = cc in
+                        stop-frame (take n b) at areas stops body (first-frame at fits ∙ e′) ∙ first-stop-entry body
+                        ∙ sym (stop-frame b at areas stops body e′)
+                    | no not-two ↦
+                        other-frame (take n b) at areas stops kind body (first-frame at fits ∙ e) not-one not-two
+                        ∙ sym (other-frame b at areas stops kind body e not-one not-two)
+                  ]
+            ]
+
+-- ---- The places that faultless records reach lie at 13,928 or before.
+
+few-stops : (b : List ℕ) (at areas stops : ℕ) → Passed b at areas stops → stops ≤ 1000
+few-stops b at areas zero p = omega arith
+few-stops b at areas (suc stops) p =
+    let last = stop-entry b (stopPlace areas stops) areas stops (p .stop stops (omega arith)) in
+    omega (arith, last .few)
+
+module _ (n : ℕ) (b : List ℕ) (there : n ≤ length b) (wide : 14954 ≤ n) (at areas stops : ℕ) (p : Passed b at areas stops) where
+  early : at ≤ 13928
+  early = omega (arith, p .reached .place, p .reached .few, few-stops b at areas stops p)
+
+  first-passed : Passed (take n b) at areas stops
+  first-passed =
+      let few = p .reached .few in
+      let few-of = few-stops b at areas stops p in
+      record {
+        reached = record { place = p .reached .place; inside = omega (arith, first-length n b there, early); few = few };
+        area = λ i h. first-entry n b there (areaPlace i) i 0 (omega arith) (omega arith) (omega arith) ∙ p .area i h;
+        stop = λ j h. first-entry n b there (stopPlace areas j) areas j (omega arith) few (omega arith) ∙ p .stop j h;
+      }
+
+-- So many bytes decide, and any more.
+pub enough-bytes-decide : (n : ℕ) (b : List ℕ) → 14954 ≤ n → readTariff b ≡ readTariff (take n b)
+enough-bytes-decide n b wide =
+    elim (decLt n (length b)) [
+      | yes longer ↦ decided (omega arith) (ends b)
+      | no all ↦ rw (take-all n b (omega arith))
+    ]
+  where
+    decided : n ≤ length b → {reading : Reading} → Ends b reading → reading ≡ readTariff (take n b)
+    decided there (fault {number} {at} areas stops first) =
+        let p = first .passed in
+        sym
+        (at-fault (take n b) number at areas stops
+        (record {
+          passed = first-passed n b there wide at areas stops p;
+          faulty =
+              first-entry n b there at areas stops (omega (arith, early n b there wide at areas stops p)) (p .reached .few) (omega arith)
+              ∙ first .faulty;
+        }))
+    decided there (finish {counts} at p is) =
+        let over = end-entry b at (counts .areas) (counts .stops) is in
+        absurd (omega (arith, early n b there wide at (counts .areas) (counts .stops) p))
+
+pub first-bytes-decide : (b : List ℕ) → readTariff b ≡ readTariff (take 14954 b)
+first-bytes-decide b = enough-bytes-decide 14954 b (omega arith)

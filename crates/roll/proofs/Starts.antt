@@ -1,0 +1,148 @@
+-- What stands at the start of a piece: each way through `unfinished`, `stepOf` and `bookStep`.
+-- Assumes nothing.
+use Prim.Native.Nat.{ℕ, _+_, _≤_, _<_}
+use native.Mathlib.Decide.{ℕ-discrete}
+use native.Mathlib.Omega.{arith}
+use mathlib.Core.Path.{_≡_, refl, sym, _∙_}
+use mathlib.Core.Bool.{Bool, true, false, _&&_, and-false}
+use mathlib.Core.List.{List}
+use borrow.Author.Tests.{lt-ltb, le-ltb, eq-eqb, ne-eqb, ltb-true}
+use lib.ListN.{length, take}
+use lib.Dec.{leb, ltb}
+use Rattle.wire.specs.Number.{getLe}
+use Rattle.wire.specs.Frame.{frameAt}
+use Rattle.wire.specs.declared.Frame.{Frame}
+use Rattle.wire.specs.declared.Frame.the-variants as frame
+use Rattle.wire.proofs.Frames.{whole}
+use Rattle.tariff.proofs.Tests.{both-left, both-right, one-of, told}
+use Rattle.book.specs.Sound.{sound}
+use Rattle.settle.specs.Outcome.{bookAfter}
+use Rattle.roll.specs.declared.Line.{Line}
+use Rattle.roll.specs.declared.Step.{Step}
+use Rattle.roll.specs.declared.Step.the-variants.{End, More, Record, Broken}
+use Rattle.roll.specs.Lines.{unfinished, outcomeAt, lineOf, stepOf, bookStep, SettledLine, Stepped}
+
+-- Fewer than 4 bytes are not a whole record yet.
+pub few-unfinished : (piece : List ℕ) → length piece < 4 → true ≡ unfinished piece
+unfolding unfinished
+few-unfinished piece few = rw (lt-ltb (length piece) 4 few)
+
+-- With 4 bytes the length decides.
+pub length-decides :
+    (piece : List ℕ) (long : ℕ) → 4 ≤ length piece → long ≡ getLe 2 piece 0
+    → leb 2 long && leb long 1024 && ltb (length piece) (2 + long) ≡ unfinished piece
+unfolding unfinished
+length-decides piece long enough e = rw (le-ltb (length piece) 4 enough, e)
+
+-- a piece that ends before its record does has fewer than 1,026 bytes
+unfinished-short : (piece : List ℕ) → unfinished piece ≡ true → length piece < 1026
+unfolding unfinished
+unfinished-short piece e =
+    one-of (ltb (length piece) 4) _ e (λ few. omega (arith, ltb-true (length piece) 4 few))
+    (λ part.
+    let most : getLe 2 piece 0 ≤ 1024 = search told in
+    let fewer : length piece < 2 + getLe 2 piece 0 = search told in
+    omega arith)
+
+-- A whole record is not unfinished.
+pub whole-finished : (piece : List ℕ) (more : Bool) (kind body : ℕ) → frameAt piece 0 ≡ frame.Whole kind body → more && unfinished piece ≡ false
+unfolding unfinished
+whole-finished piece more kind body e =
+    let facts = whole piece 0 kind body e in
+    rw (le-ltb (length piece) 4 (omega arith), le-ltb (length piece) (2 + getLe 2 piece 0) (omega arith), and-false, and-false)
+
+-- Each way through a step, and the book after it.
+module _ (tariff book piece : List ℕ) (more : Bool) where
+  pub more-way : more && unfinished piece ≡ true → (stepOf tariff book piece more ≡ More) × (bookStep tariff book piece more ≡ book)
+  unfolding stepOf bookStep
+  more-way e = (rw e, rw e)
+
+  module _ (now : more && unfinished piece ≡ false) where
+    pub end-way : length piece ≡ 0 → (stepOf tariff book piece more ≡ End) × (bookStep tariff book piece more ≡ book)
+    unfolding stepOf bookStep
+    end-way none = (rw (now, eq-eqb (length piece) 0 none), rw (now, eq-eqb (length piece) 0 none))
+
+    pub broken-way :
+        (length piece ≡ 0 → ⊥) → frameAt piece 0 ≡ frame.Broken
+        → (stepOf tariff book piece more ≡ Broken) × (bookStep tariff book piece more ≡ book)
+    unfolding stepOf bookStep
+    broken-way some e = (rw (now, ne-eqb (length piece) 0 some, e), rw (now, ne-eqb (length piece) 0 some, e))
+
+    pub whole-way :
+        (kind body : ℕ) → frameAt piece 0 ≡ frame.Whole kind body
+        → (stepOf tariff book piece more ≡ Record (lineOf (outcomeAt tariff book piece (4 + body))) (4 + body))
+        × (bookStep tariff book piece more ≡ bookAfter (outcomeAt tariff book piece (4 + body)) book)
+    unfolding stepOf bookStep
+    whole-way kind body e =
+        let facts = whole piece 0 kind body e in
+        let some : length piece ≡ 0 → ⊥ = λ none. omega arith in
+        (rw (now, ne-eqb (length piece) 0 some, e), rw (now, ne-eqb (length piece) 0 some, e))
+
+-- What stands at the start, by what the step says.
+data Stands (tariff book piece : List ℕ) (more : Bool) : Step → Type 0 where
+  unfinished-yet : more && unfinished piece ≡ true → Stands tariff book piece more More
+  nothing : length piece ≡ 0 → Stands tariff book piece more End
+  not-framed : frameAt piece 0 ≡ frame.Broken → Stands tariff book piece more Broken
+  framed : {line : Line} {used : ℕ} (kind body : ℕ) → used ≡ 4 + body → frameAt piece 0 ≡ frame.Whole kind body
+      → Stands tariff book piece more (Record line used)
+
+module _ (tariff book piece : List ℕ) (more : Bool) where
+  stands : Stands tariff book piece more (stepOf tariff book piece more)
+  stands = go (more && unfinished piece) refl
+    where
+      at-frame : more && unfinished piece ≡ false → (length piece ≡ 0 → ⊥) → (f : Frame) → frameAt piece 0 ≡ f → Stands tariff book piece more (stepOf tariff book piece more)
+      at-frame now some frame.Broken e = rw (broken-way tariff book piece more now some e .0) (not-framed e)
+      at-frame now some (frame.Whole kind body) e = rw (whole-way tariff book piece more now kind body e .0) (framed kind body refl e)
+
+      go : (t : Bool) → more && unfinished piece ≡ t → Stands tariff book piece more (stepOf tariff book piece more)
+      go true e = rw (more-way tariff book piece more e .0) (unfinished-yet e)
+      go false e =
+          elim (ℕ-discrete (length piece) 0) [
+            | yes none ↦ rw (end-way tariff book piece more e none .0) (nothing none)
+            | no some ↦ at-frame e some (frameAt piece 0) refl
+          ]
+
+  -- A record is used whole: 4 bytes at least, and no more than the piece has.
+  pub record-within : (line : Line) (used : ℕ) → stepOf tariff book piece more ≡ Record line used → (4 ≤ used) × (used ≤ length piece)
+  record-within line used e = go (rw e at stands)
+    where
+      go : {line : Line} {used : ℕ} → Stands tariff book piece more (Record line used) → (4 ≤ used) × (used ≤ length piece)
+      go (framed kind body is f) = let facts = whole piece 0 kind body f in (omega arith, omega arith)
+
+  -- A record that is not whole yet has fewer than 1,026 bytes.
+  pub more-short : stepOf tariff book piece more ≡ More → (more ≡ true) × (length piece < 1026)
+  more-short e = go (rw e at stands)
+    where
+      go : Stands tariff book piece more More → (more ≡ true) × (length piece < 1026)
+      go (unfinished-yet t) = (both-left more (unfinished piece) t, unfinished-short piece (both-right more (unfinished piece) t))
+
+-- The contract of `next`, way by way.
+module _ (tariff : List ℕ) (areas : ℕ) (book piece : List ℕ) (more u : Bool) (is : sound book areas ≡ true) (e : u ≡ unfinished piece) where
+  pub more-stepped : more && u ≡ true → Stepped tariff areas book piece more book More
+  more-stepped t =
+      let way = more-way tariff book piece more (rw e at t) in
+      record { found = sym (way .0); book-is = sym (way .1); sound-again = is; range = omega arith }
+
+  module _ (t : more && u ≡ false) where
+    pub end-stepped : length piece ≡ 0 → Stepped tariff areas book piece more book End
+    end-stepped none =
+        let way = end-way tariff book piece more (rw e at t) none in
+        record { found = sym (way .0); book-is = sym (way .1); sound-again = is; range = omega arith }
+
+    pub broken-stepped : (length piece ≡ 0 → ⊥) → frame.Broken ≡ frameAt piece 0 → Stepped tariff areas book piece more book Broken
+    broken-stepped some f =
+        let way = broken-way tariff book piece more (rw e at t) some (sym f) in
+        record { found = sym (way .0); book-is = sym (way .1); sound-again = is; range = omega arith }
+
+    pub record-stepped :
+        (kind body : ℕ) (book′ : List ℕ) (line : Line) → frame.Whole kind body ≡ frameAt piece 0
+        → SettledLine tariff areas book (take (4 + body) piece) book′ line → Stepped tariff areas book piece more book′ (Record line (4 + body))
+    unfolding outcomeAt
+    record-stepped kind body book′ line f s =
+        let way = whole-way tariff book piece more (rw e at t) kind body (sym f) in
+        record {
+          found = rw (s .line) (sym (way .0));
+          book-is = s .book-is ∙ sym (way .1);
+          sound-again = s .sound-again;
+          range = s .range;
+        }

@@ -1,0 +1,56 @@
+-- A record of the wrong kind is refused with 5 and passed over.
+-- Assumes nothing.
+use Prim.Native.Nat.{ℕ, _+_}
+use native.Mathlib.Omega.{arith}
+use mathlib.Core.Path.{_≡_, refl, sym, ap, _∙_}
+use mathlib.Core.Bool.{Bool, true, false, _&&_, and-false}
+use mathlib.Core.List.{List}
+use lib.ListN.{length, take}
+use lib.Seq.{length-take-le}
+use Rattle.wire.specs.Frame.{frameAt}
+use Rattle.wire.specs.declared.Frame.the-variants as frame
+use Rattle.wire.proofs.Number.{get-take}
+use Rattle.wire.proofs.Frames.{whole, whole-back}
+use Rattle.tariff.specs.declared.Counts.{Counts}
+use Rattle.tariff.specs.Areas.{Read}
+use Rattle.trip.specs.declared.Offered.the-variants.{BadRecord}
+use Rattle.trip.specs.Trips.{readTrip}
+use Rattle.trip.proofs.Shapes.{other-kind, no-trip-given}
+use Rattle.trip.proofs.Ways.{no-record}
+use Rattle.book.specs.Sound.{sound}
+use Rattle.settle.specs.Outcome.{refused, settled, bookAfter}
+use Rattle.settle.proofs.Ways.{sound-way, refused-way}
+use Rattle.roll.specs.declared.Line.the-variants.{Refused}
+use Rattle.roll.specs.declared.Step.the-variants.{Record}
+use Rattle.roll.specs.Lines.{unfinished, lineOf, outcomeAt, stepOf, bookStep}
+use Rattle.roll.proofs.Starts.{whole-way, whole-finished}
+
+-- the record alone has the frame that it has in the piece
+frame-alone : (piece : List ℕ) (kind body : ℕ) → frameAt piece 0 ≡ frame.Whole kind body → frameAt (take (4 + body) piece) 0 ≡ frame.Whole kind body
+frame-alone piece kind body e =
+    let facts = whole piece 0 kind body e in
+    let size = length-take-le (4 + body) piece (omega arith) in
+    whole-back (take (4 + body) piece) 0 kind body
+    (record {
+      kind-is = facts .kind-is ∙ sym (get-take 2 (4 + body) piece 2 (omega arith));
+      length-is = get-take 2 (4 + body) piece 0 (omega arith) ∙ facts .length-is;
+      fits = omega arith;
+      short = facts .short;
+    })
+
+module _ (tariff : List ℕ) (counts : Counts) (book piece : List ℕ) (more : Bool) (read : Read tariff counts) (is : sound book (counts .areas) ≡ true) where
+  refused-alone : (kind body : ℕ) → frameAt piece 0 ≡ frame.Whole kind body → (kind ≡ 3 → ⊥) → outcomeAt tariff book piece (4 + body) ≡ refused 5 0
+  unfolding outcomeAt
+  refused-alone kind body e other =
+      let alone = take (4 + body) piece in
+      let bad = no-record alone (counts .stops) (no-trip-given alone 0 (other-kind kind body (frame-alone piece kind body e) other)) in
+      refused-way tariff book alone 137 counts read 5 (sound-way counts book alone 137 is BadRecord bad)
+
+  pub wrong-kind :
+      (kind body : ℕ) → frameAt piece 0 ≡ frame.Whole kind body → (kind ≡ 3 → ⊥)
+      → (stepOf tariff book piece more ≡ Record (Refused 5) (4 + body)) × (bookStep tariff book piece more ≡ book)
+  unfolding lineOf
+  wrong-kind kind body e other =
+      let way = whole-way tariff book piece more (whole-finished piece more kind body e) kind body e in
+      let five = refused-alone kind body e other in
+      (rw five at (way .0), rw five at (way .1))

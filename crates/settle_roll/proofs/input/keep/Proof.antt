@@ -1,0 +1,61 @@
+-- `input::keep` is safe and ends: the room keeps its length, and the measure is the bytes that are left to move.
+-- Assumes nothing.
+use Prim.Native.Nat.{_≤_, _-_}
+use native.Mathlib.Omega.{arith}
+use mathlib.Core.Path.{_≡_}
+use lib.ListN.{length, length-set}
+use Rattle.settle_roll.proofs.input.keep.Statement.{statement}
+use Rattle.settle_roll.proofs.input.keep.Tie as tie
+
+abbrev Inv-loop : tie.InvT-loop
+Inv-loop room₀ from to count i₀ room i = (i ≤ count) × (length room ≡ length room₀)
+
+abbrev μ-loop : tie.MeasureT-loop
+μ-loop room₀ from to count i₀ room i = count - i
+
+sub-count : tie.Need-sub-count Inv-loop μ-loop
+sub-count c = omega arith
+
+loop-holds : tie.Need-loop-holds Inv-loop μ-loop
+loop-holds c = omega arith
+
+add-room : tie.Need-add-room Inv-loop μ-loop
+add-room c = omega arith
+
+slice-read-room : tie.Need-slice-read-room Inv-loop μ-loop
+slice-read-room c = omega arith
+
+slice-write-room : tie.Need-slice-write-room Inv-loop μ-loop
+slice-write-room c = omega arith
+
+add-i : tie.Need-add-i Inv-loop μ-loop
+add-i c = omega arith
+
+loop-less : tie.Need-loop-less Inv-loop μ-loop
+loop-less c = omega arith
+
+loop-again : tie.Need-loop-again Inv-loop μ-loop
+loop-again c = (omega arith, simp length-set (omega arith))
+
+same-length : tie.Need-same-length Inv-loop μ-loop
+same-length c = omega arith
+
+returns : tie.Need-returns Inv-loop μ-loop
+returns c = omega arith
+
+pub keep-spec : {M : Type 1} → statement M
+keep-spec =
+    tie.close
+    (tie.spec
+    Inv-loop
+    μ-loop
+    sub-count
+    loop-holds
+    add-room
+    slice-read-room
+    slice-write-room
+    add-i
+    loop-less
+    loop-again
+    same-length
+    returns)

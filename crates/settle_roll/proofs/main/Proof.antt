@@ -1,0 +1,41 @@
+-- `main` is safe: the bytes that the tariff has are there.
+-- Assumes nothing.
+use native.Mathlib.Omega.{arith}
+use mathlib.Core.Path.{sym}
+use borrow.Author.Needs.{needs}
+use lib.Seq.{length-take-le}
+use Rattle.settle_roll.proofs.main.Statement.{statement}
+use Rattle.settle_roll.proofs.main.Tie as tie
+
+slice-aggregate-load-tariff : tie.Need-slice-aggregate-load-tariff
+slice-aggregate-load-tariff c = search needs
+
+load-tariff-requires : tie.Need-load-tariff-requires
+load-tariff-requires c κs = search needs
+
+returns : tie.Need-returns
+returns c = search needs
+
+array-share-prefix-tariff : tie.Need-array-share-prefix-tariff
+array-share-prefix-tariff c = search needs
+
+slice-aggregate-settle-under : tie.Need-slice-aggregate-settle-under
+slice-aggregate-settle-under c = sym (length-take-le _ _ (omega arith))
+
+settle-under-requires : tie.Need-settle-under-requires
+settle-under-requires c κs = search needs
+
+returns-2 : tie.Need-returns-2
+returns-2 c = search needs
+
+pub main-spec : {M : Type 1} → statement M
+main-spec =
+    tie.close
+    (tie.spec
+    slice-aggregate-load-tariff
+    load-tariff-requires
+    returns
+    array-share-prefix-tariff
+    slice-aggregate-settle-under
+    settle-under-requires
+    returns-2)

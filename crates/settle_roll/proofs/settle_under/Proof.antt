@@ -1,0 +1,39 @@
+-- `settle_under` is safe: the roll is settled where the tariff was read without fault.
+-- Assumes nothing.
+use mathlib.Core.Path.{sym, _∙_}
+use borrow.Author.Needs.{needs}
+use Rattle.settle_roll.proofs.settle_under.Statement.{statement}
+use Rattle.settle_roll.proofs.settle_under.Tie as tie
+
+read-tariff-requires : tie.Need-read-tariff-requires
+read-tariff-requires c κs = search needs
+
+enum-known-number : tie.Need-enum-known-number
+enum-known-number c = search needs
+
+print-fault-requires : tie.Need-print-fault-requires
+print-fault-requires c κs = search needs
+
+enum-known-counts : tie.Need-enum-known-counts
+enum-known-counts c = search needs
+
+settle-roll-requires : tie.Need-settle-roll-requires
+settle-roll-requires c κs = sym (c .before .before .before .read-tariff .ensures) ∙ c .before .counts .given .1
+
+returns : tie.Need-returns
+returns c = search needs
+
+returns-2 : tie.Need-returns-2
+returns-2 c = search needs
+
+pub settle-under-spec : {M : Type 1} → statement M
+settle-under-spec =
+    tie.close
+    (tie.spec
+    read-tariff-requires
+    enum-known-number
+    print-fault-requires
+    enum-known-counts
+    settle-roll-requires
+    returns
+    returns-2)

@@ -1,0 +1,90 @@
+// Bytes of a file: the tariff's first, and the roll's next.
+use libc::ENOENT;
+use libc::STDIN_FILENO;
+ghost use mathlib.Core.Path.{_≡_};
+ghost use Prim.Native.Nat.{_+_, _≤_, _<_};
+ghost use lib.ListN.{length};
+
+// What reading came to: how many bytes, or a failure, which was told on standard error.
+pub struct Got {
+    pub failed: bool,
+    pub bytes: usize,
+}
+
+// One read of a file into the room from a place on; no byte is the file's end, where there is room.
+fn read_at(file: i32, name: &[u8], room: &mut [u8], place: usize) -> Got
+    requires { ⌜ place ≤ length (now room) ⌝ }
+    ensures { λ r. ⌜ place + r .bytes ≤ length (now (room .entry)) ⌝ }
+{
+    let answer = libc::read(file, &mut room[place..]);
+    if answer < 0 {
+        os::fail(name);
+        return Got {
+            failed: true,
+            bytes: 0,
+        };
+    }
+    Got {
+        failed: false,
+        bytes: io::count(answer, &room[place..]),
+    }
+}
+
+// A file's first bytes: all of them, or as many as there is room for.
+fn read_start(file: i32, name: &[u8], room: &mut [u8]) -> Got
+    ensures { λ r. ⌜ r .bytes ≤ length (now (room .entry)) ⌝ }
+{
+    let mut bytes = 0;
+    while bytes < room.len() {
+        let got = read_at(file, name, room, bytes);
+        if got.failed {
+            return got;
+        }
+        if got.bytes == 0 {
+            break;
+        }
+        bytes += got.bytes;
+    }
+    Got {
+        failed: false,
+        bytes,
+    }
+}
+
+// The tariff's first bytes. A missing file counts as empty.
+pub fn load_tariff(room: &mut [u8]) -> Got
+    ensures { λ r. ⌜ r .bytes ≤ length (now (room .entry)) ⌝ }
+{
+    let name = b"tariff.bin";
+    let file = os::open_read(name);
+    if 0 <= file {
+        let got = read_start(file, name, room);
+        libc::close(file);
+        return got;
+    }
+    let failed = os::errno() != ENOENT;
+    if failed {
+        os::fail(name);
+    }
+    Got { failed, bytes: 0 }
+}
+
+// The roll's next bytes, behind those that are there already.
+pub fn read_roll(room: &mut [u8], place: usize) -> Got
+    requires { ⌜ place < length (now room) ⌝ }
+    ensures { λ r. ⌜ place + r .bytes ≤ length (now (room .entry)) ⌝ }
+{
+    read_at(STDIN_FILENO, b"standard input", room, place)
+}
+
+// Moves the bytes from `from` to `to` to the start of the room. The answer is how many they are.
+pub fn keep(room: &mut [u8], from: usize, to: usize) -> usize
+    requires { ⌜ (from ≤ to) × (to ≤ length (now room)) ⌝ }
+    ensures { λ r. ⌜ r + from ≡ to ⌝ }
+{
+    let count = to - from;
+    for i in 0..count {
+        room[i] = room[from + i];
+    }
+    count
+}

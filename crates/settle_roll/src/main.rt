@@ -1,0 +1,34 @@
+// Settles a roll of trips: the tariff from tariff.bin, the roll from standard input, a line a record on standard output.
+// This program only reads, calls and prints; what a line says is the library's.
+//
+// input.rt    bytes of a file: the tariff's first, and the roll's next
+// output.rt   lines, put together in a buffer that is written when it is full
+// run.rt      the roll, record by record
+use input::load_tariff;
+use output::print_fault;
+use roll::TARIFF_BYTES;
+use run::settle_roll;
+use tariff::Reading;
+use tariff::scan::read_tariff;
+
+mod input;
+mod output;
+mod run;
+
+// A refused tariff gives its one line; under any other the roll is settled.
+fn settle_under(tariff: &[u8]) {
+    match read_tariff(tariff) {
+        Reading::Fault { number, at } => print_fault(number, at),
+        Reading::Faultless(counts) => settle_roll(tariff, counts),
+    }
+}
+
+fn main() {
+    let mut tariff = [0u8; TARIFF_BYTES];
+    let got = load_tariff(&mut tariff);
+    if got.failed {
+        return;
+    }
+    let bytes = got.bytes;
+    settle_under(&tariff[..bytes]);
+}
