@@ -5,22 +5,22 @@ use native.Mathlib.Omega.{arith}
 use native.Mathlib.Decide.{decLt}
 use mathlib.Core.Path.{_≡_, refl, sym, ap, _∙_}
 use mathlib.Core.Logic.{_⊎_, inl, inr}
-use mathlib.Core.Bool.{Bool, true, false, cond, not, _&&_, _||_, and-false, or-true, false≢true}
+use mathlib.Core.Bool.{Bool, true, false, not, _&&_, _||_, and-false, or-true, false≢true}
 use mathlib.Core.List.{List, [], _∷_, _++_, append-nil, append-assoc}
-use borrow.Author.Tests.{lt-ltb, le-ltb, le-leb, lt-leb, ltb-false, ltb-true, leb-true}
-use lib.ListN.{length, take, drop, length-append}
+use borrow.Author.Tests.{lt-ltb, le-ltb, le-leb, lt-leb, ltb-false}
+use lib.ListN.{length, drop, length-append}
 use lib.Seq.{take-append-le, drop-append-le}
 use lib.Dec.{leb, ltb}
 use Rattle.wire.specs.Number.{getLe}
 use Rattle.wire.specs.Frame.{frameAt}
 use Rattle.wire.specs.declared.Frame.{Frame}
 use Rattle.wire.specs.declared.Frame.the-variants as frame
-use Rattle.wire.proofs.Frames.{WholeAt, tested, broken-back, whole, whole-back}
+use Rattle.wire.proofs.Frames.{tested, broken-back, whole, whole-back}
 use Rattle.roll.specs.declared.Line.{Line}
 use Rattle.roll.specs.declared.Line.the-variants.{Refused}
 use Rattle.roll.specs.declared.Step.{Step}
 use Rattle.roll.specs.declared.Step.the-variants.{End, More, Record, Broken}
-use Rattle.roll.specs.Lines.{unfinished, outcomeAt, lineOf, stepOf, bookStep, linesOf, joined, isMore, Come, fetched, fedLines}
+use Rattle.roll.specs.Lines.{unfinished, outcomeAt, stepOf, bookStep, linesOf, joined, isMore, Come, fetched, fedLines}
 use Rattle.roll.proofs.Outcomes.{get-front}
 use Rattle.roll.proofs.Starts.{few-unfinished, length-decides, more-way, broken-way, whole-way, record-within}
 

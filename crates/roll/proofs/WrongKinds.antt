@@ -2,10 +2,10 @@
 -- Assumes nothing.
 use Prim.Native.Nat.{ℕ, _+_}
 use native.Mathlib.Omega.{arith}
-use mathlib.Core.Path.{_≡_, refl, sym, ap, _∙_}
-use mathlib.Core.Bool.{Bool, true, false, _&&_, and-false}
+use mathlib.Core.Path.{_≡_, sym, _∙_}
+use mathlib.Core.Bool.{Bool, true}
 use mathlib.Core.List.{List}
-use lib.ListN.{length, take}
+use lib.ListN.{take}
 use lib.Seq.{length-take-le}
 use Rattle.wire.specs.Frame.{frameAt}
 use Rattle.wire.specs.declared.Frame.the-variants as frame
@@ -14,15 +14,14 @@ use Rattle.wire.proofs.Frames.{whole, whole-back}
 use Rattle.tariff.specs.declared.Counts.{Counts}
 use Rattle.tariff.specs.Areas.{Read}
 use Rattle.trip.specs.declared.Offered.the-variants.{BadRecord}
-use Rattle.trip.specs.Trips.{readTrip}
 use Rattle.trip.proofs.Shapes.{other-kind, no-trip-given}
 use Rattle.trip.proofs.Ways.{no-record}
 use Rattle.book.specs.Sound.{sound}
-use Rattle.settle.specs.Outcome.{refused, settled, bookAfter}
+use Rattle.settle.specs.Outcome.{refused}
 use Rattle.settle.proofs.Ways.{sound-way, refused-way}
 use Rattle.roll.specs.declared.Line.the-variants.{Refused}
 use Rattle.roll.specs.declared.Step.the-variants.{Record}
-use Rattle.roll.specs.Lines.{unfinished, lineOf, outcomeAt, stepOf, bookStep}
+use Rattle.roll.specs.Lines.{lineOf, outcomeAt, stepOf, bookStep}
 use Rattle.roll.proofs.Starts.{whole-way, whole-finished}
 
 -- the record alone has the frame that it has in the piece

@@ -18,7 +18,7 @@ use Rattle.roll.proofs.Starts.{record-within, more-short}
 use Rattle.settle_roll.specs.declared.run.Tally.{Tally}
 use Rattle.settle_roll.specs.declared.run.Run.{Run}
 use Rattle.settle_roll.specs.declared.run.Turn.the-variants.{On}
-use Rattle.settle_roll.specs.Runs.{records, CentsFit, InRange, left, Turned}
+use Rattle.settle_roll.specs.Runs.{records, CentsFit, InRange, Turned}
 
 -- A run that goes on has not come to its last record.
 pub going-on : (last : Bool) (n : ℕ) → last || eqb n 65535 ≡ false → n ≡ 65535 → ⊥

@@ -2,7 +2,7 @@
 use libc::STDOUT_FILENO;
 use roll::Line;
 ghost use mathlib.Core.Path.{_≡_};
-ghost use Prim.Native.Nat.{_+_, _≤_};
+ghost use Prim.Native.Nat.{_+_, _*_, _≤_};
 ghost use lib.ListN.{length};
 
 // The buffer's size, and the room that a line and the tail behind it take at most.
@@ -21,15 +21,36 @@ fn put_text(out: &mut [u8], place: usize, text: &[u8]) -> usize
     place + text.len()
 }
 
-// A text and a number behind it, which has 20 digits at most.
-fn put_number(out: &mut [u8], place: usize, text: &[u8], number: u64) -> usize
-    requires { ⌜ place + length (now text) + 20 ≤ length (now out) ⌝ }
-    ensures { λ r. ⌜ r ≤ place + length (now (text .entry)) + 20 ⌝ }
+// A number's digits, of which there are 20 at most.
+fn put_number(out: &mut [u8], place: usize, number: u64) -> usize
+    requires { ⌜ place + 20 ≤ length (now out) ⌝ }
+    ensures { λ r. ⌜ r ≤ place + 20 ⌝ }
 {
     let mut digits = [0u8; 20];
     let count = io::decimal(number, &mut digits);
+    put_text(out, place, &digits[..count])
+}
+
+// A text and a number behind it.
+fn put_named(out: &mut [u8], place: usize, text: &[u8], number: u64) -> usize
+    requires { ⌜ place + length (now text) + 20 ≤ length (now out) ⌝ }
+    ensures { λ r. ⌜ r ≤ place + length (now (text .entry)) + 20 ⌝ }
+{
     let start = put_text(out, place, text);
-    put_text(out, start, &digits[..count])
+    put_number(out, start, number)
+}
+
+// Numbers, with a blank before each.
+fn put_numbers(out: &mut [u8], place: usize, numbers: &[u64]) -> usize
+    requires { ⌜ place + 21 * length (now numbers) ≤ length (now out) ⌝ }
+    ensures { λ r. ⌜ r ≤ place + 21 * length (now (numbers .entry)) ⌝ }
+{
+    let mut end = place;
+    for i in 0..numbers.len() {
+        out[end] = b' ';
+        end = put_number(out, end + 1, numbers[i]);
+    }
+    end
 }
 
 pub fn put_header(out: &mut [u8]) -> usize
@@ -39,33 +60,12 @@ pub fn put_header(out: &mut [u8]) -> usize
     put_text(out, 0, b"trip area km min open cents\n")
 }
 
-// What the line of a charge record says behind its number.
-fn put_charged(
-    out: &mut [u8],
-    place: usize,
-    area: u8,
-    km: u16,
-    minutes: u16,
-    opening: u32,
-    cents: u64,
-) -> usize
-    requires { ⌜ place + 106 ≤ length (now out) ⌝ }
-    ensures { λ r. ⌜ r ≤ place + 106 ⌝ }
-{
-    let after1 = put_number(out, place, b" ", area as u64);
-    let after2 = put_number(out, after1, b" ", km as u64);
-    let after3 = put_number(out, after2, b" ", minutes as u64);
-    let after4 = put_number(out, after3, b" ", opening as u64);
-    let after5 = put_number(out, after4, b" ", cents);
-    put_text(out, after5, b"\n")
-}
-
 // The line of a record: its number, and what the library says of it.
 pub fn put_line(out: &mut [u8], place: usize, number: u32, line: Line) -> usize
     requires { ⌜ place + 128 ≤ length (now out) ⌝ }
     ensures { λ r. ⌜ r ≤ place + 128 ⌝ }
 {
-    let start = put_number(out, place, b"", number as u64);
+    let start = put_number(out, place, number as u64);
     match line {
         Line::Charged {
             area,
@@ -73,10 +73,20 @@ pub fn put_line(out: &mut [u8], place: usize, number: u32, line: Line) -> usize
             minutes,
             opening,
             cents,
-        } => put_charged(out, start, area, km, minutes, opening, cents),
+        } => {
+            let numbers = [
+                area as u64,
+                km as u64,
+                minutes as u64,
+                opening as u64,
+                cents,
+            ];
+            let end = put_numbers(out, start, &numbers);
+            put_text(out, end, b"\n")
+        }
         Line::Refused(refusal) => {
-            let after = put_number(out, start, b" refused ", refusal);
-            put_text(out, after, b"\n")
+            let end = put_named(out, start, b" refused ", refusal);
+            put_text(out, end, b"\n")
         }
     }
 }
@@ -85,9 +95,9 @@ fn put_tail(out: &mut [u8], place: usize, accepted: u32, refused: u32, cents: u6
     requires { ⌜ place + 128 ≤ length (now out) ⌝ }
     ensures { λ r. ⌜ r ≤ place + 128 ⌝ }
 {
-    let after1 = put_number(out, place, b"accepted ", accepted as u64);
-    let after2 = put_number(out, after1, b" refused ", refused as u64);
-    let after3 = put_number(out, after2, b" cents ", cents);
+    let after1 = put_named(out, place, b"accepted ", accepted as u64);
+    let after2 = put_named(out, after1, b" refused ", refused as u64);
+    let after3 = put_named(out, after2, b" cents ", cents);
     put_text(out, after3, b"\n")
 }
 
@@ -113,8 +123,8 @@ pub fn finish(out: &mut [u8], place: usize, accepted: u32, refused: u32, cents: 
 // The one line of a refused tariff.
 pub fn print_fault(number: u8, at: usize) {
     let mut out = [0u8; 64];
-    let after1 = put_number(&mut out, 0, b"tariff refused ", number as u64);
-    let after2 = put_number(&mut out, after1, b" at ", at as u64);
+    let after1 = put_named(&mut out, 0, b"tariff refused ", number as u64);
+    let after2 = put_named(&mut out, after1, b" at ", at as u64);
     let end = put_text(&mut out, after2, b"\n");
     write(&out, end);
 }

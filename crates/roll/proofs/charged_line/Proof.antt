@@ -1,7 +1,6 @@
 -- `roll::charged_line` meets its contract: each number stands at its place in the record, and 31 charges are added at most.
 -- Assumes nothing.
 use native.Mathlib.Omega.{arith}
-use mathlib.Core.Path.{_≡_}
 use borrow.Author.Needs.{needs}
 use Rattle.roll.specs.Lines.{chargedLine}
 use Rattle.roll.proofs.charged_line.Statement.{statement}

@@ -1,6 +1,6 @@
 -- `roll::fresh_book` meets its contract: a book of zeros is the fresh one, which is sound under every tariff.
 -- Assumes nothing.
-use mathlib.Core.Path.{_≡_, refl, sym}
+use mathlib.Core.Path.{refl, sym}
 use Rattle.book.proofs.WordLaws.{fresh-size}
 use Rattle.book.proofs.SoundLaws.{fresh-sound}
 use Rattle.roll.proofs.fresh_book.Statement.{statement}
