@@ -143,7 +143,7 @@ module _ (b : List ℕ) (at areas stops : ℕ) where
       let facts = stop-tests body areas stops due in
       record { frame = rw (facts .0) at frame; some = facts .1; few = facts .2 }
 
-  stop-holds : StopInPlace b at areas stops → stopDue 9 areas stops ≡ true
+  pub stop-holds : StopInPlace b at areas stops → stopDue 9 areas stops ≡ true
   stop-holds here = rw (lt-ltb 0 areas (here .some), lt-ltb stops 1000 (here .few))
 
   stop-out : (body : ℕ) → frameAt b at ≡ Whole 2 body → stopDue body areas stops ≡ false → StopInPlace b at areas stops → ⊥

@@ -7,3 +7,4 @@ pub mod Within
 pub mod LevelCaps
 pub mod Passed
 pub mod Faults
+pub mod RowLaws

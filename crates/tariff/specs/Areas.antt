@@ -1,12 +1,10 @@
 -- Areas and stops by number, of a faultless tariff; what every faultless tariff has; the areas above an area.
-use Prim.Native.Nat.{ℕ, _+_, _*_, _≤_, _<_}
+use Prim.Native.Nat.{ℕ, _≤_, _<_}
 use mathlib.Core.Path.{_≡_}
-use mathlib.Core.Logic.{_⊎_}
 use mathlib.Core.List.{List}
 use mathlib.Core.Bool.{Bool, true, cond, _||_}
 use lib.ListN.{length}
 use lib.Dec.{eqb}
-use Rattle.units.specs.declared.Cents.{Cents}
 use Rattle.units.specs.declared.Cap.{Cap}
 use Rattle.units.specs.declared.Cap.the-variants as day
 use Rattle.tariff.specs.declared.fields.AreaFields.{AreaFields}

@@ -2,6 +2,7 @@
 //
 // fields.rt  where a record's fields stand, and the fields of a record at a place
 // rules.rt   which values a record may have
+// rows.rt    stops in a row, four at a time
 // scan.rt    the loop over the records: the first fault, or the finished counts
 // areas.rt   areas and stops by number, the areas above an area, the smallest area containing two
 // levels.rt  what a ticket level picks of five amounts
@@ -13,6 +14,7 @@ use units::Minutes;
 pub mod areas;
 pub mod fields;
 pub mod levels;
+pub mod rows;
 pub mod rules;
 pub mod scan;
 

@@ -7,7 +7,7 @@ use crate::fields::StopFields;
 use wire::one_at;
 use wire::two_at;
 ghost use mathlib.Core.Path.{_≡_};
-ghost use Prim.Native.Nat.{_+_, _*_, _≤_};
+ghost use Prim.Native.Nat.{_*_, _≤_};
 ghost use lib.ListN.{length};
 ghost use Rattle.tariff.specs.Rules.{pricesRight, tripCapRight, capsRight, placeRight, stopRight};
 

@@ -9,6 +9,9 @@ use crate::fields::STOP_KIND;
 use crate::fields::STOP_SIZE;
 use crate::fields::area_fields;
 use crate::fields::stop_fields;
+use crate::rows::ROW_SIZE;
+use crate::rows::ROW_STOPS;
+use crate::rows::rows_standing;
 use crate::rules::caps_right;
 use crate::rules::place_right;
 use crate::rules::prices_right;
@@ -16,7 +19,7 @@ use crate::rules::stop_right;
 use wire::Frame;
 use wire::frame_at;
 ghost use mathlib.Core.Path.{_≡_};
-ghost use Prim.Native.Nat.{_+_, _*_, _≤_};
+ghost use Prim.Native.Nat.{_+_, _-_, _/_, _≤_, min};
 ghost use lib.ListN.{length};
 ghost use Rattle.tariff.specs.Scan.{Reached, areaEntry, stopEntry, entryAt, readTariff};
 
@@ -90,6 +93,16 @@ pub fn entry_at(b: &[u8], at: usize, areas: usize, stops: usize) -> Entry
     }
 }
 
+// How many rows of stops there is room for: in the bytes that are left, and up to 1,000 stops.
+fn rows_due(left: usize, stops: usize) -> usize
+    requires { ⌜ stops ≤ 1000 ⌝ }
+    ensures { λ r. ⌜ r ≡ min (left / 52) ((1000 - stops) / 4) ⌝ }
+{
+    let room = left / ROW_SIZE;
+    let due = (MOST_STOPS - stops) / ROW_STOPS;
+    if room <= due { room } else { due }
+}
+
 // The first fault of any byte string offered as a tariff, or its counts.
 pub fn read_tariff(tariff: &[u8]) -> Reading
     ensures { λ r. ⌜ r ≡ readTariff (now (tariff .entry)) ⌝ }
@@ -112,6 +125,9 @@ pub fn read_tariff(tariff: &[u8]) -> Reading
             Entry::Stop => {
                 at += STOP_SIZE;
                 stops += 1;
+                let rows = rows_standing(tariff, at, areas, rows_due(tariff.len() - at, stops));
+                at += ROW_SIZE * rows;
+                stops += ROW_STOPS * rows;
             }
         }
     }

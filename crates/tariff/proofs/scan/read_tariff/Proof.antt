@@ -1,5 +1,6 @@
 -- `tariff::scan::read_tariff` meets its contract. The loop's invariant: every record before the place is faultless, and so many areas
--- and stops reach it; so a fault met there is the first, and at the end the counts are finished. The measure is the bytes left.
+-- and stops reach it; so a fault met there is the first, and at the end the counts are finished. A stop is passed with the rows that
+-- stand after it. The measure is the bytes left.
 -- Assumes nothing.
 use Prim.Native.Nat.{_-_}
 use native.Mathlib.Omega.{arith}
@@ -10,6 +11,7 @@ use Rattle.tariff.specs.Scan.{entryAt, Passed}
 use Rattle.tariff.specs.declared.scan.Entry.the-variants.{Area, Stop}
 use Rattle.tariff.proofs.Entries.{area-entry, stop-entry}
 use Rattle.tariff.proofs.Passed.{passed-none, passed-area, passed-stop, at-end, at-fault}
+use Rattle.tariff.proofs.RowLaws.{passed-rows}
 use Rattle.tariff.proofs.scan.read_tariff.Statement.{statement}
 use Rattle.tariff.proofs.scan.read_tariff.Tie as tie
 
@@ -71,11 +73,38 @@ add-at-2 c = omega (arith, stop-entry _ _ _ _ (stop-there c))
 add-stops : tie.Need-add-stops Inv-loop μ-loop
 add-stops c = omega (arith, stop-entry _ _ _ _ (stop-there c))
 
+sub-rows-due : tie.Need-sub-rows-due Inv-loop μ-loop
+sub-rows-due c = omega (arith, stop-entry _ _ _ _ (stop-there c))
+
+rows-due-requires : tie.Need-rows-due-requires Inv-loop μ-loop
+rows-due-requires c κs = omega (arith, stop-entry _ _ _ _ (stop-there c))
+
+rows-standing-requires : tie.Need-rows-standing-requires Inv-loop μ-loop
+rows-standing-requires c κs = omega (arith, stop-entry _ _ _ _ (stop-there (c .before)))
+
+mul-at : tie.Need-mul-at Inv-loop μ-loop
+mul-at c = omega (arith, stop-entry _ _ _ _ (stop-there (c .before .before)))
+
+add-at-3 : tie.Need-add-at-3 Inv-loop μ-loop
+add-at-3 c = omega (arith, stop-entry _ _ _ _ (stop-there (c .before .before)))
+
+mul-stops : tie.Need-mul-stops Inv-loop μ-loop
+mul-stops c = omega (arith, stop-entry _ _ _ _ (stop-there (c .before .before)))
+
+add-stops-2 : tie.Need-add-stops-2 Inv-loop μ-loop
+add-stops-2 c = omega (arith, stop-entry _ _ _ _ (stop-there (c .before .before)))
+
 loop-less-2 : tie.Need-loop-less-2 Inv-loop μ-loop
-loop-less-2 c = omega (arith, stop-entry _ _ _ _ (stop-there c))
+loop-less-2 c = omega (arith, stop-entry _ _ _ _ (stop-there (c .before .before)))
 
 loop-again-2 : tie.Need-loop-again-2 Inv-loop μ-loop
-loop-again-2 c = passed-stop _ _ _ _ (c .before .before .before .loop .inv) (stop-there c)
+loop-again-2 c =
+    let here = stop-there (c .before .before) in
+    let facts = stop-entry _ _ _ _ here in
+    rw (c .rows-standing .ensures .0)
+    (passed-rows _ (λ i. c .before .before .before .before .before .before .shared-slice-known .given i .fits) _ (facts .some)
+    (c .before .rows-due .result) _ _ (omega arith) (omega arith)
+    (passed-stop _ _ _ _ (c .before .before .before .before .before .loop .inv) here))
 
 returns : tie.Need-returns Inv-loop μ-loop
 returns c = sym (at-end _ _ _ _ (c .before .before .before .loop .inv) (sym (c .before .before .entry-at .ensures) ∙ c .enum-told .given .1))
@@ -104,6 +133,13 @@ read-tariff-spec =
     enum-told-3
     add-at-2
     add-stops
+    sub-rows-due
+    rows-due-requires
+    rows-standing-requires
+    mul-at
+    add-at-3
+    mul-stops
+    add-stops-2
     loop-less-2
     loop-again-2
     returns

@@ -1,0 +1,126 @@
+-- Stops in a row: how their rows are counted, and that rows which stand are passed like stops one by one.
+-- Assumes nothing.
+use Prim.Native.Nat.{ℕ, zero, suc, _+_, _-_, _*_, _≤_, _<_}
+use native.Mathlib.Omega.{arith}
+use native.Mathlib.Nat.{add-assoc}
+use native.Mathlib.Numerals.{unary-clauses}
+use mathlib.Core.Path.{_≡_, refl, _∙_}
+use mathlib.Core.Bool.{Bool, true, false}
+use mathlib.Core.List.{List}
+use lib.ListN.{length}
+use Rattle.wire.specs.Number.{getLe, Bytes}
+use Rattle.wire.specs.Frame.{frameAt}
+use Rattle.wire.specs.declared.Frame.the-variants.{Whole}
+use Rattle.wire.proofs.Number.{get-range}
+use Rattle.wire.proofs.Frames.{whole-back}
+use Rattle.tariff.specs.Fields.{stopFields}
+use Rattle.tariff.specs.Rules.{stopRight}
+use Rattle.tariff.specs.Rows.{stopStands, rowStands, rowsStanding}
+use Rattle.tariff.specs.Scan.{entryAt, Passed}
+use Rattle.tariff.specs.declared.scan.Entry.the-variants.{Stop}
+use Rattle.tariff.proofs.Tests.{told}
+use Rattle.tariff.proofs.Entries.{stop-frame, stop-due, stop-holds}
+use Rattle.tariff.proofs.Passed.{passed-stop}
+
+-- Where a row stands it counts, and those after it; where none stands, or none is asked for, there are none.
+module _ (b : List ℕ) (at areas : ℕ) where
+  rows-more : (most : ℕ) → rowStands b at areas ≡ true → rowsStanding (suc most) b at areas ≡ suc (rowsStanding most b (at + 52) areas)
+  unfolding rowsStanding
+  rows-more most e = rw e
+
+  rows-none : (most : ℕ) → rowStands b at areas ≡ false → rowsStanding most b at areas ≡ 0
+  unfolding rowsStanding
+  rows-none zero e = refl
+  rows-none (suc most) e = rw e
+
+  rows-zero : rowsStanding 0 b at areas ≡ 0
+  unfolding rowsStanding
+  rows-zero = refl
+
+-- So many rows are counted, and those that stand from `at` on are still to be.
+pub record Standing (b : List ℕ) (from areas most rows at : ℕ) : Type 0 where
+  pub place : at ≡ from + 52 * rows
+  pub few : rows ≤ most
+  pub rest : rowsStanding most b from areas ≡ rows + rowsStanding (most - rows) b at areas
+
+pub standing-none : (b : List ℕ) (from areas most : ℕ) → Standing b from areas most 0 from
+standing-none b from areas most =
+    let all : most - 0 ≡ most = omega arith in
+    record { place = omega arith; few = omega arith; rest = rw all (omega arith) }
+
+module _ (b : List ℕ) (from areas most rows at : ℕ) (s : Standing b from areas most rows at) where
+  pub standing-more : rows < most → rowStands b at areas ≡ true → Standing b from areas most (rows + 1) (at + 52)
+  standing-more due row =
+      let left : most - rows ≡ suc (most - (rows + 1)) = omega arith in
+      let more : rowsStanding (most - rows) b at areas ≡ suc (rowsStanding (most - (rows + 1)) b (at + 52) areas) =
+      rw left (rows-more b at areas (most - (rows + 1)) row)
+      in
+      record { place = omega arith; few = omega arith; rest = omega arith }
+
+  pub standing-stop : rowStands b at areas ≡ false → rows ≡ rowsStanding most b from areas
+  standing-stop none = omega (arith, rows-none b at areas (most - rows) none)
+
+  pub standing-end : most ≤ rows → rows ≡ rowsStanding most b from areas
+  standing-end all =
+      let left : most - rows ≡ 0 = omega arith in
+      let none : rowsStanding (most - rows) b at areas ≡ 0 = rw left (rows-zero b at areas) in
+      omega arith
+
+-- a number of four bytes is two of two
+words : (b : List ℕ) (p : ℕ) → getLe 4 b p ≡ getLe 2 b p + 65536 * getLe 2 b (p + 2)
+unfolding getLe
+words b p = simp add-assoc (omega arith)
+
+module _ (b : List ℕ) (bytes : Bytes b) (areas : ℕ) (some : 0 < areas) where
+  -- the length and kind of a stop, as one number, are those of a whole frame
+  stop-head : (at : ℕ) → at + 13 ≤ length b → getLe 4 b at ≡ 131083 → frameAt b at ≡ Whole 2 9
+  stop-head at fits head =
+      let both = words b at in
+      let low = get-range 2 b at bytes in
+      let high = get-range 2 b (at + 2) bytes in
+      whole-back b at 2 9 (record { kind-is = omega arith; length-is = omega arith; fits = omega arith; short = omega arith })
+
+  -- What the tests of `stopStands` let through is a faultless stop.
+  stop-stands : (at stops : ℕ) → at + 13 ≤ length b → stops < 1000 → stopStands b at areas ≡ true → entryAt b at areas stops ≡ Stop
+  unfolding stopStands
+  stop-stands at stops fits few e =
+      let frame = stop-head at fits (search told) in
+      let right : stopRight (stopFields b at) areas ≡ true = search told in
+      stop-frame b at areas stops 9 frame
+      ∙ stop-due b at areas stops 9 (stop-holds b at areas stops (record { frame = frame; some = some; few = few })) right
+
+  -- a stop that stands is passed; so is a row
+  passed-next :
+      (at stops : ℕ) → at + 13 ≤ length b → stops < 1000 → stopStands b at areas ≡ true → Passed b at areas stops → Passed b (at + 13) areas (stops + 1)
+  passed-next at stops fits few e p = passed-stop b at areas stops p (stop-stands at stops fits few e)
+
+  passed-row :
+      (at stops : ℕ) → at + 52 ≤ length b → stops + 4 ≤ 1000 → rowStands b at areas ≡ true → Passed b at areas stops
+      → Passed b (at + 52) areas (stops + 4)
+  unfolding rowStands
+  passed-row at stops fits few e p =
+      let one = passed-next at stops (omega arith) (omega arith) (search told) p in
+      let two = simp add-assoc at (passed-next (at + 13) (stops + 1) (omega arith) (omega arith) (search told) one) in
+      let three = simp add-assoc at (passed-next (at + 26) (stops + 2) (omega arith) (omega arith) (search told) two) in
+      simp add-assoc at (passed-next (at + 39) (stops + 3) (omega arith) (omega arith) (search told) three)
+
+  -- Where all before a place is faultless, it is so past the rows that stand there too.
+  pub passed-rows :
+      (most at stops : ℕ) → at + 52 * most ≤ length b → stops + 4 * most ≤ 1000 → Passed b at areas stops
+      → Passed b (at + 52 * rowsStanding most b at areas) areas (stops + 4 * rowsStanding most b at areas)
+  passed-rows zero at stops fits few p = rw (rows-zero b at areas) (simp unary-clauses p)
+  passed-rows (suc most) at stops fits few p =
+      go (rowStands b at areas) refl
+      (λ row. passed-rows most (at + 52) (stops + 4) (omega arith) (omega arith) (passed-row at stops (omega arith) (omega arith) row p))
+    where
+      go :
+          (t : Bool) → rowStands b at areas ≡ t
+          → (rowStands b at areas ≡ true
+          → Passed b (at + 52 + 52 * rowsStanding most b (at + 52) areas) areas (stops + 4 + 4 * rowsStanding most b (at + 52) areas))
+          → Passed b (at + 52 * rowsStanding (suc most) b at areas) areas (stops + 4 * rowsStanding (suc most) b at areas)
+      go true row on =
+          let rest = rowsStanding most b (at + 52) areas in
+          let place : at + 52 + 52 * rest ≡ at + 52 * suc rest = omega arith in
+          let count : stops + 4 + 4 * rest ≡ stops + 4 * suc rest = omega arith in
+          rw (rows-more b at areas most row) (rw (place, count) at (on row))
+      go false none on = rw (rows-none b at areas (suc most) none) (simp unary-clauses p)

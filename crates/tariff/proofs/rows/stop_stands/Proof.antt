@@ -1,0 +1,23 @@
+-- `tariff::rows::stop_stands` meets its contract: it makes the two tests of `stopStands`.
+-- Assumes nothing.
+use borrow.Author.Needs.{needs}
+use Rattle.tariff.specs.Rows.{stopStands}
+use Rattle.tariff.proofs.rows.stop_stands.Statement.{statement}
+use Rattle.tariff.proofs.rows.stop_stands.Tie as tie
+
+four-at-requires : tie.Need-four-at-requires
+four-at-requires c κs = search needs
+
+stop-fields-requires : tie.Need-stop-fields-requires
+stop-fields-requires c κs = search needs
+
+stop-right-requires : tie.Need-stop-right-requires
+stop-right-requires c κs = search needs
+
+returns : tie.Need-returns
+unfolding stopStands
+returns c = rw (c .stop-right .ensures, c .before .stop-fields .ensures, c .before .before .four-at .ensures .value)
+
+pub stop-stands-spec : {M : Type 1} → statement M
+stop-stands-spec =
+    tie.close (tie.spec four-at-requires stop-fields-requires stop-right-requires returns)

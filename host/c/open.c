@@ -1,0 +1,13 @@
+/*
+ * The two functions of the toolchain's library `os` that the program needs, for a processor that the toolchain has none for (host/built).
+ */
+#include <errno.h>
+#include <fcntl.h>
+
+int rattle_open_to_read(const char *path) {
+    return open(path, O_RDONLY | O_CLOEXEC | O_NOCTTY);
+}
+
+int rattle_errno(void) {
+    return errno;
+}
