@@ -1,13 +1,12 @@
 -- An area lies within another where it is that area, or where the area above it lies within it.
 -- Assumes nothing.
-use Prim.Native.Nat.{ℕ, suc, _+_, _-_, _≤_, _<_}
+use Prim.Native.Nat.{ℕ, _<_}
 use native.Mathlib.Nat.{eq-zero-or-pos}
 use native.Mathlib.Omega.{arith}
 use mathlib.Core.Path.{_≡_, refl, sym, ap, _∙_}
 use mathlib.Core.Logic.{⊎-elim}
 use mathlib.Core.Bool.{Bool, true, false, _||_}
 use mathlib.Core.List.{List}
-use borrow.Author.Tests.{eqb-true}
 use lib.Dec.{eqb}
 use Rattle.tariff.specs.Rules.{levelOf}
 use Rattle.tariff.specs.Areas.{parentOf, liesWithin, FaultlessTariff}

@@ -1,37 +1,39 @@
--- What a charge is at most, and where each of a party stands among the charges.
+-- What a charge is at most, that a chain of areas gives it, and where each of a party stands among the charges.
 -- Assumes nothing.
 use Prim.Native.Nat.{ℕ, zero, suc, _+_, _-_, _≤_, _<_}
-use native.Mathlib.Nat.{not-suc-le-zero, le-trans, add-assoc, add-zero, zero-add, sub-zero}
+use native.Mathlib.Nat.{not-suc-le-zero, le-trans, add-assoc, zero-add, sub-zero}
 use native.Mathlib.Omega.{arith}
 use native.Mathlib.Numerals.{add-one}
 use native.Mathlib.Decide.{ℕ-discrete, decLt}
 use mathlib.Core.Path.{_≡_, refl, sym, ap, _∙_}
 use mathlib.Core.Bool.{Bool, true, false, cond}
-use mathlib.Core.List.{List, [], _∷_, _++_, map, append-assoc, append-nil}
-use lib.ListN.{length, getD, set, take, length-append, length-set, length-map, List·getD-append, List·getD-eq-default}
-use lib.Seq.{take-suc-set, getD-append-add, getD-at, getD-take}
+use mathlib.Core.List.{List, [], _∷_, _++_, append-assoc}
+use lib.ListN.{length, getD, set, length-append, List·getD-append, List·getD-eq-default}
+use lib.Seq.{sets, length-sets, getD-append-add, getD-at, getD-take}
 use lib.Dec.{eqb}
 use borrow.Author.Tests.{eq-eqb, ne-eqb}
+use Rattle.wire.proofs.Number.{sets-more}
 use Rattle.units.specs.Caps.{cappedBy}
+use Rattle.units.specs.declared.Cap.{Cap}
+use Rattle.units.specs.declared.Cap.the-variants.{NoCap, UpTo}
 use Rattle.units.proofs.Caps.{capped-most}
 use Rattle.tariff.specs.declared.Area.{Area}
 use Rattle.tariff.specs.declared.Counts.{Counts}
 use Rattle.tariff.specs.Rules.{levelOf}
-use Rattle.tariff.specs.Areas.{areaAt, parentOf, Read, FlatOf, Smallest}
+use Rattle.tariff.specs.Areas.{areaAt, parentOf, Read, FlatOf, Smallest, FaultlessTariff}
 use Rattle.tariff.proofs.Faultless.{faultless}
-use Rattle.tariff.proofs.Within.{area-flat, flat-within, smallest}
+use Rattle.tariff.proofs.Within.{area-flat, above-of, parent-there, parent-top, flat-within, smallest}
 use Rattle.fare.specs.declared.Ride.{Ride}
 use Rattle.fare.specs.Prices.{Priceable, priceOf}
 use Rattle.fare.proofs.Steps.{price-most}
 use Rattle.book.specs.declared.limits.Caps.{Caps}
-use Rattle.book.specs.declared.Charges.{Charges}
+use Rattle.book.specs.declared.limits.Chain.{Chain}
 use Rattle.book.specs.Words.{coverWord}
-use Rattle.book.specs.Sound.{sound}
 use Rattle.book.specs.Windows.{inWindow}
-use Rattle.book.specs.Caps.{capsHere, cappedHere, leftOf}
-use Rattle.book.specs.Charging.{Rideable, cappedAt, chargeUp, riderCharge, riderCharges, newCover, NewCover, bicycleCharge, BicycleCharge, bicycleCharges, chargesOf, ChargesOf}
+use Rattle.book.specs.Caps.{capsHere, cappedHere, leftOf, chainOf}
+use Rattle.book.specs.Charging.{Rideable, cappedAt, chargeUp, chargeBy, riderCharge, riderCharges, newCover, NewCover, bicycleCharge, BicycleCharge, bicycleCharges, chargesOf, Charged}
 use Rattle.book.proofs.WordLaws.{word-fresh}
-use Rattle.book.proofs.SoundLaws.{sound-has}
+use Rattle.book.proofs.SoundLaws.{SoundBook, sound-has}
 
 -- What an area's caps have left cuts an amount, and never raises it.
 pub capped-here-most : (caps : Caps) (class second all amount : ℕ) → cappedHere caps class second all amount ≤ amount
@@ -45,36 +47,88 @@ capped-here-most caps class second all amount = go (eqb class 2)
     go true = le-trans (capped-most (leftOf (caps .second) second) rest) (capped-most (leftOf (caps .all) all) amount)
     go false = capped-most (leftOf (caps .all) all) amount
 
+-- what two caps have cut, the same two do not cut again
+caps-again : (c d : Cap) (n : ℕ) → cappedBy d (cappedBy c (cappedBy d (cappedBy c n))) ≡ cappedBy d (cappedBy c n)
+caps-again NoCap NoCap n = refl
+caps-again NoCap (UpTo most) n = omega arith
+caps-again (UpTo most) NoCap n = omega arith
+caps-again (UpTo most) (UpTo most′) n = omega arith
+
+capped-here-again :
+    (caps : Caps) (class second all n : ℕ)
+    → cappedHere caps class second all (cappedHere caps class second all n) ≡ cappedHere caps class second all n
+unfolding cappedHere
+capped-here-again caps class second all n = go (eqb class 2)
+  where
+    c : Cap
+    c = leftOf (caps .all) all
+
+    d : Cap
+    d = leftOf (caps .second) second
+
+    go :
+        (both : Bool)
+        → cond both (cappedBy d (cappedBy c (cond both (cappedBy d (cappedBy c n)) (cappedBy c n))))
+        (cappedBy c (cond both (cappedBy d (cappedBy c n)) (cappedBy c n)))
+        ≡ cond both (cappedBy d (cappedBy c n)) (cappedBy c n)
+    go true = caps-again c d n
+    go false = caps-again c NoCap n
+
 module _ (t w : List ℕ) (rider : ℕ) (child : Bool) (class : ℕ) where
   pub capped-at-most : (a amount : ℕ) → cappedAt t w rider child class a amount ≤ amount
   unfolding cappedAt
   capped-at-most a amount = capped-here-most (capsHere (areaAt t a) child) class _ _ amount
 
--- No charge is above the price.
-pub charge-most :
-    (level : ℕ) (t w : List ℕ) (rider : ℕ) (child : Bool) (class a amount : ℕ)
-    → chargeUp level t w rider child class a amount ≤ amount
-unfolding chargeUp
-charge-most zero t w rider child class a amount = capped-at-most t w rider child class a amount
-charge-most (suc level) t w rider child class a amount =
-    le-trans (charge-most level t w rider child class (parentOf t a) (cappedAt t w rider child class a amount))
-    (capped-at-most t w rider child class a amount)
+  -- an area that stands in a chain again
+  capped-again :
+      (a b amount : ℕ) → b ≡ a
+      → cappedAt t w rider child class b (cappedAt t w rider child class a amount) ≡ cappedAt t w rider child class a amount
+  unfolding cappedAt
+  capped-again a b amount e = rw e (capped-here-again (capsHere (areaAt t a) child) class _ _ amount)
 
--- One turn up the areas, and the end of it at the state.
-pub charge-next :
-    (t w : List ℕ) (rider : ℕ) (child : Bool) (class above up amount parent less : ℕ) → 0 < above → parent ≡ parentOf t up
-    → less ≡ cappedAt t w rider child class up amount
-    → chargeUp above t w rider child class up amount ≡ chargeUp (above - 1) t w rider child class parent less
-unfolding chargeUp
-charge-next t w rider child class zero up amount parent less some e e′ = absurd (not-suc-le-zero some)
-charge-next t w rider child class (suc n) up amount parent less some e e′ =
-    let back : suc n - 1 ≡ n = omega arith in rw (e, e′, back)
+  -- No charge is above the price.
+  pub charge-most : (level a amount : ℕ) → chargeUp level t w rider child class a amount ≤ amount
+  unfolding chargeUp
+  charge-most zero a amount = capped-at-most a amount
+  charge-most (suc level) a amount =
+      le-trans (charge-most level (parentOf t a) (cappedAt t w rider child class a amount)) (capped-at-most a amount)
 
-pub charge-end :
-    (t w : List ℕ) (rider : ℕ) (child : Bool) (class above up amount r : ℕ) → above ≡ 0 → r ≡ cappedAt t w rider child class up amount
-    → r ≡ chargeUp above t w rider child class up amount
-unfolding chargeUp
-charge-end t w rider child class above up amount r none e = rw none e
+  -- A charge by the chain of an area is the one by the area and every area above it: in a region's chain the state stands twice, and in
+  -- its own three times.
+  pub charge-by :
+      {areas stops : ℕ} → FaultlessTariff t areas stops → (a : ℕ) → a < areas → (amount : ℕ)
+      → chargeBy (chainOf t a child) w rider class amount ≡ chargeUp (levelOf t a) t w rider child class a amount
+  unfolding chargeBy cappedAt chargeUp
+  charge-by f a there amount = go (levelOf t a) refl
+    where
+      up : ℕ
+      up = parentOf t a
+
+      here : ℕ
+      here = cappedAt t w rider child class a amount
+
+      go : (level : ℕ) → levelOf t a ≡ level → chargeBy (chainOf t a child) w rider class amount ≡ chargeUp level t w rider child class a amount
+      go zero e =
+          let none = above-of f a there .state-only e in
+          let own : up ≡ a = omega (arith, above-of f a there .state-parent none) in
+          let top : parentOf t up ≡ a = omega (arith, parent-top f a there) in
+          rw (capped-again a up amount own) (capped-again a (parentOf t up) amount top)
+      go (suc zero) e =
+          let over = above-of f a there in
+          let none = above-of f up (parent-there f a there) .state-only (omega arith) in
+          capped-again up (parentOf t up) here (omega (arith, parent-top f a there))
+      go (suc (suc zero)) e = refl
+      go (suc (suc (suc level))) e = absurd (omega (arith, above-of f a there .level))
+
+-- A bicycle's new covering area is one of the tariff's.
+pub cover-there :
+    {t : List ℕ} {areas stops : ℕ} → FaultlessTariff t areas stops → (a old : ℕ) → a < areas → old ≤ areas → newCover t a old < areas
+unfolding newCover
+cover-there f a old here known =
+    elim (ℕ-discrete old 0) [
+      | yes none ↦ rw (eq-eqb old 0 none) here
+      | no used ↦ rw (ne-eqb old 0 used) (smallest f a (old - 1) here (omega arith) .there)
+    ]
 
 -- A bicycle in a ride of area a: its new covering area and its charge.
 module _ (t : List ℕ) (counts : Counts) (a : ℕ) (read : Read t counts) (here : a < counts .areas) where
@@ -86,15 +140,6 @@ module _ (t : List ℕ) (counts : Counts) (a : ℕ) (read : Read t counts) (here
       (old r : ℕ) → (old ≡ 0 → ⊥) → Smallest t (counts .areas) a (old - 1) r → NewCover t (counts .areas) a old r
   unfolding newCover
   cover-more old r used s = record { value = rw (ne-eqb old 0 used, s .value); there = s .there }
-
-  pub cover-there : (old : ℕ) → old ≤ counts .areas → newCover t a old < counts .areas
-  cover-there old known =
-      elim (ℕ-discrete old 0) [
-        | yes none ↦ rw (← cover-first old none .value) here
-        | no used ↦
-            let s = cover-more old _ used (smallest (faultless t counts read) a (old - 1) here (omega arith)) in
-            rw (← s .value) (s .there)
-      ]
 
   -- the new covering area contains the old one, so its flat is at least what is paid
   pub paid-most :
@@ -126,8 +171,9 @@ module _ (t : List ℕ) (counts : Counts) (a : ℕ) (read : Read t counts) (here
   pub bicycle-most : (old : ℕ) → old ≤ counts .areas → bicycleCharge t a old ≤ 60000
   unfolding bicycleCharge
   bicycle-most old known =
+      let f = faultless t counts read in
       let new = newCover t a old in
-      omega (arith, faultless t counts read .area new (cover-there old known) .flat, area-flat t new)
+      omega (arith, f .area new (cover-there f a old here known) .flat, area-flat t new)
 
 -- A list made one value after another.
 unfoldable pub listed : (ℕ → ℕ) → ℕ → List ℕ
@@ -164,45 +210,47 @@ joined-most [] ys most first second i = second i
 joined-most (x ∷ xs) ys most first second zero = first zero
 joined-most (x ∷ xs) ys most first second (suc i) = joined-most xs ys most (λ j. first (suc j)) second i
 
--- An array of 31 amounts whose values from a place on are filled in: it holds those in front, and i of n values.
-pub record Filled (f : ℕ → ℕ) (front amounts : List ℕ) (from n i : ℕ) : Type 0 where
+-- A list into which values go one after another, from a place on: i of n are in.
+pub record Filled (f : ℕ → ℕ) (before amounts : List ℕ) (from n i : ℕ) : Type 0 where
   pub some : i ≤ n
-  pub size : length amounts ≡ 31
-  pub so-far : take (from + i) amounts ≡ front ++ listed f i
+  pub so-far : amounts ≡ sets before from (listed f i)
 
-pub filled-none : (f : ℕ → ℕ) (amounts : List ℕ) (from n : ℕ) → length (map (λ v. v) amounts) ≡ 31 → Filled f (take from amounts) amounts from n 0
+pub filled-none : (f : ℕ → ℕ) (amounts : List ℕ) (from n : ℕ) → Filled f amounts amounts from n 0
 unfolding listed
-filled-none f amounts from n size =
-    record { some = omega arith; size = simp length-map at size; so-far = rw (add-zero, append-nil) }
+filled-none f amounts from n = record { some = omega arith; so-far = refl }
 
-pub filled-more :
-    {f : ℕ → ℕ} {front amounts : List ℕ} {from n i : ℕ} (v : ℕ) → Filled f front amounts from n i → i < n → from + n ≤ 31 → v ≡ f i
-    → Filled f front (set amounts (from + i) v) from n (i + 1)
-unfolding listed
-filled-more {f} {front} {amounts} {from} {n} {i} v filled less room e =
-    let next : from + (i + 1) ≡ suc (from + i) = omega arith in
-    let there : from + i < length amounts = omega (arith, filled .size) in
-    record {
-      some = omega arith;
-      size = length-set amounts (from + i) v ∙ filled .size;
-      so-far = rw (next, add-one i, take-suc-set amounts (from + i) v there, filled .so-far, append-assoc, e);
-    }
+module _ {f : ℕ → ℕ} {before amounts : List ℕ} {from n i : ℕ} (filled : Filled f before amounts from n i) where
+  pub filled-size : length amounts ≡ length before
+  filled-size = rw (filled .so-far) (length-sets before from (listed f i))
 
-pub filled-all :
-    {f : ℕ → ℕ} {front amounts : List ℕ} {from n i : ℕ} → Filled f front amounts from n i → n ≤ i
-    → take (from + n) amounts ≡ front ++ listed f n
-filled-all {f} {front} {amounts} {from} {n} {i} filled all =
-    let same : n ≡ i = omega (arith, filled .some) in rw same (filled .so-far)
+  pub filled-more : (v : ℕ) → i < n → v ≡ f i → Filled f before (set amounts (from + i) v) from n (i + 1)
+  unfolding listed
+  filled-more v less e =
+      record {
+        some = omega arith;
+        so-far =
+            rw (add-one i, ← sets-more before from (listed f i) (f i ∷ []), listed-length f i, ← filled .so-far, e);
+      }
+
+  pub filled-all : n ≤ i → amounts ≡ sets before from (listed f n)
+  filled-all all = let same : n ≡ i = omega (arith, filled .some) in rw same (filled .so-far)
 
 -- The charges of riders one after another are such a list, and so are those of bicycles.
 module _ (t w : List ℕ) (ride : Ride) where
-  pub riders-listed :
-      (child : Bool) (first : ℕ) {area : Area} {fare : ℕ} → area ≡ areaAt t (ride .area) → fare ≡ priceOf area ride child → (n : ℕ)
-      → listed (λ i. chargeUp (levelOf t (ride .area)) t w (first + i) child (ride .party .class) (ride .area) fare) n
-      ≡ riderCharges t w ride child first n
+  pub riders-listed : (child : Bool) (first n : ℕ) → listed (λ i. riderCharge t w ride child (first + i)) n ≡ riderCharges t w ride child first n
+  unfolding listed riderCharges
+  riders-listed child first zero = refl
+  riders-listed child first (suc n) = rw (riders-listed child first n)
+
+  -- and so are those by the chain of the ride's area
+  pub riders-by-chain :
+      {areas stops : ℕ} → FaultlessTariff t areas stops → ride .area < areas → (child : Bool) (first : ℕ) {area : Area} {chain : Chain} {fare : ℕ}
+      → area ≡ areaAt t (ride .area) → chain ≡ chainOf t (ride .area) child → fare ≡ priceOf area ride child → (n : ℕ)
+      → listed (λ i. chargeBy chain w (first + i) (ride .party .class) fare) n ≡ riderCharges t w ride child first n
   unfolding listed riderCharge riderCharges
-  riders-listed child first e e′ zero = refl
-  riders-listed child first e e′ (suc n) = rw (riders-listed child first e e′ n, e′, e)
+  riders-by-chain f there child first e e′ e″ zero = refl
+  riders-by-chain f there child first e e′ e″ (suc n) =
+      rw (riders-by-chain f there child first e e′ e″ n, e″, e, e′, charge-by t w (first + n) child _ f (ride .area) there)
 
   pub bicycles-listed : (n : ℕ) → listed (λ i. bicycleCharge t (ride .area) (coverWord w i)) n ≡ bicycleCharges t w ride n
   unfolding listed bicycleCharges
@@ -211,18 +259,17 @@ module _ (t w : List ℕ) (ride : Ride) where
 
 -- In a sound book each bicycle's covering area is one of the tariff's, and in a new window no bicycle has one.
 pub cover-known :
-    (b : List ℕ) (areas : ℕ) (current : Bool) (i : ℕ) → sound b areas ≡ true → i < 10 → coverWord (inWindow current b) i ≤ areas
-cover-known b areas true i ok few = sound-has b areas ok .covers i few
-cover-known b areas false i ok few = omega (arith, word-fresh (1347 + i))
+    {b : List ℕ} {areas : ℕ} (current : Bool) → SoundBook b areas → (k : ℕ) → k < 10 → coverWord (inWindow current b) k ≤ areas
+cover-known true s k few = s .covers k few
+cover-known false s k few = omega (arith, word-fresh (1347 + k))
 
 -- Among the charges of riders each stands at its place.
 module _ (t w : List ℕ) (ride : Ride) (child : Bool) (first count : ℕ) where
   pub riders-length : length (riderCharges t w ride child first count) ≡ count
-  riders-length = rw (← riders-listed t w ride child first refl refl count) (listed-length _ count)
+  riders-length = rw (← riders-listed t w ride child first count) (listed-length _ count)
 
   pub rider-at : (i : ℕ) → i < count → getD (riderCharges t w ride child first count) i 0 ≡ riderCharge t w ride child (first + i)
-  unfolding riderCharge
-  rider-at i h = rw (← riders-listed t w ride child first refl refl count) (listed-at _ count i h)
+  rider-at i h = rw (← riders-listed t w ride child first count) (listed-at _ count i h)
 
 -- and so does each bicycle among the bicycles
 module _ (t w : List ℕ) (ride : Ride) (count : ℕ) where
@@ -246,6 +293,18 @@ module _ (xs ys zs : List ℕ) (n m : ℕ) (e : length xs ≡ n) (e′ : length 
   at-third : (i : ℕ) → getD (xs ++ (ys ++ zs)) (n + m + i) 0 ≡ getD zs i 0
   at-third i = rw (add-assoc n m i, behind-first (m + i), ← e′) (getD-append-add ys zs i 0)
 
+  -- stored one behind the other from the start on, they are stored as one
+  stored-three :
+      (l : List ℕ) {l₁ l₂ l₃ : List ℕ} → l₁ ≡ sets l 0 xs → l₂ ≡ sets l₁ n ys → l₃ ≡ sets l₂ (n + m) zs → l₃ ≡ sets l 0 (xs ++ (ys ++ zs))
+  stored-three l {l₂ = l₂} one two three =
+      let first : l₂ ≡ sets l 0 (xs ++ ys) =
+      two ∙ rw one (ap (λ (p : ℕ). sets (sets l 0 xs) p ys) (omega arith) ∙ sets-more l 0 xs ys)
+      in
+      three
+      ∙ rw first
+      (ap (λ (p : ℕ). sets (sets l 0 (xs ++ ys)) p zs) (omega (arith, length-append xs ys)) ∙ sets-more l 0 (xs ++ ys) zs
+      ∙ ap (sets l 0) (append-assoc xs ys zs))
+
 -- The charges of a party: account holder and adults from 0 on, children from 1 + adults, bicycles from 1 + adults + children.
 module _ (t w : List ℕ) (ride : Ride) where
   abbrev older : List ℕ
@@ -257,10 +316,12 @@ module _ (t w : List ℕ) (ride : Ride) where
   abbrev bicycles : List ℕ
   bicycles = bicycleCharges t w ride (ride .party .bicycles)
 
-  pub charges-made :
-      {first people all : List ℕ} → first ≡ older → people ≡ first ++ children → all ≡ people ++ bicycles → all ≡ chargesOf t w ride
+  -- the three parts, each stored behind the one before
+  pub charges-stored :
+      (l : List ℕ) {l₁ l₂ l₃ : List ℕ} → l₁ ≡ sets l 0 older → l₂ ≡ sets l₁ (1 + ride .party .adults) children
+      → l₃ ≡ sets l₂ (1 + ride .party .adults + ride .party .children) bicycles → l₃ ≡ sets l 0 (chargesOf t w ride)
   unfolding chargesOf
-  charges-made e e′ e″ = rw (e″, e′, e, append-assoc)
+  charges-stored = stored-three older children bicycles _ _ (riders-length t w ride false 0 _) (riders-length t w ride true 11 _)
 
   pub charges-length : length (chargesOf t w ride) ≡ 1 + ride .party .adults + ride .party .children + ride .party .bicycles
   unfolding chargesOf
@@ -295,32 +356,28 @@ module _ {t : List ℕ} {counts : Counts} {b : List ℕ} {ride : Ride} (r : Ride
   pub rider-charge-most : (w : List ℕ) (child : Bool) (rider : ℕ) → riderCharge t w ride child rider ≤ 3790000
   unfolding riderCharge
   rider-charge-most w child rider =
-      le-trans (charge-most (levelOf t (ride .area)) t w rider child (ride .party .class) (ride .area) _)
+      le-trans (charge-most t w rider child (ride .party .class) (levelOf t (ride .area)) (ride .area) _)
       (price-most (areaAt t (ride .area)) ride child priceable)
 
   pub charges-most : (current : Bool) (i : ℕ) → getD (chargesOf t (inWindow current b) ride) i 0 ≤ 3790000
-  unfolding chargesOf riderCharge
+  unfolding chargesOf
   charges-most current =
       let w = inWindow current b in
       let riders : (child : Bool) (first n i : ℕ) → getD (riderCharges t w ride child first n) i 0 ≤ 3790000 =
       λ child first n.
-      rw (← riders-listed t w ride child first refl refl n) (listed-most _ n 3790000 (λ i _. rider-charge-most w child (first + i)))
+      rw (← riders-listed t w ride child first n) (listed-most _ n 3790000 (λ i _. rider-charge-most w child (first + i)))
       in
       joined-most (older t w ride) _ 3790000 (riders false 0 _)
       (joined-most (children t w ride) _ 3790000 (riders true 11 _)
       (rw (← bicycles-listed t w ride _)
       (listed-most _ _ 3790000
       (λ i h.
-      let known = cover-known b (counts .areas) current i (r .sound-book) (omega (arith, r .bicycles)) in
+      let known = cover-known current (sound-has b (counts .areas) (r .sound-book)) i (omega (arith, r .bicycles)) in
       omega (arith, bicycle-most t counts (ride .area) (r .read) (r .area) (coverWord w i) known)))))
 
--- The amounts of a struct that holds a party's charges are those charges.
+-- The amounts that start with a party's charges are those charges.
 pub amount-at :
-    {t w : List ℕ} {ride : Ride} {r : Charges} → ChargesOf t w ride r → (i : ℕ) → i < r .count
-    → getD (r .amounts) i 0 ≡ getD (chargesOf t w ride) i 0
-amount-at {t} {w} {ride} {r} made i h = rw (← made .value) (sym (getD-take (r .count) (r .amounts) i 0 h))
-
-pub amount-most :
-    {t : List ℕ} {counts : Counts} {b : List ℕ} {ride : Ride} {r : Charges} (current : Bool) → Rideable t counts b ride
-    → ChargesOf t (inWindow current b) ride r → (i : ℕ) → i < r .count → getD (r .amounts) i 0 ≤ 3790000
-amount-most current ok made i h = rw (amount-at made i h) (charges-most ok current i)
+    {t w : List ℕ} {ride : Ride} {amounts : List ℕ} → Charged t w ride amounts → (i : ℕ) → i < length (chargesOf t w ride)
+    → getD amounts i 0 ≡ getD (chargesOf t w ride) i 0
+amount-at {t} {w} {ride} {amounts} made i h =
+    sym (getD-take (length (chargesOf t w ride)) amounts i 0 h) ∙ ap (λ (l : List ℕ). getD l i 0) (made .value)

@@ -13,12 +13,11 @@ use Rattle.tariff.specs.Areas.{FaultlessTariff}
 use Rattle.tariff.proofs.Faultless.{faultless}
 use Rattle.fare.specs.declared.Ride.{Ride}
 use Rattle.book.specs.declared.Window.{Window}
-use Rattle.book.specs.declared.Charges.{Charges}
 use Rattle.book.specs.Words.{bookSize, word, tripsOf, coverPlace}
 use Rattle.book.specs.Posting.{addList, coverBicycles, opened, posted, Room, Adding, Covering, Postable}
 use Rattle.book.proofs.SoundLaws.{sound-has}
 use Rattle.book.proofs.SumLaws.{list-other}
-use Rattle.book.proofs.ChargeLaws.{charges-most, amount-at}
+use Rattle.book.proofs.ChargeLaws.{charges-length, charges-most, amount-at}
 use Rattle.book.proofs.PostedLaws.{wordsIn, chargesIn, opened-other, Counting, counting}
 use Rattle.book.proofs.PostTurns.{room-same}
 
@@ -32,21 +31,19 @@ list-same t ride first zero l l′ from b same = refl
 list-same t ride first (suc count) l l′ from b same =
     rw (list-same t ride first count l l′ from b (λ i h. same i (omega arith)), same count (omega arith))
 
-module _ {t : List ℕ} {counts : Counts} {b : List ℕ} {window : Window} {ride : Ride} {charges : Charges}
-    (p : Postable t counts b window ride charges) (checkout : ℕ) where
+module _ {t : List ℕ} {counts : Counts} {b : List ℕ} {window : Window} {ride : Ride} {amounts : List ℕ}
+    (p : Postable t counts b window ride amounts) (checkout : ℕ) where
   right : FaultlessTariff t (counts .areas) (counts .stops)
   right = faultless t counts (p .rideable .read)
 
   window-words : Counting (wordsIn window b) (counts .areas) (cond (window .current) (tripsOf b) 0)
   window-words = counting (window .current) (sound-has b (counts .areas) (p .rideable .sound-book)) (p .few)
 
-  -- the amounts of the struct are the party's charges
-  amounts-are :
-      (i : ℕ) → i < 1 + ride .party .adults + ride .party .children
-      → getD (charges .amounts) i 0 ≡ getD (chargesIn t b window ride) i 0
-  amounts-are i h = amount-at (p .charged) i (omega (arith, p .charged .count))
+  -- the amounts are the party's charges
+  amounts-are : (i : ℕ) → i < 1 + ride .party .adults + ride .party .children → getD amounts i 0 ≡ getD (chargesIn t b window ride) i 0
+  amounts-are i h = amount-at (p .charged) i (omega (arith, charges-length t (wordsIn window b) ride))
 
-  amounts-most : (i : ℕ) → i < 1 + ride .party .adults + ride .party .children → getD (charges .amounts) i 0 ≤ 3790000
+  amounts-most : (i : ℕ) → i < 1 + ride .party .adults + ride .party .children → getD amounts i 0 ≤ 3790000
   amounts-most i h = rw (amounts-are i h) (charges-most (p .rideable) (window .current) i)
 
   -- After the first step: the window is open.
@@ -62,35 +59,35 @@ module _ {t : List ℕ} {counts : Counts} {b : List ℕ} {window : Window} {ride
         room-same (wordsIn window b) b₁ rider (λ j low high. word₁ j (omega arith))
         (λ area h′. omega (arith, window-words .few, window-words .pairs rider area h h′))
 
-    pub adults-ready : Adding t counts b₁ ride 0 (1 + ride .party .adults) charges 0
+    pub adults-ready : Adding t counts b₁ ride 0 (1 + ride .party .adults) amounts 0
     adults-ready =
         record {
           size = size₁;
           read = p .rideable .read;
           area = p .rideable .area;
           riders = omega (arith, p .rideable .adults);
-          places = omega (arith, p .rideable .adults);
+          places = omega (arith, p .rideable .adults, p .charged .size);
           room = λ i h. room₁ (0 + i) (omega (arith, p .rideable .adults));
           range = λ i h. amounts-most (0 + i) (omega arith);
         }
 
     -- After the second: the adults' charges are added, and the words behind theirs are as they were.
-    module _ {b₂ : List ℕ} (e₂ : b₂ ≡ addList t ride 0 (1 + ride .party .adults) (charges .amounts) 0 b₁)
+    module _ {b₂ : List ℕ} (e₂ : b₂ ≡ addList t ride 0 (1 + ride .party .adults) amounts 0 b₁)
         (kept₂ : length b₂ ≡ length b₁) where
       word₂ : (j : ℕ) → 3 + 64 * 11 ≤ j → word b₂ j ≡ word b₁ j
       word₂ j h =
           ap (λ (l : List ℕ). word l j) e₂
-          ∙ list-other right ride (p .rideable .area) 0 (charges .amounts) 0 (1 + ride .party .adults) b₁
+          ∙ list-other right ride (p .rideable .area) 0 amounts 0 (1 + ride .party .adults) b₁
           (omega (arith, p .rideable .adults)) j (inr (omega (arith, p .rideable .adults)))
 
-      pub children-ready : Adding t counts b₂ ride 11 (ride .party .children) charges (1 + ride .party .adults)
+      pub children-ready : Adding t counts b₂ ride 11 (ride .party .children) amounts (1 + ride .party .adults)
       children-ready =
           record {
             size = kept₂ ∙ size₁;
             read = p .rideable .read;
             area = p .rideable .area;
             riders = omega (arith, p .rideable .children);
-            places = omega (arith, p .rideable .adults, p .rideable .children);
+            places = omega (arith, p .rideable .adults, p .rideable .children, p .charged .size);
             room = λ i h.
                 room-same b₁ b₂ (11 + i) (λ j low high. word₂ j (omega arith)) (room₁ (11 + i) (omega (arith, p .rideable .children)));
             range = λ i h. amounts-most (1 + ride .party .adults + i) (omega arith);
@@ -98,12 +95,12 @@ module _ {t : List ℕ} {counts : Counts} {b : List ℕ} {window : Window} {ride
 
       -- After the third: the children's are added, and the bicycles' words are as they were.
       module _ {b₃ : List ℕ}
-          (e₃ : b₃ ≡ addList t ride 11 (ride .party .children) (charges .amounts) (1 + ride .party .adults) b₂)
+          (e₃ : b₃ ≡ addList t ride 11 (ride .party .children) amounts (1 + ride .party .adults) b₂)
           (kept₃ : length b₃ ≡ length b₂) where
         word₃ : (j : ℕ) → 1347 ≤ j → word b₃ j ≡ word (wordsIn window b) j
         word₃ j h =
             ap (λ (l : List ℕ). word l j) e₃
-            ∙ list-other right ride (p .rideable .area) 11 (charges .amounts) (1 + ride .party .adults) (ride .party .children) b₂
+            ∙ list-other right ride (p .rideable .area) 11 amounts (1 + ride .party .adults) (ride .party .children) b₂
             (omega (arith, p .rideable .children)) j (inr (omega (arith, p .rideable .children)))
             ∙ word₂ j (omega arith) ∙ word₁ j (omega arith)
 
@@ -124,9 +121,9 @@ module _ {t : List ℕ} {counts : Counts} {b : List ℕ} {window : Window} {ride
             let l = chargesIn t b window ride in
             let adults = 1 + ride .party .adults in
             let adults-same : b₂ ≡ addList t ride 0 adults l 0 b₁ =
-            e₂ ∙ list-same t ride 0 adults (charges .amounts) l 0 b₁ (λ i h. amounts-are (0 + i) (omega arith))
+            e₂ ∙ list-same t ride 0 adults amounts l 0 b₁ (λ i h. amounts-are (0 + i) (omega arith))
             in
             let children-same : b₃ ≡ addList t ride 11 (ride .party .children) l adults b₂ =
-            e₃ ∙ list-same t ride 11 (ride .party .children) (charges .amounts) l adults b₂ (λ i h. amounts-are (adults + i) (omega arith))
+            e₃ ∙ list-same t ride 11 (ride .party .children) amounts l adults b₂ (λ i h. amounts-are (adults + i) (omega arith))
             in
             e₄ ∙ rw (children-same, adults-same, e₁)

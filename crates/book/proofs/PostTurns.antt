@@ -5,21 +5,22 @@ use native.Mathlib.Omega.{arith}
 use native.Mathlib.Numerals.{add-one}
 use mathlib.Core.Path.{_≡_, refl, sym, ap, _∙_}
 use mathlib.Core.Logic.{inr}
-use mathlib.Core.Bool.{Bool, true, false, cond, not}
+use mathlib.Core.Bool.{Bool, true, false, cond, not, _&&_}
 use mathlib.Core.List.{List, _++_, append-nil}
-use borrow.Author.Tests.{eq-eqb, ne-eqb, not-true, not-false}
+use borrow.Author.Tests.{eq-eqb, ne-eqb, eqb-true, not-true, not-false}
 use lib.ListN.{length, getD, drop, replicate}
 use lib.Seq.{drop-length}
 use lib.Dec.{eqb}
 use Rattle.tariff.specs.Rules.{levelOf}
 use Rattle.tariff.specs.Areas.{parentOf, FaultlessTariff}
+use Rattle.tariff.proofs.Tests.{both-left}
 use Rattle.tariff.proofs.Within.{above-of, parent-there}
 use Rattle.fare.specs.declared.Ride.{Ride}
 use Rattle.book.specs.declared.Window.{Window}
-use Rattle.book.specs.Words.{bookSize, freshBook, word, putWord, pairPlace, secondSum, allSum, coverPlace, coverWord}
+use Rattle.book.specs.Words.{bookSize, freshBook, word, putWord, tripsOf, pairPlace, secondSum, allSum, coverPlace, coverWord}
 use Rattle.book.specs.Windows.{inWindow}
 use Rattle.book.specs.Charging.{newCover}
-use Rattle.book.specs.Posting.{addHere, addUp, addList, coverBicycles, opened, RoomHere, Room}
+use Rattle.book.specs.Posting.{FreshOrUsed, addHere, addUp, addList, coverBicycles, opened, RoomHere, Room}
 use Rattle.book.proofs.WordLaws.{fresh-size, size-put, word-put-other}
 use Rattle.book.proofs.Chains.{below-state}
 use Rattle.book.proofs.SumLaws.{here-size, here-other, up-size, up-other}
@@ -31,17 +32,22 @@ filled n i v d e end size =
     e ∙ ap (λ (k : ℕ). replicate k v ++ drop k d) (end ∙ sym size)
     ∙ rw (drop-length d, append-nil) (ap (λ (k : ℕ). replicate k v) size)
 
--- Where a window has been seen to: a new one is cleared.
+-- Where a window has been seen to: a new one is cleared, unless the book is fresh already.
 pub record WindowReady (current : Bool) (b b′ : List ℕ) : Type 0 where
   pub value : b′ ≡ inWindow current b
   pub size : length b′ ≡ bookSize
 
-module _ {current : Bool} {b b′ : List ℕ} where
-  pub window-new : not current ≡ true → b′ ≡ freshBook → WindowReady current b b′
-  window-new new e = record { value = rw (not-true current new) e; size = ap length e ∙ fresh-size }
+pub window-cleared :
+    (current : Bool) (trips : ℕ) {b b′ : List ℕ} → not current && not (eqb trips 0) ≡ true → b′ ≡ freshBook → WindowReady current b b′
+window-cleared current trips new e =
+    record { value = rw (not-true current (both-left (not current) _ new)) e; size = ap length e ∙ fresh-size }
 
-  pub window-same : length b ≡ bookSize → not current ≡ false → b′ ≡ b → WindowReady current b b′
-  window-same size same e = record { value = rw (not-false current same) e; size = ap length e ∙ size }
+pub window-left :
+    (current : Bool) (trips : ℕ) {b b′ : List ℕ} → length b ≡ bookSize → FreshOrUsed b → trips ≡ tripsOf b
+    → not current && not (eqb trips 0) ≡ false → b′ ≡ b → WindowReady current b b′
+window-left true trips size fresh read same e = record { value = e; size = ap length e ∙ size }
+window-left false trips size fresh read same e =
+    record { value = e ∙ fresh (sym read ∙ eqb-true trips 0 (not-false _ same)); size = ap length e ∙ size }
 
 -- Then its three words are put.
 pub three-put :

@@ -9,12 +9,12 @@ use mathlib.Core.Path.{_≡_, refl, sym, ap, subst, _∙_}
 use mathlib.Core.Logic.{_⊎_, inl, inr, ⊎-elim}
 use mathlib.Core.Bool.{Bool, true, false, cond, _&&_}
 use mathlib.Core.List.{List}
-use borrow.Author.Tests.{eq-eqb, ne-eqb, lt-ltb, le-ltb}
+use borrow.Author.Tests.{lt-ltb, le-ltb}
 use lib.ListN.{length, getD}
 use lib.Dec.{ltb}
 use Rattle.tariff.specs.declared.Counts.{Counts}
 use Rattle.tariff.specs.Areas.{liesWithin, FaultlessTariff}
-use Rattle.tariff.proofs.Within.{smallest, within-state}
+use Rattle.tariff.proofs.Within.{within-state}
 use Rattle.tariff.proofs.Faultless.{faultless}
 use Rattle.fare.specs.declared.Ride.{Ride}
 use Rattle.book.specs.declared.Window.{Window}
@@ -24,20 +24,10 @@ use Rattle.book.specs.Charging.{Rideable, chargesOf, newCover}
 use Rattle.book.specs.Posting.{addList, coverBicycles, opened, posted}
 use Rattle.book.proofs.WordLaws.{word-put-same, word-put-other, size-put, word-fresh, fresh-size}
 use Rattle.book.proofs.SoundLaws.{PairSound, SoundBook, sound-has}
-use Rattle.book.proofs.ChargeLaws.{charges-most}
+use Rattle.book.proofs.ChargeLaws.{charges-most, cover-there, cover-known}
 use Rattle.book.proofs.SumLaws.{sumOf, counted, Fits, sum-by-words, list-size, list-other, list-riders, list-sum}
 
 -- ---- The bicycles.
-
--- A bicycle's new covering area is one of the tariff's.
-pub new-cover-there : {tariff : List ℕ} {areas stops : ℕ} (t : FaultlessTariff tariff areas stops) (area old : ℕ) → area < areas → old ≤ areas
-    → newCover tariff area old < areas
-unfolding newCover
-new-cover-there t area old here known =
-    elim (ℕ-discrete old 0) [
-      | yes none ↦ rw (eq-eqb old 0 none) here
-      | no used ↦ rw (ne-eqb old 0 used) (smallest t area (old - 1) here (omega arith) .there)
-    ]
 
 module _ (tariff : List ℕ) (ride : Ride) where
   -- Covering bicycles leaves the book as long as it was.
@@ -65,7 +55,7 @@ module _ {tariff : List ℕ} {areas stops : ℕ} (t : FaultlessTariff tariff are
       let before = coverBicycles tariff ride n b in
       let some = t .few-areas in
       let kept : coverWord before n ≡ coverWord b n = cover-other tariff ride n b (coverPlace n) (inr (omega arith)) in
-      let one = new-cover-there t (ride .area) (coverWord before n) there (omega (arith, covers n (omega arith))) in
+      let one = cover-there t (ride .area) (coverWord before n) there (omega (arith, covers n (omega arith))) in
       elim (ℕ-discrete k n) [
         | yes is ↦
             rw is
@@ -148,7 +138,7 @@ counting false {book} {areas} s room =
       size = fresh-size;
       few = omega arith;
       pairs = λ rider area hr ha. (none rider area, all rider area);
-      covers = λ k h. omega (arith, word-fresh (coverPlace k));
+      covers = cover-known false s;
     }
   where
     none : (rider area : ℕ) → secondSum freshBook rider area ≤ allSum freshBook rider area
@@ -344,7 +334,7 @@ module _ {tariff : List ℕ} {counts : Counts} {book : List ℕ} {ride : Ride} (
   posted-covers k h =
       elim (decLt k (ride .party .bicycles)) [
         | yes on ↦
-            omega (arith, posted-cover k on, new-cover-there t (ride .area) (coverWord (wordsIn window book) k) (ok .area) (c .covers k h))
+            omega (arith, posted-cover k on, cover-there t (ride .area) (coverWord (wordsIn window book) k) (ok .area) (c .covers k h))
         | no off ↦ omega (arith, posted-uncovered k (omega arith), c .covers k h)
       ]
 

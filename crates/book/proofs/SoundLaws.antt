@@ -10,13 +10,14 @@ use mathlib.Core.List.{List}
 use borrow.Author.Tests.{le-leb, eq-eqb, ne-eqb, leb-true, eqb-true}
 use lib.ListN.{length}
 use lib.Dec.{leb, eqb}
+use lib.Bits.{bitOr, or-zero-l, or-add-and, and-le-r}
 use Rattle.wire.specs.Each.{each}
 use Rattle.wire.proofs.Each.{each-more, each-at, each-all}
 use Rattle.tariff.proofs.Tests.{both-left, both-right, told}
 use Rattle.calendar.specs.Stamps.{lastMinute}
 use Rattle.book.specs.Words.{bookSize, freshBook, word, tripsOf, openingOf, lastOutOf, secondSum, allSum, coverWord}
 use Rattle.book.specs.Sound.{allZero, headSound, pairsSound, coversSound, sound}
-use Rattle.book.proofs.WordLaws.{word-fresh, fresh-size}
+use Rattle.book.proofs.WordLaws.{word-fresh, fresh-size, zeros-fresh}
 
 -- a window in use: its trips, its opening and its last check-out
 pub record HeadRight (t opening out : ℕ) : Type 0 where
@@ -60,6 +61,15 @@ one-more n test before here e h = rw (e, h, each-more)
 
 pub all-done : (n i : ℕ) (test : ℕ → Bool) (found : Bool) → i ≤ n → n ≤ i → found ≡ each i test → found ≡ each n test
 all-done n i test found most least e = e ∙ ap (λ (k : ℕ). each k test) (le-antisymm most least)
+
+-- two numbers together have no bit set where neither has one
+pub or-zero : (a b : ℕ) → eqb (bitOr a b) 0 ≡ eqb a 0 && eqb b 0
+or-zero a b =
+    elim (ℕ-discrete a 0) [
+      | yes none ↦ rw (none, or-zero-l b)
+      | no some ↦
+          rw (ne-eqb a 0 some, ne-eqb (bitOr a b) 0 (λ none. some (omega (arith, or-add-and a b, and-le-r a b))))
+    ]
 
 -- the tests at one word, at one pair, and at one bicycle
 abbrev pub zeroRight : List ℕ → ℕ → Bool
@@ -185,6 +195,10 @@ sound-has b areas e =
             fresh = λ none. absurd (some none);
           }
     ]
+
+-- A sound book without trips is a fresh one.
+pub fresh-is : {b : List ℕ} {areas : ℕ} → SoundBook b areas → tripsOf b ≡ 0 → b ≡ freshBook
+fresh-is {b} s none = zeros-fresh b (s .size) (s .fresh none)
 
 -- A sound book's opening is a minute of the calendar.
 pub opening-most : (b : List ℕ) (areas : ℕ) → sound b areas ≡ true → openingOf b ≤ lastMinute

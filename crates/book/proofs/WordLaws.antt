@@ -1,12 +1,14 @@
 -- What a book's words do: read back, left alone, none in a fresh book.
 -- Assumes nothing.
-use Prim.Native.Nat.{ℕ, zero, suc, _+_, _*_, _^_, _<_}
+use Prim.Native.Nat.{ℕ, zero, suc, _+_, _*_, _/_, _%_, _^_, _<_}
+use native.Mathlib.Nat.{add-zero}
 use native.Mathlib.Omega.{arith}
 use native.Mathlib.Decide.{decLt}
-use mathlib.Core.Path.{_≡_, refl}
+use mathlib.Core.Path.{_≡_, refl, sym, _∙_}
 use mathlib.Core.Logic.{inl, inr}
 use mathlib.Core.List.{List}
 use lib.ListN.{length, getD, replicate, length-replicate}
+use lib.Seq.{ext-getD}
 use Rattle.wire.specs.Number.{getLe, Bytes}
 use Rattle.wire.proofs.Number.{length-put, read-back, read-other, get-range}
 use Rattle.book.specs.Words.{bookSize, freshBook, word, putWord}
@@ -42,6 +44,24 @@ word-fresh i = zero-number 4 bookSize (4 * i)
 
 pub fresh-size : length freshBook ≡ bookSize
 fresh-size = length-replicate {A = ℕ} bookSize 0
+
+-- where a number is 0, so is each of its bytes
+bytes-zero : (width : ℕ) (b : List ℕ) (place : ℕ) → getLe width b place ≡ 0 → (j : ℕ) → j < width → getD b (place + j) 0 ≡ 0
+unfolding getLe
+bytes-zero zero b place none j h = absurd (omega arith)
+bytes-zero (suc width) b place none zero h = rw add-zero (omega arith)
+bytes-zero (suc width) b place none (suc j) h =
+    let next : place + suc j ≡ place + 1 + j = omega arith in
+    rw next (bytes-zero width b (place + 1) (omega arith) j (omega arith))
+
+-- A book whose words are all 0 is a fresh one.
+pub zeros-fresh : (b : List ℕ) → length b ≡ bookSize → ((i : ℕ) → i < 1357 → word b i ≡ 0) → b ≡ freshBook
+zeros-fresh b size zeros = ext-getD 0 b freshBook (size ∙ sym fresh-size) at
+  where
+    at : (i : ℕ) → i < length b → getD b i 0 ≡ getD freshBook i 0
+    at i h =
+        let place : 4 * (i / 4) + i % 4 ≡ i = omega arith in
+        rw zero-at (rw place at (bytes-zero 4 b (4 * (i / 4)) (zeros (i / 4) (omega arith)) (i % 4) (omega arith)))
 
 -- A word of bytes is one that four bytes hold.
 pub word-range : (b : List ℕ) (i : ℕ) → Bytes b → word b i < 2 ^ 32

@@ -1,5 +1,7 @@
 -- Paper 01, "Windows and charges": an area's caps, and what they have left.
-use Prim.Native.Nat.{ℕ, _-_}
+use Prim.Native.Nat.{ℕ, _-_, _<_}
+use mathlib.Core.Path.{_≡_}
+use mathlib.Core.List.{List}
 use mathlib.Core.Bool.{Bool, cond}
 use lib.Dec.{eqb}
 use Rattle.units.specs.Rounding.{raisedBy}
@@ -7,8 +9,11 @@ use Rattle.units.specs.Caps.{cappedBy}
 use Rattle.units.specs.declared.Cap.{Cap}
 use Rattle.units.specs.declared.Cap.the-variants.{NoCap, UpTo}
 use Rattle.tariff.specs.declared.Area.{Area}
+use Rattle.tariff.specs.Areas.{areaAt, parentOf}
 use Rattle.fare.specs.Prices.{step4}
 use Rattle.book.specs.declared.limits.Caps.{Caps}
+use Rattle.book.specs.declared.limits.Link.{Link}
+use Rattle.book.specs.declared.limits.Chain.{Chain}
 
 -- an area's second-class cap is its day cap; for children reduced and rounded up as in step 4
 unfoldable pub secondCap : Area → Bool → Cap
@@ -25,6 +30,28 @@ allCap area child =
 
 abbrev pub capsHere : Area → Bool → Caps
 capsHere area child = record { second = secondCap area child; all = allCap area child }
+
+-- each area of a chain has its words in the book
+pub record Places (chain : Chain) : Type 0 where
+  pub own : chain .own .area < 32
+  pub above : chain .above .area < 32
+  pub top : chain .top .area < 32
+
+-- an area of a chain, with its caps
+abbrev pub linkOf : List ℕ → ℕ → Bool → Link
+linkOf tariff area child = record { area = area; caps = capsHere (areaAt tariff area) child }
+
+-- an area, the one above it and the one above that; the state is its own parent
+abbrev pub chainOf : List ℕ → ℕ → Bool → Chain
+chainOf tariff area child = record {
+  own = linkOf tariff area child;
+  above = linkOf tariff (parentOf tariff area) child;
+  top = linkOf tariff (parentOf tariff (parentOf tariff area)) child;
+}
+
+pub record ChainOf (tariff : List ℕ) (area : ℕ) (child : Bool) (r : Chain) : Type 0 where
+  pub value : r ≡ chainOf tariff area child
+  pub places : Places r
 
 -- what a cap has left over a sum: 0 if passed already
 unfoldable pub leftOf : Cap → ℕ → Cap

@@ -11,7 +11,8 @@ use Rattle.tariff.specs.Rules.{levelOf, flatOf}
 use Rattle.tariff.specs.Areas.{Read, areaAt, parentOf, smallestOf}
 use Rattle.fare.specs.declared.Ride.{Ride}
 use Rattle.fare.specs.Prices.{priceOf}
-use Rattle.book.specs.declared.Charges.{Charges}
+use Rattle.book.specs.declared.limits.Link.{Link}
+use Rattle.book.specs.declared.limits.Chain.{Chain}
 use Rattle.book.specs.Words.{secondSum, allSum, coverWord}
 use Rattle.book.specs.Caps.{capsHere, cappedHere}
 use Rattle.book.specs.Sound.{sound}
@@ -38,9 +39,19 @@ chargeUp zero tariff w rider child class area amount = cappedAt tariff w rider c
 chargeUp (suc level) tariff w rider child class area amount =
     chargeUp level tariff w rider child class (parentOf tariff area) (cappedAt tariff w rider child class area amount)
 
+-- the smallest of an amount and what the caps of one area of a chain have left for a rider
+abbrev pub cappedAtLink : Link → List ℕ → ℕ → ℕ → ℕ → ℕ
+cappedAtLink link w rider class amount =
+    cappedHere (link .caps) class (secondSum w rider (link .area)) (allSum w rider (link .area)) amount
+
+-- the same of all three. For the chain of an area this is chargeUp (ChargeLaws: charge-by)
+unfoldable pub chargeBy : Chain → List ℕ → ℕ → ℕ → ℕ → ℕ
+chargeBy chain w rider class amount =
+    cappedAtLink (chain .top) w rider class (cappedAtLink (chain .above) w rider class (cappedAtLink (chain .own) w rider class amount))
+
 -- the charge is the smallest of the price and what each of these caps has left
-pub record ChargeUp (tariff w : List ℕ) (rider : ℕ) (child : Bool) (class area price r : ℕ) : Type 0 where
-  pub value : r ≡ chargeUp (levelOf tariff area) tariff w rider child class area price
+pub record ChargeBy (chain : Chain) (w : List ℕ) (rider class price r : ℕ) : Type 0 where
+  pub value : r ≡ chargeBy chain w rider class price
   pub range : r ≤ price
 
 unfoldable pub riderCharge : List ℕ → List ℕ → Ride → Bool → ℕ → ℕ
@@ -82,11 +93,7 @@ chargesOf tariff w ride =
     riderCharges tariff w ride false 0 (1 + ride .party .adults)
     ++ (riderCharges tariff w ride true 11 (ride .party .children) ++ bicycleCharges tariff w ride (ride .party .bicycles))
 
--- the charges that a struct holds
-abbrev pub chargeList : Charges → List ℕ
-chargeList charges = take (charges .count) (charges .amounts)
-
--- m is 1 + adults + children + bicycles
-pub record ChargesOf (tariff w : List ℕ) (ride : Ride) (r : Charges) : Type 0 where
-  pub value : chargeList r ≡ chargesOf tariff w ride
-  pub count : r .count ≡ 1 + ride .party .adults + ride .party .children + ride .party .bicycles
+-- a list that starts with these charges
+pub record Charged (tariff w : List ℕ) (ride : Ride) (amounts : List ℕ) : Type 0 where
+  pub size : length amounts ≡ 31
+  pub value : take (length (chargesOf tariff w ride)) amounts ≡ chargesOf tariff w ride

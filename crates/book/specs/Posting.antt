@@ -2,7 +2,7 @@
 use Prim.Native.Nat.{ℕ, zero, suc, _+_, _*_, _≤_, _<_}
 use mathlib.Core.Path.{_≡_}
 use mathlib.Core.List.{List}
-use mathlib.Core.Bool.{Bool, true, false, cond}
+use mathlib.Core.Bool.{true, cond}
 use lib.ListN.{length, getD}
 use lib.Dec.{eqb}
 use Rattle.tariff.specs.declared.Counts.{Counts}
@@ -10,10 +10,9 @@ use Rattle.tariff.specs.Rules.{levelOf}
 use Rattle.tariff.specs.Areas.{Read, parentOf}
 use Rattle.fare.specs.declared.Ride.{Ride}
 use Rattle.book.specs.declared.Window.{Window}
-use Rattle.book.specs.declared.Charges.{Charges}
-use Rattle.book.specs.Words.{bookSize, putWord, tripsOf, pairPlace, secondSum, allSum, coverPlace, coverWord}
+use Rattle.book.specs.Words.{bookSize, freshBook, putWord, tripsOf, pairPlace, secondSum, allSum, coverPlace, coverWord}
 use Rattle.book.specs.Windows.{inWindow}
-use Rattle.book.specs.Charging.{Rideable, ChargesOf, chargesOf, newCover}
+use Rattle.book.specs.Charging.{Rideable, Charged, chargesOf, newCover}
 
 -- the charge added to a rider's sums in one area: to all classes always, to second class only in class 2
 unfoldable pub addHere : List ℕ → ℕ → ℕ → ℕ → ℕ → List ℕ
@@ -55,6 +54,10 @@ posted tariff book window checkout ride =
     (addList tariff ride 11 (ride .party .children) charges adults
     (addList tariff ride 0 adults charges 0 (opened window checkout w)))
 
+-- a book without trips is a fresh one
+abbrev pub FreshOrUsed : List ℕ → Type 0
+FreshOrUsed book = tripsOf book ≡ 0 → book ≡ freshBook
+
 -- a rider's sums in an area have room for one charge more
 abbrev pub RoomHere : List ℕ → ℕ → ℕ → Type 0
 RoomHere book rider area = (secondSum book rider area ≤ allSum book rider area) × (allSum book rider area ≤ 255 * 3790000)
@@ -64,14 +67,14 @@ abbrev pub Room : List ℕ → ℕ → Type 0
 Room book rider = (area : ℕ) → area < 32 → RoomHere book rider area
 
 -- what adding riders' charges asks: each rider has room, and each charge is in its range
-pub record Adding (tariff : List ℕ) (counts : Counts) (book : List ℕ) (ride : Ride) (first count : ℕ) (charges : Charges) (from : ℕ) : Type 0 where
+pub record Adding (tariff : List ℕ) (counts : Counts) (book : List ℕ) (ride : Ride) (first count : ℕ) (amounts : List ℕ) (from : ℕ) : Type 0 where
   pub size : length book ≡ bookSize
   pub read : Read tariff counts
   pub area : ride .area < counts .areas
   pub riders : first + count ≤ 21
-  pub places : from + count ≤ 31
+  pub places : from + count ≤ length amounts
   pub room : (i : ℕ) → i < count → Room book (first + i)
-  pub range : (i : ℕ) → i < count → getD (charges .amounts) (from + i) 0 ≤ 3790000
+  pub range : (i : ℕ) → i < count → getD amounts (from + i) 0 ≤ 3790000
 
 -- what covering bicycles asks: their old covering areas are the tariff's
 pub record Covering (tariff : List ℕ) (counts : Counts) (book : List ℕ) (ride : Ride) (count : ℕ) : Type 0 where
@@ -82,8 +85,7 @@ pub record Covering (tariff : List ℕ) (counts : Counts) (book : List ℕ) (rid
   pub covers : (i : ℕ) → i < count → coverWord book i ≤ counts .areas
 
 -- what posting asks: a ride that the book has room for, in its window, with the charges that it comes to
-pub record Postable (tariff : List ℕ) (counts : Counts) (book : List ℕ) (window : Window) (ride : Ride) (charges : Charges) : Type 0 where
+pub record Postable (tariff : List ℕ) (counts : Counts) (book : List ℕ) (window : Window) (ride : Ride) (amounts : List ℕ) : Type 0 where
   pub rideable : Rideable tariff counts book ride
   pub few : window .current ≡ true → tripsOf book ≤ 255
-  pub used : window .current ≡ true → 1 ≤ tripsOf book
-  pub charged : ChargesOf tariff (inWindow (window .current) book) ride charges
+  pub charged : Charged tariff (inWindow (window .current) book) ride amounts

@@ -1,8 +1,9 @@
 // What each of a party is charged. Nothing here writes to a book; in a new window the sums and bicycles count as none.
 use crate::Charge;
-use crate::Charges;
+use crate::limits::Chain;
+use crate::limits::Link;
 use crate::limits::capped_here;
-use crate::limits::caps_of;
+use crate::limits::chain_of;
 use crate::words::cover;
 use crate::words::get;
 use crate::words::pair;
@@ -11,19 +12,18 @@ use fare::prices::price;
 use tariff::Counts;
 use tariff::areas::area;
 use tariff::areas::flat;
-use tariff::areas::level;
-use tariff::areas::parent;
 use tariff::areas::smallest_containing;
 use units::Cents;
 ghost use mathlib.Core.Path.{_≡_};
 ghost use mathlib.Core.Bool.{true};
-ghost use mathlib.Core.List.{_++_};
 ghost use Prim.Native.Nat.{_+_, _≤_, _<_};
 ghost use lib.ListN.{length};
+ghost use lib.Seq.{sets};
 ghost use Rattle.tariff.specs.Areas.{Read};
 ghost use Rattle.book.specs.Words.{bookSize, Word};
 ghost use Rattle.book.specs.Windows.{inWindow};
-ghost use Rattle.book.specs.Charging.{Rideable, cappedAt, ChargeUp, NewCover, BicycleCharge, chargeList, riderCharges, bicycleCharges, ChargesOf};
+ghost use Rattle.book.specs.Caps.{Places};
+ghost use Rattle.book.specs.Charging.{Rideable, cappedAtLink, ChargeBy, NewCover, BicycleCharge, riderCharges, bicycleCharges, chargesOf};
 
 // A word of the book, which is 0 in a new window.
 fn get_in(book: &[u8], current: bool, place: usize) -> u32
@@ -33,82 +33,48 @@ fn get_in(book: &[u8], current: bool, place: usize) -> u32
     if current { get(book, place) } else { 0 }
 }
 
-// The smallest of an amount and what one area's caps have left for a rider.
+// The smallest of an amount and what the caps of one area of a chain have left for a rider.
 fn capped_at(
-    tariff: &[u8],
-    counts: Counts,
     book: &[u8],
     current: bool,
     rider: usize,
-    child: bool,
+    link: Link,
     class: u8,
-    at: usize,
     amount: Cents,
 ) -> Cents
-    requires { ⌜ (Read (now tariff) counts × (length (now book) ≡ bookSize)) × ((rider < 21) × (at < counts .areas)) ⌝ }
-    ensures { λ r. ⌜ (r .0 ≡ cappedAt (now (tariff .entry)) (inWindow current (now (book .entry))) rider child class at (amount .0)) × (r .0 ≤ amount .0) ⌝ }
+    requires { ⌜ (length (now book) ≡ bookSize) × ((rider < 21) × (link .area < 32)) ⌝ }
+    ensures { λ r. ⌜ (r .0 ≡ cappedAtLink link (inWindow current (now (book .entry))) rider class (amount .0)) × (r .0 ≤ amount .0) ⌝ }
 {
-    let place = pair(rider, at);
+    let place = pair(rider, link.area);
     let second = Cents(get_in(book, current, place));
     let all = Cents(get_in(book, current, place + 1));
-    capped_here(
-        caps_of(area(tariff, counts, at), child),
-        class,
-        second,
-        all,
-        amount,
-    )
+    let caps = link.caps;
+    capped_here(caps, class, second, all, amount)
 }
 
 // The smallest of a price and what the caps of its area and of every area above have left.
 pub fn charge(
-    tariff: &[u8],
-    counts: Counts,
     book: &[u8],
     current: bool,
     rider: usize,
-    child: bool,
+    chain: Chain,
     class: u8,
-    at: usize,
     price: Cents,
 ) -> Charge
-    requires { ⌜ (Read (now tariff) counts × (length (now book) ≡ bookSize)) × ((rider < 21) × (at < counts .areas)) ⌝ }
-    ensures { λ r. ⌜ ChargeUp (now (tariff .entry)) (inWindow current (now (book .entry))) rider child class at (price .0) (r .amount .0) ⌝ }
+    requires { ⌜ (length (now book) ≡ bookSize) × ((rider < 21) × Places chain) ⌝ }
+    ensures { λ r. ⌜ ChargeBy chain (inWindow current (now (book .entry))) rider class (price .0) (r .amount .0) ⌝ }
 {
-    let mut up = at;
-    let mut above = level(tariff, counts, at);
-    let mut amount = price;
-    while 0 < above {
-        amount = capped_at(
-            tariff,
-            counts,
-            book,
-            current,
-            rider,
-            child,
-            class,
-            up,
-            amount,
-        );
-        up = parent(tariff, counts, up);
-        above -= 1;
-    }
+    let own = chain.own;
+    let above = chain.above;
+    let top = chain.top;
+    let low = capped_at(book, current, rider, own, class, price);
+    let middle = capped_at(book, current, rider, above, class, low);
     Charge {
-        amount: capped_at(
-            tariff,
-            counts,
-            book,
-            current,
-            rider,
-            child,
-            class,
-            up,
-            amount,
-        ),
+        amount: capped_at(book, current, rider, top, class, middle),
     }
 }
 
-// The charges of `count` riders from `first` on, adults or children, after those of the party before them.
+// The charges of `count` riders from `first` on, adults or children, into the party's amounts from `from` on.
 fn charge_riders(
     tariff: &[u8],
     counts: Counts,
@@ -118,35 +84,24 @@ fn charge_riders(
     child: bool,
     first: usize,
     count: usize,
-    before: Charges,
-) -> Charges
-    requires { ⌜ Rideable (now tariff) counts (now book) ride × ((first + count ≤ 21) × (before .count + count ≤ 31)) ⌝ }
-    ensures { λ r. ⌜ (chargeList r ≡ chargeList before ++ riderCharges (now (tariff .entry)) (inWindow current (now (book .entry))) ride child first count) × (r .count ≡ before .count + count) ⌝ }
+    amounts: &mut [u32],
+    from: usize,
+)
+    requires { ⌜ Rideable (now tariff) counts (now book) ride × ((first + count ≤ 21) × (from + count ≤ length (now amounts))) ⌝ }
+    ensures { λ _. ⌜ now (amounts .exit) ≡ sets (now (amounts .entry)) from (riderCharges (now (tariff .entry)) (inWindow current (now (book .entry))) ride child first count) ⌝ }
 {
+    if count == 0 {
+        return;
+    }
     let party = ride.party;
     let class = party.class;
     let at = ride.area;
     let fare = price(area(tariff, counts, at), ride, child);
-    let mut amounts = before.amounts;
-    let from = before.count;
+    let chain = chain_of(tariff, counts, at, child);
     for i in 0..count {
-        let one = charge(
-            tariff,
-            counts,
-            book,
-            current,
-            first + i,
-            child,
-            class,
-            at,
-            fare,
-        );
+        let one = charge(book, current, first + i, chain, class, fare);
         let amount = one.amount;
         amounts[from + i] = amount.0;
-    }
-    Charges {
-        amounts,
-        count: from + count,
     }
 }
 
@@ -178,7 +133,7 @@ pub fn charge_bicycle(tariff: &[u8], counts: Counts, at: usize, old: usize) -> C
     }
 }
 
-// The charges of `count` bicycles, after those of the party before them.
+// The charges of `count` bicycles, into the party's amounts from `from` on.
 fn charge_bicycles(
     tariff: &[u8],
     counts: Counts,
@@ -186,37 +141,38 @@ fn charge_bicycles(
     current: bool,
     ride: Ride,
     count: usize,
-    before: Charges,
-) -> Charges
-    requires { ⌜ Rideable (now tariff) counts (now book) ride × ((count ≤ 10) × (before .count + count ≤ 31)) ⌝ }
-    ensures { λ r. ⌜ (chargeList r ≡ chargeList before ++ bicycleCharges (now (tariff .entry)) (inWindow current (now (book .entry))) ride count) × (r .count ≡ before .count + count) ⌝ }
+    amounts: &mut [u32],
+    from: usize,
+)
+    requires { ⌜ Rideable (now tariff) counts (now book) ride × ((count ≤ 10) × (from + count ≤ length (now amounts))) ⌝ }
+    ensures { λ _. ⌜ now (amounts .exit) ≡ sets (now (amounts .entry)) from (bicycleCharges (now (tariff .entry)) (inWindow current (now (book .entry))) ride count) ⌝ }
 {
     let at = ride.area;
-    let mut amounts = before.amounts;
-    let from = before.count;
     for i in 0..count {
         let old = get_in(book, current, cover(i)) as usize;
         let one = charge_bicycle(tariff, counts, at, old);
         let amount = one.amount;
         amounts[from + i] = amount.0;
     }
-    Charges {
-        amounts,
-        count: from + count,
-    }
 }
 
-// The charges of a ride's whole party, in the record's order.
-pub fn charges_of(tariff: &[u8], counts: Counts, book: &[u8], current: bool, ride: Ride) -> Charges
-    requires { ⌜ Rideable (now tariff) counts (now book) ride ⌝ }
-    ensures { λ r. ⌜ ChargesOf (now (tariff .entry)) (inWindow current (now (book .entry))) ride r ⌝ }
+// The charges of a ride's whole party, in the record's order, at the start of the amounts. The answer is how many they are.
+pub fn charges_of(
+    tariff: &[u8],
+    counts: Counts,
+    book: &[u8],
+    current: bool,
+    ride: Ride,
+    amounts: &mut [u32],
+) -> usize
+    requires { ⌜ Rideable (now tariff) counts (now book) ride × (length (now amounts) ≡ 31) ⌝ }
+    ensures { λ r. ⌜ (r ≡ length (chargesOf (now (tariff .entry)) (inWindow current (now (book .entry))) ride)) × (now (amounts .exit) ≡ sets (now (amounts .entry)) 0 (chargesOf (now (tariff .entry)) (inWindow current (now (book .entry))) ride)) ⌝ }
 {
     let party = ride.party;
-    let none = Charges {
-        amounts: [0u32; 31],
-        count: 0,
-    };
-    let adults = charge_riders(
+    let adults = 1 + party.adults as usize;
+    let children = party.children as usize;
+    let bicycles = party.bicycles as usize;
+    charge_riders(
         tariff,
         counts,
         book,
@@ -224,10 +180,11 @@ pub fn charges_of(tariff: &[u8], counts: Counts, book: &[u8], current: bool, rid
         ride,
         false,
         0,
-        1 + party.adults as usize,
-        none,
+        adults,
+        amounts,
+        0,
     );
-    let people = charge_riders(
+    charge_riders(
         tariff,
         counts,
         book,
@@ -235,7 +192,8 @@ pub fn charges_of(tariff: &[u8], counts: Counts, book: &[u8], current: bool, rid
         ride,
         true,
         11,
-        party.children as usize,
+        children,
+        amounts,
         adults,
     );
     charge_bicycles(
@@ -244,7 +202,9 @@ pub fn charges_of(tariff: &[u8], counts: Counts, book: &[u8], current: bool, rid
         book,
         current,
         ride,
-        party.bicycles as usize,
-        people,
-    )
+        bicycles,
+        amounts,
+        adults + children,
+    );
+    adults + children + bicycles
 }

@@ -29,8 +29,5 @@ pub struct Charge {
     pub amount: Cents,
 }
 
-// The charges of a party: account holder, adults, children, bicycles. The first `count` of the amounts are theirs.
-pub struct Charges {
-    pub amounts: [u32; 31],
-    pub count: usize,
-}
+// The most charges that a ride has: account holder, ten adults, ten children, ten bicycles.
+pub const MOST_CHARGES: usize = 31;

@@ -1,20 +1,36 @@
 // An area's caps for a rider, and what they have left.
 use tariff::Area;
+use tariff::Counts;
+use tariff::areas::area;
+use tariff::areas::parent;
 use units::Cap;
 use units::Cents;
 use units::capped;
 use units::raised;
 use units::reduced;
 ghost use mathlib.Core.Path.{_≡_};
-ghost use Prim.Native.Nat.{_≤_};
-ghost use Rattle.tariff.specs.Areas.{AreaRanges};
-ghost use Rattle.units.specs.Rounding.{roundable};
-ghost use Rattle.book.specs.Caps.{secondCap, allCap, leftOf, cappedHere, capsHere};
+ghost use Prim.Native.Nat.{_≤_, _<_};
+ghost use Rattle.tariff.specs.Areas.{AreaRanges, Read};
+ghost use Rattle.book.specs.Caps.{leftOf, cappedHere, capsHere, linkOf, ChainOf};
 
 // An area's second-class cap and its all-classes cap, for an adult or a child.
 pub struct Caps {
     pub second: Cap,
     pub all: Cap,
+}
+
+// An area of a chain, with its caps.
+pub struct Link {
+    pub area: usize,
+    pub caps: Caps,
+}
+
+// The areas whose caps hold for a ride: its own, the one above it and the one above that. The state is its own parent, so in a shorter
+// chain it stands again, and what its caps have cut they do not cut again.
+pub struct Chain {
+    pub own: Link,
+    pub above: Link,
+    pub top: Link,
 }
 
 pub fn caps_of(area: Area, child: bool) -> Caps
@@ -41,6 +57,30 @@ pub fn caps_of(area: Area, child: bool) -> Caps
                 }
             }
         }
+    }
+}
+
+fn link_of(tariff: &[u8], counts: Counts, at: usize, child: bool) -> Link
+    requires { ⌜ Read (now tariff) counts × (at < counts .areas) ⌝ }
+    ensures { λ r. ⌜ r ≡ linkOf (now (tariff .entry)) at child ⌝ }
+{
+    Link {
+        area: at,
+        caps: caps_of(area(tariff, counts, at), child),
+    }
+}
+
+// The chain of an area, once for all adults or all children of a party.
+pub fn chain_of(tariff: &[u8], counts: Counts, at: usize, child: bool) -> Chain
+    requires { ⌜ Read (now tariff) counts × (at < counts .areas) ⌝ }
+    ensures { λ r. ⌜ ChainOf (now (tariff .entry)) at child r ⌝ }
+{
+    let above = parent(tariff, counts, at);
+    let top = parent(tariff, counts, above);
+    Chain {
+        own: link_of(tariff, counts, at, child),
+        above: link_of(tariff, counts, above, child),
+        top: link_of(tariff, counts, top, child),
     }
 }
 

@@ -1,5 +1,4 @@
 // The window opened, the charges added to the sums, the bicycles' covering areas: all that is ever written to a book.
-use crate::Charges;
 use crate::Window;
 use crate::charging::new_cover;
 use crate::words::LAST_OUT;
@@ -22,7 +21,7 @@ ghost use Rattle.tariff.specs.Areas.{Read};
 ghost use Rattle.tariff.specs.Rules.{levelOf};
 ghost use Rattle.book.specs.Words.{bookSize, freshBook};
 ghost use Rattle.book.specs.Windows.{inWindow};
-ghost use Rattle.book.specs.Posting.{Room, RoomHere, Adding, Covering, Postable, addHere, addUp, addList, coverBicycles, opened, posted};
+ghost use Rattle.book.specs.Posting.{FreshOrUsed, Room, RoomHere, Adding, Covering, Postable, addHere, addUp, addList, coverBicycles, opened, posted};
 
 // All sums and bicycles back to none.
 fn clear(book: &mut [u8])
@@ -34,12 +33,12 @@ fn clear(book: &mut [u8])
     }
 }
 
-// The trip's window: cleared if it is new; word 0 the trips with this one, word 1 the opening, word 2 the check-out.
+// The trip's window: cleared if it is new, unless the book is fresh and there is nothing to clear; word 0 the trips with this one, word 1 the opening, word 2 the check-out.
 fn open_window(book: &mut [u8], window: Window, checkout: Minutes)
-    requires { ⌜ length (now book) ≡ bookSize ⌝ }
+    requires { ⌜ (length (now book) ≡ bookSize) × FreshOrUsed (now book) ⌝ }
     ensures { λ _. ⌜ now (book .exit) ≡ opened window (checkout .0) (inWindow (window .current) (now (book .entry))) ⌝ }
 {
-    if !window.current {
+    if !window.current & (get(book, TRIPS) != 0) {
         clear(book);
     }
     let opening = window.opening;
@@ -85,7 +84,7 @@ fn add_up(
     add_here(book, rider, class, up, amount);
 }
 
-// The charges of `count` riders from `first` on, which stand in the party's list from `from` on.
+// The charges of `count` riders from `first` on, which stand in the party's amounts from `from` on.
 fn add_riders(
     tariff: &[u8],
     counts: Counts,
@@ -93,16 +92,15 @@ fn add_riders(
     ride: Ride,
     first: usize,
     count: usize,
-    charges: Charges,
+    amounts: &[u32],
     from: usize,
 )
-    requires { ⌜ Adding (now tariff) counts (now book) ride first count charges from ⌝ }
-    ensures { λ _. ⌜ now (book .exit) ≡ addList (now (tariff .entry)) ride first count (charges .amounts) from (now (book .entry)) ⌝ }
+    requires { ⌜ Adding (now tariff) counts (now book) ride first count (now amounts) from ⌝ }
+    ensures { λ _. ⌜ now (book .exit) ≡ addList (now (tariff .entry)) ride first count (now (amounts .entry)) from (now (book .entry)) ⌝ }
 {
     let party = ride.party;
     let class = party.class;
     let at = ride.area;
-    let amounts = charges.amounts;
     for i in 0..count {
         let amount = amounts[from + i];
         add_up(tariff, counts, book, first + i, class, at, amount);
@@ -131,16 +129,16 @@ pub fn post(
     window: Window,
     checkout: Minutes,
     ride: Ride,
-    charges: Charges,
+    amounts: &[u32],
 )
-    requires { ⌜ Postable (now tariff) counts (now book) window ride charges ⌝ }
+    requires { ⌜ Postable (now tariff) counts (now book) window ride (now amounts) ⌝ }
     ensures { λ _. ⌜ now (book .exit) ≡ posted (now (tariff .entry)) (now (book .entry)) window (checkout .0) ride ⌝ }
 {
     let party = ride.party;
     let adults = 1 + party.adults as usize;
     let children = party.children as usize;
     open_window(book, window, checkout);
-    add_riders(tariff, counts, book, ride, 0, adults, charges, 0);
-    add_riders(tariff, counts, book, ride, 11, children, charges, adults);
+    add_riders(tariff, counts, book, ride, 0, adults, amounts, 0);
+    add_riders(tariff, counts, book, ride, 11, children, amounts, adults);
     cover_bicycles(tariff, counts, book, ride, party.bicycles as usize);
 }

@@ -4,9 +4,9 @@ use units::Minutes;
 use wire::four_at;
 use wire::put_four;
 ghost use mathlib.Core.Path.{_≡_};
-ghost use Prim.Native.Nat.{_+_, _*_, _<_, _^_};
+ghost use Prim.Native.Nat.{_+_, _*_, _<_};
 ghost use lib.ListN.{length};
-ghost use Rattle.book.specs.Words.{bookSize, word, putWord, Word};
+ghost use Rattle.book.specs.Words.{bookSize, putWord, Word};
 
 pub const SIZE: usize = 5_428;
 

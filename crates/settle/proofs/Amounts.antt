@@ -1,19 +1,17 @@
 -- The charges behind the head: their bytes, one charge more, and the whole record.
 -- Assumes nothing.
-use Prim.Native.Nat.{ℕ, suc, _+_, _*_, _≤_, _<_, min}
-use native.Mathlib.Nat.{min-eq-left, zero-add}
+use Prim.Native.Nat.{ℕ, _+_, _*_, _≤_, _<_}
+use native.Mathlib.Nat.{zero-add}
 use native.Mathlib.Numerals.{add-one}
 use native.Mathlib.Omega.{arith}
 use mathlib.Core.Path.{_≡_, refl, sym, ap, _∙_}
 use mathlib.Core.List.{List, [], _∷_, _++_, append-assoc, append-nil}
-use lib.ListN.{length, getD, take, drop, length-append, length-take}
-use lib.Seq.{sets, sets-eq, take-suc}
+use lib.ListN.{length, getD, take, drop, length-append}
+use lib.Seq.{sets, sets-eq, take-suc, length-take-le}
 use Rattle.wire.specs.Number.{bytesOf}
 use Rattle.wire.proofs.Number.{length-bytes, sets-more}
 use Rattle.fare.specs.declared.Ride.{Ride}
-use Rattle.book.specs.declared.Charges.{Charges}
-use Rattle.book.specs.Charging.{chargeList}
-use Rattle.settle.specs.Record.{headBytes, amountBytes, recordOf}
+use Rattle.settle.specs.Record.{headBytes, amountBytes, recordOf, Recordable}
 use Rattle.settle.proofs.Head.{length-head}
 
 -- Each charge has four bytes.
@@ -37,7 +35,7 @@ pub amount-stored :
 amount-stored s amounts i h =
     let before = amountBytes (take i amounts) in
     let long : length before ≡ 4 * i =
-    length-amounts (take i amounts) ∙ ap (4 *_) (length-take i amounts ∙ min-eq-left (omega arith))
+    length-amounts (take i amounts) ∙ ap (4 *_) (length-take-le i amounts (omega arith))
     in
     rw (add-one, take-suc amounts i 0 h, amounts-more, ← long) (sets-more s 13 before (bytesOf 4 (getD amounts i 0)))
 
@@ -76,18 +74,17 @@ record-stored s opening ride charges fits =
 
 -- What writing the head and then the charges of a party comes to: the contract of `write_record`, from those of its two parts.
 pub record-written :
-    (s s₁ s₂ : List ℕ) (opening : ℕ) (ride : Ride) (charges : Charges) → length (charges .amounts) ≡ 31 → charges .count ≤ 31
-    → 13 + 4 * charges .count ≤ length s
-    → s₁ ≡ sets s 0 (headBytes (11 + 4 * charges .count) opening (ride .area) (ride .km .0) (ride .minutes .0))
-    → s₂ ≡ sets s₁ 13 (amountBytes (chargeList charges))
-    → (11 + 4 * charges .count + 2 ≡ length (recordOf opening ride (chargeList charges)))
-    × (s₂ ≡ recordOf opening ride (chargeList charges) ++ drop (length (recordOf opening ride (chargeList charges))) s)
-record-written s s₁ s₂ opening ride charges full few room head rest =
-    let list = chargeList charges in
-    let count : length list ≡ charges .count = length-take (charges .count) (charges .amounts) ∙ min-eq-left (omega arith) in
+    (s s₁ s₂ : List ℕ) (opening : ℕ) (ride : Ride) (amounts : List ℕ) (count : ℕ) → Recordable s ride amounts count
+    → s₁ ≡ sets s 0 (headBytes (11 + 4 * count) opening (ride .area) (ride .km .0) (ride .minutes .0))
+    → s₂ ≡ sets s₁ 13 (amountBytes (take count amounts))
+    → (11 + 4 * count + 2 ≡ length (recordOf opening ride (take count amounts)))
+    × (s₂ ≡ recordOf opening ride (take count amounts) ++ drop (length (recordOf opening ride (take count amounts))) s)
+record-written s s₁ s₂ opening ride amounts count ok head rest =
+    let list = take count amounts in
+    let long : length list ≡ count = length-take-le count amounts (ok .there) in
     let headed : s₁ ≡ sets s 0 (headBytes (11 + 4 * length list) opening (ride .area) (ride .km .0) (ride .minutes .0)) =
-    head ∙ ap (λ (n : ℕ). sets s 0 (headBytes (11 + 4 * n) opening (ride .area) (ride .km .0) (ride .minutes .0))) (sym count)
+    head ∙ ap (λ (n : ℕ). sets s 0 (headBytes (11 + 4 * n) opening (ride .area) (ride .km .0) (ride .minutes .0))) (sym long)
     in (
       omega (arith, length-record opening ride list),
-      rest ∙ ap (λ (l : List ℕ). sets l 13 (amountBytes list)) headed ∙ record-stored s opening ride list (omega arith),
+      rest ∙ ap (λ (l : List ℕ). sets l 13 (amountBytes list)) headed ∙ record-stored s opening ride list (omega (arith, ok .room)),
     )

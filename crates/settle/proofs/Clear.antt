@@ -1,12 +1,12 @@
 -- Where all twelve conditions are clear: what each step of writing asks is there, and what is written is the accepted outcome.
 -- Assumes nothing.
-use Prim.Native.Nat.{ℕ, _+_, _*_, _≤_, _<_}
+use Prim.Native.Nat.{ℕ, _+_, _≤_}
 use native.Mathlib.Nat.{le-of-eq}
 use native.Mathlib.Omega.{arith}
-use mathlib.Core.Path.{_≡_, refl, sym, ap, subst, _∙_}
-use mathlib.Core.Bool.{Bool, true, false}
+use mathlib.Core.Path.{_≡_, refl, ap, _∙_}
 use mathlib.Core.List.{List, _++_}
-use lib.ListN.{length, drop}
+use lib.ListN.{length, take, drop}
+use lib.Seq.{sets, sets-eq, length-sets, take-append-seam}
 use Rattle.tariff.specs.declared.Counts.{Counts}
 use Rattle.tariff.proofs.Faultless.{faultless}
 use Rattle.trip.specs.declared.Trip.{Trip}
@@ -16,20 +16,23 @@ use Rattle.trip.proofs.Ranges.{PartyRanges, party-ranges}
 use Rattle.fare.specs.declared.Ride.{Ride}
 use Rattle.fare.specs.Rides.{Riding, InOrder, RideOf, rideOf}
 use Rattle.book.specs.declared.Window.{Window}
-use Rattle.book.specs.declared.Charges.{Charges}
 use Rattle.book.specs.Windows.{inWindow}
-use Rattle.book.specs.Sound.{sound}
-use Rattle.book.specs.Charging.{Rideable, ChargesOf, chargesOf, chargeList}
+use Rattle.book.specs.Charging.{Rideable, Charged, chargesOf}
 use Rattle.book.specs.Posting.{Postable, posted}
 use Rattle.book.proofs.SoundLaws.{sound-has}
+use Rattle.book.proofs.ChargeLaws.{charges-length}
 use Rattle.book.proofs.SoundAgain.{WindowRight, window-right, window-room, sound-again}
-use Rattle.settle.specs.Record.{recordSize, recordOf, Recordable}
-use Rattle.settle.specs.Outcome.{acceptedTrip, Settled, SettledSound, AllClear}
+use Rattle.settle.specs.Record.{recordOf, Recordable}
+use Rattle.settle.specs.Outcome.{acceptedTrip, SettledSound, AllClear}
 
 -- the ride's party is the trip's
 ride-party : (tariff : List ℕ) (areas : ℕ) (bytes : List ℕ) (trip : Trip) → rideOf tariff areas bytes trip .party ≡ trip .party
 unfolding rideOf
 ride-party tariff areas bytes trip = refl
+
+-- what was stored at the start of a list is what it starts with
+starts-with : (l vs : List ℕ) → length vs ≤ length l → take (length vs) (sets l 0 vs) ≡ vs
+starts-with l vs fits = rw (sets-eq vs l 0 (omega arith)) (take-append-seam vs _)
 
 module _ (tariff : List ℕ) (counts : Counts) (book bytes : List ℕ) (trip : Trip) (window : Window) (statement : List ℕ)
     (clear : AllClear tariff counts book bytes trip window statement) where
@@ -70,41 +73,57 @@ module _ (tariff : List ℕ) (counts : Counts) (book bytes : List ℕ) (trip : T
           bicycles = rw party (ranges .bicycles);
         }
 
-    module _ (charges : Charges) (charged : ChargesOf tariff (inWindow (window .current) book) ride charges) where
-      count : charges .count ≡ 1 + trip .party .adults + trip .party .children + trip .party .bicycles
-      count = rw party at (charged .count)
+    -- one charge for each of the party
+    abbrev charges : List ℕ
+    charges = chargesOf tariff (inWindow (window .current) book) ride
 
-      pub recordable : Recordable statement ride charges
+    charge-count : length charges ≡ 1 + trip .party .adults + trip .party .children + trip .party .bicycles
+    charge-count =
+        charges-length tariff (inWindow (window .current) book) ride
+        ∙ ap (λ (p : Party). 1 + p .adults + p .children + p .bicycles) party
+
+    -- stored at the start of an array of 31
+    module _ (start amounts : List ℕ) (count : ℕ) (full : length start ≡ 31)
+        (made : (count ≡ length charges) × (amounts ≡ sets start 0 charges)) where
+      fits : length charges ≤ 31
+      fits = omega (arith, charge-count, ranges .adults, ranges .children, ranges .bicycles)
+
+      charged : Charged tariff (inWindow (window .current) book) ride amounts
+      charged =
+          record {
+            size = rw (made .1) (length-sets start 0 charges ∙ full);
+            value = rw (made .1) (starts-with start charges (rw full fits));
+          }
+
+      listed : take count amounts ≡ charges
+      listed = rw (made .0) (charged .value)
+
+      pub recordable : Recordable statement ride amounts count
       recordable =
           let few = faultless tariff counts (clear .read) .few-areas in
           record {
-            few = omega (arith, count, ranges .adults, ranges .children, ranges .bicycles);
-            room = omega (arith, count, clear .room);
+            there = omega (arith, fits, made .0, charged .size);
+            few = omega (arith, fits, made .0);
+            room = omega (arith, charge-count, made .0, clear .room);
             area = omega (arith, is .there);
             km = is .km;
             minutes = is .minutes;
           }
 
-      pub postable : Postable tariff counts book window ride charges
-      postable =
-          record {
-            rideable = rideable;
-            few = window-room window-fits;
-            used = window-fits .used;
-            charged = charged;
-          }
+      pub postable : Postable tariff counts book window ride amounts
+      postable = record { rideable = rideable; few = window-room window-fits; charged = charged }
 
       -- What was written is the accepted outcome, and the book left behind is sound again.
       pub written :
-          (book′ statement′ : List ℕ) (r : ℕ) → r ≡ length (recordOf (window .opening .0) ride (chargeList charges))
+          (book′ statement′ : List ℕ) (r : ℕ) → r ≡ length (recordOf (window .opening .0) ride (take count amounts))
           → statement′
-          ≡ recordOf (window .opening .0) ride (chargeList charges) ++ drop (length (recordOf (window .opening .0) ride (chargeList charges))) statement
+          ≡ recordOf (window .opening .0) ride (take count amounts) ++ drop (length (recordOf (window .opening .0) ride (take count amounts))) statement
           → book′ ≡ posted tariff book window (trip .checkout .0) ride
           → SettledSound (acceptedTrip tariff counts book bytes trip window) (counts .areas) book book′ statement statement′ r
       unfolding acceptedTrip
       written book′ statement′ r size wrote post =
           record {
-            settled-is = rw (← (is .value), ← (charged .value)) (record { answer = size; book-is = post; statement-is = wrote });
+            settled-is = rw (← (is .value), ← listed) (record { answer = size; book-is = post; statement-is = wrote });
             sound-again =
                 rw post
                 (sound-again rideable (clear .window-is) (clear .few) (times .forward) (times .short) (times .range) (clear .on-time));

@@ -5,7 +5,6 @@ use lib.ListN.{length}
 use Rattle.wire.specs.Number.{bytesOf}
 use Rattle.trip.specs.declared.Party.{Party}
 use Rattle.fare.specs.declared.Ride.{Ride}
-use Rattle.book.specs.declared.Charges.{Charges}
 
 -- the record's bytes up to its first charge: its length and its kind, 2 bytes each, stand before the body. `long` is what the length
 -- counts, kind and body
@@ -27,10 +26,11 @@ unfoldable pub recordOf : ℕ → Ride → List ℕ → List ℕ
 recordOf opening ride charges =
     headBytes (11 + 4 * length charges) opening (ride .area) (ride .km .0) (ride .minutes .0) ++ amountBytes charges
 
--- what writing a record asks: room for it, and fields that their widths hold
-pub record Recordable (statement : List ℕ) (ride : Ride) (charges : Charges) : Type 0 where
-  pub few : charges .count ≤ 31
-  pub room : 13 + 4 * charges .count ≤ length statement
+-- what writing a record with the first `count` of some amounts asks: room for it, and fields that their widths hold
+pub record Recordable (statement : List ℕ) (ride : Ride) (amounts : List ℕ) (count : ℕ) : Type 0 where
+  pub there : count ≤ length amounts
+  pub few : count ≤ 31
+  pub room : 13 + 4 * count ≤ length statement
   pub area : ride .area < 32
   pub km : ride .km .0 ≤ 1415
   pub minutes : ride .minutes .0 ≤ 1440

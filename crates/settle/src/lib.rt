@@ -4,6 +4,7 @@
 // record.rt   the charge record, put together by a writer
 //
 // Decide first, write last: only where all twelve conditions are clear are book and statement written.
+use book::MOST_CHARGES;
 use book::Window;
 use book::charging::charges_of;
 use book::posting::post;
@@ -40,11 +41,12 @@ fn write(
     ensures { λ r. ⌜ SettledSound (acceptedTrip (now (tariff .entry)) counts (now (book .entry)) (now (bytes .entry)) trip window) (counts .areas) (now (book .entry)) (now (book .exit)) (now (statement .entry)) (now (statement .exit)) r ⌝ }
 {
     let ride = ride_of(tariff, counts, bytes, trip);
-    let charges = charges_of(tariff, counts, book, window.current, ride);
+    let mut amounts = [0u32; MOST_CHARGES];
+    let count = charges_of(tariff, counts, book, window.current, ride, &mut amounts);
     let opening = window.opening;
     let checkout = trip.checkout;
-    let size = write_record(statement, opening, ride, charges);
-    post(tariff, counts, book, window, checkout, ride, charges);
+    let size = write_record(statement, opening, ride, &amounts, count);
+    post(tariff, counts, book, window, checkout, ride, &amounts);
     size
 }
 

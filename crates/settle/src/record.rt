@@ -1,5 +1,4 @@
 // The charge record, put together by a writer that holds the lent statement.
-use book::Charges;
 use fare::Ride;
 use trip::Party;
 use units::Minutes;
@@ -7,11 +6,10 @@ use wire::writer::Writer;
 ghost use mathlib.Core.Path.{_≡_};
 ghost use mathlib.Core.List.{_++_};
 ghost use Prim.Native.Nat.{_+_, _*_, _≤_};
-ghost use lib.ListN.{length, drop};
+ghost use lib.ListN.{length, take, drop};
 ghost use lib.Seq.{sets};
 ghost use Rattle.wire.specs.Number.{bytesOf};
 ghost use Rattle.settle.specs.Record.{headBytes, amountBytes, recordSize, recordOf, Recordable};
-ghost use Rattle.book.specs.Charging.{chargeList};
 
 const CHARGE_KIND: u16 = 4;
 
@@ -54,23 +52,26 @@ pub fn record_size(party: Party) -> usize
 }
 
 // The charges, one after another, behind the head.
-fn write_amounts(statement: &mut [u8], charges: Charges)
-    requires { ⌜ (charges .count ≤ 31) × (13 + 4 * charges .count ≤ length (now statement)) ⌝ }
-    ensures { λ _. ⌜ now (statement .exit) ≡ sets (now (statement .entry)) 13 (amountBytes (chargeList charges)) ⌝ }
+fn write_amounts(statement: &mut [u8], amounts: &[u32], count: usize)
+    requires { ⌜ (count ≤ length (now amounts)) × ((count ≤ 31) × (13 + 4 * count ≤ length (now statement))) ⌝ }
+    ensures { λ _. ⌜ now (statement .exit) ≡ sets (now (statement .entry)) 13 (amountBytes (take count (now (amounts .entry)))) ⌝ }
 {
-    let amounts = charges.amounts;
-    let count = charges.count;
     for i in 0..count {
         write_amount(statement, 13 + 4 * i, amounts[i]);
     }
 }
 
-// The whole record at the start of the statement. The answer is its size.
-pub fn write_record(statement: &mut [u8], opening: Minutes, ride: Ride, charges: Charges) -> usize
-    requires { ⌜ Recordable (now statement) ride charges ⌝ }
-    ensures { λ r. ⌜ (r ≡ length (recordOf (opening .0) ride (chargeList charges))) × (now (statement .exit) ≡ recordOf (opening .0) ride (chargeList charges) ++ drop (length (recordOf (opening .0) ride (chargeList charges))) (now (statement .entry))) ⌝ }
+// The whole record at the start of the statement, with the first `count` of the amounts as its charges. The answer is its size.
+pub fn write_record(
+    statement: &mut [u8],
+    opening: Minutes,
+    ride: Ride,
+    amounts: &[u32],
+    count: usize,
+) -> usize
+    requires { ⌜ Recordable (now statement) ride (now amounts) count ⌝ }
+    ensures { λ r. ⌜ (r ≡ length (recordOf (opening .0) ride (take count (now (amounts .entry))))) × (now (statement .exit) ≡ recordOf (opening .0) ride (take count (now (amounts .entry))) ++ drop (length (recordOf (opening .0) ride (take count (now (amounts .entry))))) (now (statement .entry))) ⌝ }
 {
-    let count = charges.count;
     let area = ride.area;
     let km = ride.km;
     let minutes = ride.minutes;
@@ -83,6 +84,6 @@ pub fn write_record(statement: &mut [u8], opening: Minutes, ride: Ride, charges:
         km.0 as u16,
         minutes.0 as u16,
     );
-    write_amounts(statement, charges);
+    write_amounts(statement, amounts, count);
     long + 2
 }

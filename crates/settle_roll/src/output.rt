@@ -21,36 +21,73 @@ fn put_text(out: &mut [u8], place: usize, text: &[u8]) -> usize
     place + text.len()
 }
 
-// A number's digits, of which there are 20 at most.
-fn put_number(out: &mut [u8], place: usize, number: u64) -> usize
-    requires { ⌜ place + 20 ≤ length (now out) ⌝ }
-    ensures { λ r. ⌜ r ≤ place + 20 ⌝ }
+// A number's digits in front of a place, 10 at most, the last one first, so that nobody has to count them. The answer is where they begin.
+fn put_short_before(text: &mut [u8], end: usize, number: u32) -> usize
+    requires { ⌜ (10 ≤ end) × (end ≤ length (now text)) ⌝ }
+    ensures { λ r. ⌜ (r ≤ end) × (end ≤ r + 10) ⌝ }
 {
-    let mut digits = [0u8; 20];
-    let count = io::decimal(number, &mut digits);
-    put_text(out, place, &digits[..count])
+    let mut at = end - 1;
+    text[at] = b'0' + (number % 10) as u8;
+    let mut rest = number / 10;
+    while 0 < rest {
+        at -= 1;
+        text[at] = b'0' + (rest % 10) as u8;
+        rest = rest / 10;
+    }
+    at
+}
+
+// The same of a longer number, with 21 at most: once what is left is short, it is put as such.
+fn put_before(text: &mut [u8], end: usize, number: u64) -> usize
+    requires { ⌜ (21 ≤ end) × (end ≤ length (now text)) ⌝ }
+    ensures { λ r. ⌜ (r ≤ end) × (end ≤ r + 21) ⌝ }
+{
+    let mut at = end;
+    let mut rest = number;
+    while 4_294_967_295 < rest {
+        at -= 1;
+        text[at] = b'0' + (rest % 10) as u8;
+        rest = rest / 10;
+    }
+    put_short_before(text, at, rest as u32)
+}
+
+// A blank, and a short number's digits in front of a place.
+fn put_spaced_before(text: &mut [u8], end: usize, number: u32) -> usize
+    requires { ⌜ (11 ≤ end) × (end ≤ length (now text)) ⌝ }
+    ensures { λ r. ⌜ (r ≤ end) × (end ≤ r + 11) ⌝ }
+{
+    let at = put_short_before(text, end, number) - 1;
+    text[at] = b' ';
+    at
+}
+
+// The same of a longer number.
+fn put_long_spaced_before(text: &mut [u8], end: usize, number: u64) -> usize
+    requires { ⌜ (22 ≤ end) × (end ≤ length (now text)) ⌝ }
+    ensures { λ r. ⌜ (r ≤ end) × (end ≤ r + 22) ⌝ }
+{
+    let at = put_before(text, end, number) - 1;
+    text[at] = b' ';
+    at
+}
+
+fn put_number(out: &mut [u8], place: usize, number: u64) -> usize
+    requires { ⌜ place + 21 ≤ length (now out) ⌝ }
+    ensures { λ r. ⌜ r ≤ place + 21 ⌝ }
+{
+    let mut digits = [0u8; 21];
+    let at = put_before(&mut digits, 21, number);
+    put_text(out, place, &digits[at..])
 }
 
 // A text and a number behind it.
 fn put_named(out: &mut [u8], place: usize, text: &[u8], number: u64) -> usize
-    requires { ⌜ place + length (now text) + 20 ≤ length (now out) ⌝ }
-    ensures { λ r. ⌜ r ≤ place + length (now (text .entry)) + 20 ⌝ }
+    requires { ⌜ place + length (now text) + 21 ≤ length (now out) ⌝ }
+    ensures { λ r. ⌜ r ≤ place + length (now (text .entry)) + 21 ⌝ }
 {
     let start = put_text(out, place, text);
     put_number(out, start, number)
-}
-
-// Numbers, with a blank before each.
-fn put_numbers(out: &mut [u8], place: usize, numbers: &[u64]) -> usize
-    requires { ⌜ place + 21 * length (now numbers) ≤ length (now out) ⌝ }
-    ensures { λ r. ⌜ r ≤ place + 21 * length (now (numbers .entry)) ⌝ }
-{
-    let mut end = place;
-    for i in 0..numbers.len() {
-        out[end] = b' ';
-        end = put_number(out, end + 1, numbers[i]);
-    }
-    end
 }
 
 pub fn put_header(out: &mut [u8]) -> usize
@@ -60,12 +97,35 @@ pub fn put_header(out: &mut [u8]) -> usize
     put_text(out, 0, b"trip area km min open cents\n")
 }
 
+// The line of an accepted trip, put together from its end on and then copied.
+fn put_charged(
+    out: &mut [u8],
+    place: usize,
+    number: u32,
+    area: u8,
+    km: u16,
+    minutes: u16,
+    opening: u32,
+    cents: u64,
+) -> usize
+    requires { ⌜ place + 128 ≤ length (now out) ⌝ }
+    ensures { λ r. ⌜ r ≤ place + 128 ⌝ }
+{
+    let mut text = [b'\n'; 128];
+    let at5 = put_long_spaced_before(&mut text, 127, cents);
+    let at4 = put_spaced_before(&mut text, at5, opening);
+    let at3 = put_spaced_before(&mut text, at4, minutes as u32);
+    let at2 = put_spaced_before(&mut text, at3, km as u32);
+    let at1 = put_spaced_before(&mut text, at2, area as u32);
+    let start = put_short_before(&mut text, at1, number);
+    put_text(out, place, &text[start..])
+}
+
 // The line of a record: its number, and what the library says of it.
 pub fn put_line(out: &mut [u8], place: usize, number: u32, line: Line) -> usize
     requires { ⌜ place + 128 ≤ length (now out) ⌝ }
     ensures { λ r. ⌜ r ≤ place + 128 ⌝ }
 {
-    let start = put_number(out, place, number as u64);
     match line {
         Line::Charged {
             area,
@@ -73,18 +133,9 @@ pub fn put_line(out: &mut [u8], place: usize, number: u32, line: Line) -> usize
             minutes,
             opening,
             cents,
-        } => {
-            let numbers = [
-                area as u64,
-                km as u64,
-                minutes as u64,
-                opening as u64,
-                cents,
-            ];
-            let end = put_numbers(out, start, &numbers);
-            put_text(out, end, b"\n")
-        }
+        } => put_charged(out, place, number, area, km, minutes, opening, cents),
         Line::Refused(refusal) => {
+            let start = put_number(out, place, number as u64);
             let end = put_named(out, start, b" refused ", refusal);
             put_text(out, end, b"\n")
         }

@@ -4,7 +4,6 @@ use Prim.Native.Nat.{ℕ, _+_, _*_, _<_}
 use mathlib.Core.Path.{_≡_}
 use mathlib.Core.List.{List}
 use mathlib.Core.Bool.{Bool, cond, not, _&&_, _||_}
-use lib.ListN.{length}
 use lib.Dec.{leb, ltb, eqb}
 use Rattle.wire.specs.Number.{getLe}
 use Rattle.wire.specs.Frame.{frameAt}

@@ -9,9 +9,9 @@ use wire::frame_at;
 use wire::one_at;
 use wire::two_at;
 ghost use mathlib.Core.Path.{_≡_};
-ghost use Prim.Native.Nat.{_+_, _*_, _≤_, _<_};
+ghost use Prim.Native.Nat.{_+_, _≤_};
 ghost use lib.ListN.{length};
-ghost use Rattle.trip.specs.Record.{tripSize, shapeAt, partyAt, partyRight, stopNumber, StopNumber};
+ghost use Rattle.trip.specs.Record.{tripSize, shapeAt, partyAt, partyRight, StopNumber};
 ghost use Rattle.trip.specs.Moments.{momentAt, inOrder};
 ghost use Rattle.trip.specs.Trips.{stopsKnown, tripOf, readTrip};
 

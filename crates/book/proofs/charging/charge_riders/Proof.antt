@@ -1,78 +1,88 @@
--- `book::charging::charge_riders` meets its contract. The loop's invariant: behind the amounts of the party before stand those of the
--- first `i` riders. The measure is the number of riders left.
+-- `book::charging::charge_riders` meets its contract. The loop's invariant: the charges of the first `i` riders by the chain are in. The
+-- measure is the number of riders left.
 -- Assumes nothing.
-use Prim.Native.Nat.{_+_, _-_}
+use Prim.Native.Nat.{_+_, _-_, _*_, _^_, _<_}
 use native.Mathlib.Omega.{arith}
-use mathlib.Core.Path.{refl, _∙_}
-use lib.ListN.{take}
+use mathlib.Core.Path.{_∙_}
 use borrow.Author.Needs.{needs}
-use Rattle.tariff.specs.Rules.{levelOf}
+use Rattle.tariff.proofs.Faultless.{faultless}
 use Rattle.book.specs.Windows.{inWindow}
-use Rattle.book.specs.Charging.{chargeUp}
+use Rattle.book.specs.Charging.{chargeBy, riderCharges}
 use Rattle.book.proofs.SoundLaws.{sound-has}
-use Rattle.book.proofs.ChargeLaws.{Filled, filled-none, filled-more, filled-all, riders-listed, priceable}
+use Rattle.book.proofs.ChargeLaws.{Filled, filled-none, filled-size, filled-more, filled-all, riders-by-chain, priceable}
 use Rattle.book.proofs.charging.charge_riders.Statement.{statement}
 use Rattle.book.proofs.charging.charge_riders.Tie as tie
 
 abbrev Inv-loop : tie.InvT-loop
-Inv-loop tariff counts book current child first count class at fare amounts₀ from i₀ amounts i =
-    Filled (λ k. chargeUp (levelOf tariff at) tariff (inWindow current book) (first + k) child class at (fare .0)) (take from amounts₀)
-    amounts from count i
+Inv-loop tariff book current child first count amounts₀ from class at fare chain i₀ amounts i =
+    Filled (λ k. chargeBy chain (inWindow current book) (first + k) class (fare .0)) amounts₀ amounts from count i
 
 abbrev μ-loop : tie.MeasureT-loop
-μ-loop tariff counts book current child first count class at fare amounts₀ from i₀ amounts i = count - i
+μ-loop tariff book current child first count amounts₀ from class at fare chain i₀ amounts i = count - i
+
+returns : tie.Need-returns Inv-loop μ-loop
+unfolding riderCharges
+returns c = rw (c .if1 .taken)
 
 area-requires : tie.Need-area-requires Inv-loop μ-loop
 area-requires c κs = search needs
 
 price-requires : tie.Need-price-requires Inv-loop μ-loop
-price-requires c κs = rw (c .area .ensures) (priceable (c .before .before .before .before .pre .0))
+price-requires c κs = rw (c .area .ensures) (priceable (c .before .before .before .before .before .before .pre .0))
 
--- what came in holds 31 amounts
+chain-of-requires : tie.Need-chain-of-requires Inv-loop μ-loop
+chain-of-requires c κs =
+    let p = c .before .before .before .before .before .before .before .pre .0 in (p .read, p .area)
+
 loop-holds : tie.Need-loop-holds Inv-loop μ-loop
-loop-holds c = filled-none _ _ _ _ (c .before .before .before .before .before .before .good .1 .1 .1 .1 .1 .1 .1 .1 .0 .1 .1 .0 .1 .0 .1)
+loop-holds c = filled-none _ _ _ _
 
 add-charge : tie.Need-add-charge Inv-loop μ-loop
 add-charge c = omega arith
 
 charge-requires : tie.Need-charge-requires Inv-loop μ-loop
 charge-requires c κs =
-    let p = c .before .before .before .before .before .before .before .before .pre .0 in
-    ((p .read, sound-has _ _ (p .sound-book) .size), (omega arith, p .area))
+    let s = c .before .before in
+    let p = s .before .before .before .before .before .before .before .before .pre in
+    (sound-has _ _ (p .0 .sound-book) .size, (omega (arith, p .1), s .chain-of .ensures .places))
+
+-- the places are those of a list, so their bytes are counted by 64 bits
+room : (s : tie.After-slice-known Inv-loop μ-loop) → let a = s .before .before .before .args in (a .from + a .count) * 4 < 2 ^ 64
+room s = omega arith
 
 add-amounts : tie.Need-add-amounts Inv-loop μ-loop
-add-amounts c = omega arith
+add-amounts c = omega (arith, room (c .before .before .before .before .before .before .before .before .before))
 
 mul-amounts : tie.Need-mul-amounts Inv-loop μ-loop
-mul-amounts c = omega arith
+mul-amounts c = omega (arith, room (c .before .before .before .before .before .before .before .before .before))
 
-array-write-amounts : tie.Need-array-write-amounts Inv-loop μ-loop
-array-write-amounts c = omega arith
+slice-write-amounts : tie.Need-slice-write-amounts Inv-loop μ-loop
+slice-write-amounts c = omega (arith, filled-size (c .before .before .before .loop .inv), c .before .before .before .before .before .before .before .before .before .before .before .before .pre .1 .1)
 
 add-i : tie.Need-add-i Inv-loop μ-loop
-add-i c = omega arith
+add-i c = omega (arith, room (c .before .before .before .before .before .before .before .before .before))
 
 loop-less : tie.Need-loop-less Inv-loop μ-loop
 loop-less c = omega arith
 
 loop-again : tie.Need-loop-again Inv-loop μ-loop
 loop-again c =
+    let s = c .before .before in filled-more (s .before .loop .inv) _ (s .loop-test .taken) (c .before .charge .ensures .value)
+
+same-length : tie.Need-same-length Inv-loop μ-loop
+same-length c = filled-size (c .before .loop .inv)
+
+returns-2 : tie.Need-returns-2 Inv-loop μ-loop
+returns-2 c =
     let s = c .before .before in
-    let p = s .before .before .before .before .before .before .before .before .pre in
-    filled-more _ (s .before .loop .inv) (s .loop-test .taken) (p .1 .1) (c .before .charge .ensures .value)
-
-add-t26 : tie.Need-add-t26 Inv-loop μ-loop
-add-t26 c = omega arith
-
-returns : tie.Need-returns Inv-loop μ-loop
-returns c =
-    let s = c .before .before .before in
-    let a = s .before .before .before .before .before .args in
+    let first = s .before .before .before .before .before .before .before .before in
+    let a = first .args in
+    let p = first .pre .0 in
     let listed =
-    riders-listed (a .tariff .now) (inWindow (a .current) (a .book .now)) (a .ride) (a .child) (a .first)
-    (s .before .area .ensures) (s .price .ensures .value) (a .count)
+    riders-by-chain (a .tariff .now) (inWindow (a .current) (a .book .now)) (a .ride) (faultless _ _ (p .read)) (p .area) (a .child)
+    (a .first) (s .before .before .area .ensures) (s .chain-of .ensures .value) (s .before .price .ensures .value) (a .count)
     in
-    (filled-all (c .before .loop .inv) (c .loop-test .left) ∙ rw listed, refl)
+    filled-all (c .before .loop .inv) (c .loop-test .left) ∙ rw listed
 
 pub charge-riders-spec : {M : Type 1} → statement M
 charge-riders-spec =
@@ -80,16 +90,18 @@ charge-riders-spec =
     (tie.spec
     Inv-loop
     μ-loop
+    returns
     area-requires
     price-requires
+    chain-of-requires
     loop-holds
     add-charge
     charge-requires
     add-amounts
     mul-amounts
-    array-write-amounts
+    slice-write-amounts
     add-i
     loop-less
     loop-again
-    add-t26
-    returns)
+    same-length
+    returns-2)

@@ -9,11 +9,11 @@ use Rattle.book.proofs.posting.add_riders.Statement.{statement}
 use Rattle.book.proofs.posting.add_riders.Tie as tie
 
 abbrev Inv-loop : tie.InvT-loop
-Inv-loop tariff counts book₀ first count from class at amounts i₀ book i =
+Inv-loop tariff counts book₀ first count amounts from class at i₀ book i =
     RidersAdded tariff book₀ book amounts first count from class at i
 
 abbrev μ-loop : tie.MeasureT-loop
-μ-loop tariff counts book₀ first count from class at amounts i₀ book i = count - i
+μ-loop tariff counts book₀ first count amounts from class at i₀ book i = count - i
 
 loop-holds : tie.Need-loop-holds Inv-loop μ-loop
 loop-holds c = riders-start (c .before .before .before .before .pre .size) (c .before .before .before .before .pre .room)
@@ -24,29 +24,30 @@ add-amount c = omega (arith, c .before .before .before .before .before .before .
 mul-amount : tie.Need-mul-amount Inv-loop μ-loop
 mul-amount c = omega (arith, c .before .before .before .before .before .before .pre .places)
 
-array-read-amount : tie.Need-array-read-amount Inv-loop μ-loop
-array-read-amount c = omega (arith, c .before .before .before .before .before .before .pre .places)
+shared-slice-read-amount : tie.Need-shared-slice-read-amount Inv-loop μ-loop
+shared-slice-read-amount c = omega (arith, c .before .before .before .before .before .before .before .pre .places)
 
 add-add-up : tie.Need-add-add-up Inv-loop μ-loop
-add-add-up c = omega (arith, c .before .before .before .before .before .before .before .pre .riders)
+add-add-up c = omega (arith, c .before .before .before .before .before .before .before .before .pre .riders)
 
 add-up-requires : tie.Need-add-up-requires Inv-loop μ-loop
 add-up-requires c κs =
-    let p = c .before .before .before .before .before .before .before .pre in
-    let l = c .before .before .loop in
-    let more = c .before .loop-test .taken in
+    let p = c .before .before .before .before .before .before .before .before .pre in
+    let l = c .before .before .before .loop in
+    let more = c .before .before .loop-test .taken in
     ((l .inv .size, omega (arith, p .riders)), ((p .read, p .area), (p .range (l .i) more, l .inv .room (l .i) (omega arith) more)))
 
 add-i : tie.Need-add-i Inv-loop μ-loop
-add-i c = omega (arith, c .before .before .before .before .loop-test .taken, c .before .before .before .before .before .before .before .before .before .before .pre .places)
+add-i c = let s = c .before .before .before .before .before in omega (arith, s .loop-test .taken, s .before .before .before .before .before .before .pre .places)
 
 loop-less : tie.Need-loop-less Inv-loop μ-loop
-loop-less c = omega (arith, c .before .before .before .before .loop-test .taken)
+loop-less c = omega (arith, c .before .before .before .before .before .loop-test .taken)
 
 loop-again : tie.Need-loop-again Inv-loop μ-loop
 loop-again c =
-    let p = c .before .before .before .before .before .before .before .before .before .before .pre in
-    riders-turn (faultless _ _ (p .read)) (c .before .before .before .before .before .loop .inv) (c .before .before .before .before .loop-test .taken) (p .area) (p .riders)
+    let s = c .before .before .before .before .before in
+    let p = s .before .before .before .before .before .before .pre in
+    riders-turn (faultless _ _ (p .read)) (s .before .loop .inv) (s .loop-test .taken) (p .area) (p .riders)
     (c .before .before .add-up .ensures)
 
 same-length : tie.Need-same-length Inv-loop μ-loop
@@ -64,7 +65,7 @@ add-riders-spec =
     loop-holds
     add-amount
     mul-amount
-    array-read-amount
+    shared-slice-read-amount
     add-add-up
     add-up-requires
     add-i

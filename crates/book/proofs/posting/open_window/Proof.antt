@@ -1,21 +1,27 @@
--- Where the branches meet the book holds what counts in the window: cleared if that is new, else as it was. The three words follow.
+-- Where the branches meet the book holds what counts in the window: cleared if that is new, else as it was, which is fresh if the window is
+-- new and the book without trips. The three words follow.
 -- Assumes nothing.
 use native.Mathlib.Omega.{arith}
 use mathlib.Core.Path.{sym, _∙_}
 use mathlib.Core.Logic.{⊎-elim}
 use borrow.Author.Needs.{needs}
-use Rattle.book.proofs.PostTurns.{WindowReady, window-new, window-same, three-put}
+use Rattle.book.proofs.PostTurns.{WindowReady, window-cleared, window-left, three-put}
 use Rattle.book.proofs.posting.open_window.Statement.{statement}
 use Rattle.book.proofs.posting.open_window.Tie as tie
+
+get-requires : tie.Need-get-requires
+get-requires c κs = search needs
 
 clear-requires : tie.Need-clear-requires
 clear-requires c κs = search needs
 
 joined :
-    (c : tie.Joined1) → let a = c .before .before .before .args in WindowReady (a .window .current) (a .book .now) (c .if1 .book)
+    (c : tie.Joined1)
+    → let a = c .before .before .before .before .before .args in WindowReady (a .window .current) (a .book .now) (c .if1 .book)
 joined c =
-    ⊎-elim (λ w. window-new (w .0 .taken) (w .5 ∙ w .2 .ensures)) (λ w. window-same (c .before .before .before .pre) (w .0 .left) (w .1))
-    (c .if1 .came)
+    let p = c .before .before .before .before .before .pre in
+    ⊎-elim (λ w. window-cleared _ (c .before .get .result) (w .0 .taken) (w .5 ∙ w .2 .ensures))
+    (λ w. window-left _ (c .before .get .result) (p .0) (p .1) (c .before .get .ensures .value) (w .0 .left) (w .1)) (c .if1 .came)
 
 put-requires : tie.Need-put-requires
 put-requires c κs = (joined (c .before .before) .size, omega arith)
@@ -31,16 +37,18 @@ put-requires-3 c κs = (
 
 same-length : tie.Need-same-length
 same-length c =
-    c .before .before .put3 .kept .0 ∙ c .before .before .before .before .before .before .put2 .kept .0 ∙ c .before .before .before .before .before .before .before .before .before .before .put .kept .0
-    ∙ joined (c .before .before .before .before .before .before .before .before .before .before .before .before .before) .size ∙ sym (c .before .before .before .before .before .before .before .before .before .before .before .before .before .before .before .before .pre)
+    let s = c .before .before .before .before .before .before .before .before .before .before in
+    c .before .before .put3 .kept .0 ∙ c .before .before .before .before .before .before .put2 .kept .0 ∙ s .put .kept .0
+    ∙ joined (s .before .before .before) .size ∙ sym (s .before .before .before .before .before .before .before .before .pre .0)
 
 returns : tie.Need-returns
 returns c =
-    let a = c .before .before .before .before .before .before .before .before .before .before .before .before .before .before .before .before .args in
-    three-put (a .window) (a .checkout .0) (joined (c .before .before .before .before .before .before .before .before .before .before .before .before .before) .value) (c .before .before .before .before .before .before .before .before .before .before .put .ensures) (c .before .before .before .before .before .before .put2 .ensures)
-    (c .before .before .put3 .ensures)
+    let s = c .before .before .before .before .before .before .before .before .before .before in
+    let a = s .before .before .before .before .before .before .before .before .args in
+    three-put (a .window) (a .checkout .0) (joined (s .before .before .before) .value) (s .put .ensures)
+    (c .before .before .before .before .before .before .put2 .ensures) (c .before .before .put3 .ensures)
 
 pub open-window-spec : {M : Type 1} → statement M
 open-window-spec =
     tie.close
-    (tie.spec clear-requires put-requires put-requires-2 put-requires-3 same-length returns)
+    (tie.spec get-requires clear-requires put-requires put-requires-2 put-requires-3 same-length returns)

@@ -1,22 +1,22 @@
--- `book::sound::all_zero` meets its contract: after i turns the flag says whether the first i words are 0, and each turn is one test more.
+-- `book::sound::all_zero` meets its contract: after i turns no bit is set if the first i words are 0, and each turn is one test more.
 -- Assumes nothing.
 use Prim.Native.Nat.{ℕ, _-_, _≤_}
 use native.Mathlib.Omega.{arith}
-use mathlib.Core.Path.{_≡_, sym, ap}
+use mathlib.Core.Path.{_≡_, sym, ap, _∙_}
 use borrow.Author.Needs.{needs}
 use lib.Dec.{eqb}
 use Rattle.wire.specs.Each.{each}
 use Rattle.wire.proofs.Each.{each-none}
 use Rattle.book.specs.Sound.{allZero}
-use Rattle.book.proofs.SoundLaws.{zeroRight, one-more, all-done}
+use Rattle.book.proofs.SoundLaws.{zeroRight, or-zero, one-more, all-done}
 use Rattle.book.proofs.sound.all_zero.Statement.{statement}
 use Rattle.book.proofs.sound.all_zero.Tie as tie
 
 abbrev Inv-loop : tie.InvT-loop
-Inv-loop book zero₀ i₀ zero i = (i ≤ 1357) × (zero ≡ each i (zeroRight book))
+Inv-loop book bits₀ i₀ bits i = (i ≤ 1357) × (eqb bits 0 ≡ each i (zeroRight book))
 
 abbrev μ-loop : tie.MeasureT-loop
-μ-loop book zero₀ i₀ zero i = 1357 - i
+μ-loop book bits₀ i₀ bits i = 1357 - i
 
 loop-holds : tie.Need-loop-holds Inv-loop μ-loop
 loop-holds c = (omega arith, sym (each-none (zeroRight (c .before .args .book .now))))
@@ -33,7 +33,8 @@ loop-less c = omega arith
 loop-again : tie.Need-loop-again Inv-loop μ-loop
 loop-again c = (
   omega arith,
-  one-more _ (zeroRight (c .before .before .before .before .args .book .now)) _ _ (c .before .before .loop .inv .1)
+  or-zero (c .before .before .loop .bits) (c .get .result)
+      ∙ one-more _ (zeroRight (c .before .before .before .before .args .book .now)) _ _ (c .before .before .loop .inv .1)
       (ap (λ (w : ℕ). eqb w 0) (c .get .ensures .value)),
 )
 

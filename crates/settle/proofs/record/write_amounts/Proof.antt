@@ -2,9 +2,9 @@
 -- Assumes nothing.
 use Prim.Native.Nat.{ℕ, _+_, _*_, _-_, _≤_}
 use native.Mathlib.Omega.{arith}
-use mathlib.Core.Path.{_≡_, refl, sym, ap, _∙_}
+use mathlib.Core.Path.{_≡_, refl, ap, _∙_}
 use mathlib.Core.List.{List, []}
-use lib.ListN.{length, getD, take, length-map}
+use lib.ListN.{length, getD, take}
 use lib.Seq.{sets}
 use Rattle.wire.specs.Number.{bytesOf}
 use Rattle.settle.specs.Record.{amountBytes}
@@ -18,15 +18,13 @@ unfolding amountBytes
 none s = refl
 
 abbrev Inv-loop : tie.InvT-loop
-Inv-loop statement₀ amounts count i₀ statement i = (i ≤ count) × (length amounts ≡ 31) × (length statement ≡ length statement₀) × (statement ≡ sets statement₀ 13 (amountBytes (take i amounts)))
+Inv-loop statement₀ amounts count i₀ statement i = (i ≤ count) × (length statement ≡ length statement₀) × (statement ≡ sets statement₀ 13 (amountBytes (take i amounts)))
 
 abbrev μ-loop : tie.MeasureT-loop
 μ-loop statement₀ amounts count i₀ statement i = count - i
 
 loop-holds : tie.Need-loop-holds Inv-loop μ-loop
-loop-holds c =
-    let amounts = c .before .before .args .charges .amounts in
-    (omega arith, sym (length-map amounts (λ v. v)) ∙ c .before .before .good .1 .0 .1 .1 .0 .1 .0 .1, refl, none (c .before .before .args .statement .now))
+loop-holds c = (omega arith, refl, none (c .before .before .args .statement .now))
 
 mul-write-amount : tie.Need-mul-write-amount Inv-loop μ-loop
 mul-write-amount c = omega arith
@@ -37,8 +35,8 @@ add-write-amount c = omega arith
 mul-write-amount-2 : tie.Need-mul-write-amount-2 Inv-loop μ-loop
 mul-write-amount-2 c = omega arith
 
-array-read-write-amount : tie.Need-array-read-write-amount Inv-loop μ-loop
-array-read-write-amount c = omega arith
+shared-slice-read-write-amount : tie.Need-shared-slice-read-write-amount Inv-loop μ-loop
+shared-slice-read-write-amount c = omega arith
 
 write-amount-requires : tie.Need-write-amount-requires Inv-loop μ-loop
 write-amount-requires c κs =
@@ -52,26 +50,24 @@ loop-less c = omega arith
 
 loop-again : tie.Need-loop-again Inv-loop μ-loop
 loop-again c =
-    let turn = c .before .before .before in
-    let before = turn .before .before .loop .inv in
-    let i = turn .before .before .loop .i in
-    let entered = turn .before .before .before .before .before in
-    let amounts = entered .args .charges .amounts in
+    let before = c .before .before .before .before .before .before .loop .inv in
+    let i = c .before .before .before .before .before .before .loop .i in
+    let entered = c .before .before .before .before .before .before .before .before .before in
+    let amounts = entered .args .amounts .now in
     let start = entered .args .statement .now in (
       omega arith,
-      before .1,
-      c .before .before .write-amount .kept .0 ∙ before .2,
-      c .before .before .write-amount .ensures .1 ∙ ap (λ (l : List ℕ). sets l (13 + 4 * i) (bytesOf 4 (getD amounts i 0))) (before .3) ∙ amount-stored start amounts i (omega arith),
+      c .before .before .write-amount .kept .0 ∙ before .1,
+      c .before .before .write-amount .ensures .1 ∙ ap (λ (l : List ℕ). sets l (13 + 4 * i) (bytesOf 4 (getD amounts i 0))) (before .2) ∙ amount-stored start amounts i (omega arith),
     )
 
 same-length : tie.Need-same-length Inv-loop μ-loop
-same-length c = c .before .loop .inv .2
+same-length c = c .before .loop .inv .1
 
 returns : tie.Need-returns Inv-loop μ-loop
 returns c =
     let last = c .before .loop .inv in
-    let all : c .before .loop .i ≡ c .before .before .before .before .args .charges .count = omega arith in
-    rw (← all) (last .3)
+    let all : c .before .loop .i ≡ c .before .before .before .before .args .count = omega arith in
+    rw (← all) (last .2)
 
 pub write-amounts-spec : {M : Type 1} → statement M
 write-amounts-spec =
@@ -83,7 +79,7 @@ write-amounts-spec =
     mul-write-amount
     add-write-amount
     mul-write-amount-2
-    array-read-write-amount
+    shared-slice-read-write-amount
     write-amount-requires
     add-i
     loop-less

@@ -1,7 +1,5 @@
 -- `settle::record::write_record` meets its contract: the head and the charges behind it are the record.
 -- Assumes nothing.
-use mathlib.Core.Path.{sym, _∙_}
-use lib.ListN.{length-map}
 use borrow.Author.Needs.{needs}
 use Rattle.settle.proofs.Amounts.{record-written}
 use Rattle.settle.proofs.record.write_record.Statement.{statement}
@@ -39,10 +37,8 @@ same-length c = search needs
 
 returns : tie.Need-returns
 returns c =
-    let entered = c .before .before .before .before .before .before .before .before .before .before .before .before .before in
-    let charges = entered .args .charges in
-    record-written (entered .args .statement .now) _ _ (entered .args .opening .0) (entered .args .ride) charges
-    (sym (length-map (charges .amounts) (λ v. v)) ∙ entered .good .1 .1 .1 .0 .1 .1 .0 .1 .0 .1) (entered .pre .few) (entered .pre .room)
+    let entered = c .before .before .before .before .before .before .before .before .before .before .before .before .before .before in
+    record-written (entered .args .statement .now) _ _ (entered .args .opening .0) (entered .args .ride) (entered .args .amounts .now) (entered .args .count) (entered .pre)
     (c .before .before .before .before .before .before .write-head .ensures .1) (c .before .before .write-amounts .ensures)
 
 pub write-record-spec : {M : Type 1} → statement M
