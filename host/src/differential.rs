@@ -6,7 +6,7 @@
 //! damaged cases in between ([`damage`]). What settles on the library's side gets slices beside protected pages
 //! ([`guarded`]), so that a byte touched outside them is seen.
 
-mod books;
+pub(crate) mod books;
 mod cases;
 mod chains;
 mod counts;
@@ -15,13 +15,13 @@ mod fields;
 mod guarded;
 mod kinds;
 mod options;
-mod random;
+pub(crate) mod random;
 mod report;
 mod run;
 mod signals;
 mod sweeps;
 mod tariffs;
-mod trips;
+pub(crate) mod trips;
 
 pub use options::{Options, USAGE};
 pub use run::{number_of, Difference, Settle};

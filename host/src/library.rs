@@ -3,7 +3,7 @@
 use crate::answer::Answer;
 
 extern "C" {
-    fn milecopper_settle(
+    pub(crate) fn milecopper_settle(
         tariff: *const u8,
         tariff_len: usize,
         book: *mut u8,

@@ -1,8 +1,8 @@
 -- Started kilometres: the count up from 0 stops at the least k that reaches far enough, and any k that reaches far enough and is
 -- least is the one where the count stops. So a search may go another way.
 -- Assumes nothing.
-use Prim.Native.Nat.{ℕ, zero, suc, _+_, _*_, _≤_, _<_}
-use native.Mathlib.Nat.{mul-le-mul, le-antisymm, add-zero}
+use Prim.Native.Nat.{ℕ, zero, suc, _+_, _*_, _/_, _≤_, _<_}
+use native.Mathlib.Nat.{mul-le-mul, mul-le-mul-left, mul-le-mul-right, mul-add, add-mul, mul-comm, mul-suc, suc-mul, le-antisymm, add-zero}
 use native.Mathlib.Omega.{arith}
 use native.Mathlib.Decide.{decLt}
 use mathlib.Core.Path.{_≡_, refl}
@@ -23,11 +23,47 @@ beyond d k j short reaches =
 pub record Between (d low high : ℕ) : Type 0 where
   pub reaches : d ≤ square (1000 * high)
   pub least : (j : ℕ) → d ≤ square (1000 * j) → low ≤ j
-  pub range : high ≤ 1415
+  pub range : high ≤ 1501
 
 -- from 0 on, up to any number that reaches
-pub at-first : (d high : ℕ) → d ≤ square (1000 * high) → high ≤ 1415 → Between d 0 high
+at-first : (d high : ℕ) → d ≤ square (1000 * high) → high ≤ 1501 → Between d 0 high
 at-first d high reaches most = record { reaches = reaches; least = λ j _. omega arith; range = most }
+
+-- Of two ways at right angles the longer is not too far by itself, and with half the shorter, and a metre, it is far enough.
+module _ (longer shorter : ℕ) (order : shorter ≤ longer) where
+  not-too-far : (n : ℕ) → square longer + square shorter ≤ square n → longer ≤ n
+  not-too-far n reaches =
+      elim (decLt n longer) [
+        | yes short ↦
+            let more : suc n ≤ longer = omega arith in
+            absurd (omega (arith, mul-le-mul more more, suc-mul n (suc n), mul-suc n n))
+        | no long ↦ omega arith
+      ]
+
+  far-enough : (n : ℕ) → longer + (shorter / 2 + 1) ≤ n → square longer + square shorter ≤ square n
+  far-enough n long =
+      let half = shorter / 2 + 1 in
+      let twice : shorter ≤ half + half = omega arith in
+      omega (
+        arith,
+        mul-le-mul long long,
+        add-mul longer half (longer + half),
+        mul-add longer longer half,
+        mul-add half longer half,
+        mul-comm half longer,
+        mul-add longer half half,
+        mul-le-mul-left longer twice,
+        mul-le-mul-right shorter order,
+      )
+
+  -- so the search may start at these two
+  pub near : longer ≤ 1000000 → Between (square longer + square shorter) ((longer + 999) / 1000) ((longer + shorter / 2) / 1000 + 1)
+  near most =
+      record {
+        reaches = far-enough (1000 * ((longer + shorter / 2) / 1000 + 1)) (omega arith);
+        least = λ j reaches. omega (arith, not-too-far (1000 * j) reaches);
+        range = omega arith;
+      }
 
 module _ {d low high : ℕ} (s : Between d low high) where
   -- a number between that reaches is the upper one from then on
@@ -67,7 +103,7 @@ module _ (d : ℕ) (h : d ≤ square (1000 * 1415)) where
   km-least = km-between .least
 
   pub km-range : kmOf d ≤ 1415
-  km-range = km-between .range
+  km-range = km-least 1415 h
 
   -- Any k that is enough where no fewer are is the count's.
   pub km-unique : (k : ℕ) → d ≤ square (1000 * k) → ((j : ℕ) → d ≤ square (1000 * j) → k ≤ j) → k ≡ kmOf d
@@ -77,7 +113,7 @@ module _ (d : ℕ) (h : d ≤ square (1000 * 1415)) where
 pub met : (d low high : ℕ) → d ≤ square (1000 * 1415) → Between d low high → high ≤ low → LeastKm d high
 met d low high h s together =
     let least : (j : ℕ) → d ≤ square (1000 * j) → high ≤ j = λ j reaches. omega (arith, s .least j reaches) in
-    record { value = km-unique d h high (s .reaches) least; holds = s .reaches; least = least; range = s .range }
+    record { value = km-unique d h high (s .reaches) least; holds = s .reaches; least = least; range = least 1415 h }
 
 -- What lies between any two stops of the plane is less than what 1,415 kilometres reach.
 pub across : (m n : ℕ) → m ≤ 1000000 → n ≤ 1000000 → square m + square n ≤ 2000000000000

@@ -10,8 +10,8 @@ use units::Km;
 use units::Metres;
 use units::Minutes;
 ghost use mathlib.Core.Path.{_≡_};
-ghost use Prim.Native.Nat.{_≤_, _<_};
-ghost use Rattle.fare.specs.Distance.{gap, apart, LeastKm};
+ghost use Prim.Native.Nat.{_+_, _≤_, _<_};
+ghost use Rattle.fare.specs.Distance.{square, gap, apart, LeastKm};
 ghost use Rattle.fare.specs.Rides.{Riding, InOrder, StopOf, AreaOfStops, RideOf};
 
 fn gap_between(a: Metres, b: Metres) -> u64
@@ -24,13 +24,15 @@ fn gap_between(a: Metres, b: Metres) -> u64
     }
 }
 
-// The least k with d ≤ (1,000 k)², by halving what is left between too short and far enough.
-fn least_km(d: u64) -> u32
-    requires { ⌜ d ≤ 2000000000000 ⌝ }
-    ensures { λ r. ⌜ LeastKm d r ⌝ }
+// The least k with longer² + shorter² ≤ (1,000 k)². The search starts near: k is not below the longer way alone, and the longer way with
+// half the shorter is far enough. What is left between too short and far enough is halved until they meet.
+fn least_km(longer: u64, shorter: u64) -> u32
+    requires { ⌜ (shorter ≤ longer) × (longer ≤ 1000000) ⌝ }
+    ensures { λ r. ⌜ LeastKm (square longer + square shorter) r ⌝ }
 {
-    let mut low: u64 = 0;
-    let mut high: u64 = 1_415;
+    let d = longer * longer + shorter * shorter;
+    let mut low = (longer + 999) / 1_000;
+    let mut high = (longer + shorter / 2) / 1_000 + 1;
     while low < high {
         let middle = (low + high) / 2;
         let reach = 1_000 * middle;
@@ -50,7 +52,11 @@ pub fn kilometres(a: Stop, b: Stop) -> Km
 {
     let east = gap_between(a.x, b.x);
     let north = gap_between(a.y, b.y);
-    Km(least_km(east * east + north * north))
+    if east < north {
+        Km(least_km(north, east))
+    } else {
+        Km(least_km(east, north))
+    }
 }
 
 // A stop of the trip, counted from 0, in the tariff.

@@ -1,9 +1,8 @@
--- Two numbers of at most 1,000,000 differ by no more, so the sum of the squares fits, and is at most what 1,415 kilometres reach.
+-- The longer of the two gaps is handed over first; the sum of their squares is the same either way.
 -- Assumes nothing.
-use native.Mathlib.Omega.{arith}
+use native.Mathlib.Nat.{add-comm}
 use borrow.Author.Needs.{needs}
-use Rattle.fare.specs.Distance.{apart}
-use Rattle.fare.proofs.Distance.{across}
+use Rattle.fare.specs.Distance.{square, apart}
 use Rattle.fare.proofs.rides.kilometres.Statement.{statement}
 use Rattle.fare.proofs.rides.kilometres.Tie as tie
 
@@ -14,20 +13,22 @@ gap-between-requires-2 : tie.Need-gap-between-requires-2
 gap-between-requires-2 c κs = search needs
 
 least-km-requires : tie.Need-least-km-requires
-least-km-requires c κs = across _ _ (omega arith) (omega arith)
+least-km-requires c κs = search needs
 
-mul-least-km : tie.Need-mul-least-km
-mul-least-km c = omega (arith, least-km-requires c _)
-
-mul-least-km-2 : tie.Need-mul-least-km-2
-mul-least-km-2 c = omega (arith, least-km-requires c _)
-
-add-least-km : tie.Need-add-least-km
-add-least-km c = omega (arith, least-km-requires c _)
+least-km-requires-2 : tie.Need-least-km-requires-2
+least-km-requires-2 c κs = search needs
 
 returns : tie.Need-returns
 unfolding apart
-returns c = rw (← c .before .before .gap-between .ensures, ← c .before .gap-between2 .ensures) (c .least-km .ensures)
+returns c =
+    let s = c .before .before in
+    rw
+    (← s .before .gap-between .ensures, ← s .gap-between2 .ensures, add-comm (square (s .before .gap-between .result)) (square (s .gap-between2 .result)))
+    (c .least-km .ensures)
+
+returns-2 : tie.Need-returns-2
+unfolding apart
+returns-2 c = rw (← c .before .before .before .gap-between .ensures, ← c .before .before .gap-between2 .ensures) (c .least-km2 .ensures)
 
 pub kilometres-spec : {M : Type 1} → statement M
 kilometres-spec =
@@ -35,8 +36,7 @@ kilometres-spec =
     (tie.spec
     gap-between-requires
     gap-between-requires-2
-    mul-least-km
-    mul-least-km-2
-    add-least-km
     least-km-requires
-    returns)
+    least-km-requires-2
+    returns
+    returns-2)

@@ -1,0 +1,207 @@
+//! The calls that are measured.
+
+use super::inputs::{grown, largest, sample, Network, Reach, SEED};
+use crate::differential::books::{fresh, set_word, BICYCLES, TRIPS};
+use crate::differential::random::Random;
+use crate::differential::trips::Plan;
+use crate::model;
+
+/// In which table a case stands.
+#[derive(Clone, Copy, Debug, PartialEq, Eq)]
+pub enum Group {
+    /// A trip that is accepted.
+    Settled,
+    /// Tariff, book and trip are read through, and nothing is written.
+    Checked,
+    /// A refusal, of which only the instructions are counted.
+    Refused,
+    /// How the cost grows with areas, stops and the party.
+    Areas,
+    Stops,
+    Party,
+}
+
+/// One call: what is given to each side, and what it is for.
+#[derive(Clone)]
+pub struct Case {
+    pub group: Group,
+    pub name: String,
+    /// So many areas, stops or persons, where the cost grows with them.
+    pub size: usize,
+    pub tariff: Vec<u8>,
+    pub book: Vec<u8>,
+    pub trip: Vec<u8>,
+    /// Bytes of the statement.
+    pub room: usize,
+    /// The number of the refusal that is due; 0 where the trip is to be accepted.
+    pub refusal: u64,
+}
+
+/// The largest charge record.
+pub const LARGEST_RECORD: usize = 137;
+
+/// The opening of the used books' window: 2026-05-04 07:00.
+const OPENING: u64 = 13_853_220;
+/// In that window, and after it.
+const LATER: u64 = OPENING + 600;
+const NEXT_WINDOW: u64 = OPENING + 2_000;
+
+const ALONE: [u64; 3] = [0, 0, 0];
+/// 31 with the account holder.
+const FULL: [u64; 3] = [10, 10, 10];
+
+/// All cases, always in the same order.
+pub fn all() -> Vec<Case> {
+    let networks = [largest(), sample()];
+    let mut cases: Vec<Case> = networks.iter().flat_map(settled).collect();
+    cases.extend(networks.iter().flat_map(checked));
+    cases.extend(refused(&networks[0]));
+    cases.extend([1, 8, 16, 32].map(|areas| Case { size: areas, ..growing(Group::Areas, grown(areas, 2)) }));
+    cases.extend([2, 250, 500, 1_000].map(|stops| Case { size: stops, ..growing(Group::Stops, grown(32, stops)) }));
+    cases.extend(parties(&networks[0]));
+    cases
+}
+
+/// A trip of 25 minutes.
+fn plan(network: &Network, reach: Reach, check_in: u64, party: [u64; 3]) -> Plan {
+    let stops = (network.stops)(&mut Random::of(SEED, 3_000), reach, 2);
+    Plan { check_in, check_out: check_in + 25, class: 2, level: 3, party, stops }
+}
+
+/// A book after four trips of a party of 31 in the open window.
+fn used(network: &Network) -> Vec<u8> {
+    let mut book = fresh();
+    for (number, reach) in (0..).zip([Reach::City, Reach::Region, Reach::State, Reach::City]) {
+        let trip = Plan { class: 1 + number % 2, ..plan(network, reach, OPENING + 60 * number, FULL) };
+        let answer = model::settle(&network.tariff, &mut book, &trip.bytes(), &mut [0; LARGEST_RECORD]);
+        answer.expect("an earlier trip is accepted");
+    }
+    book
+}
+
+fn case(group: Group, name: String, network: &Network, book: &[u8], plan: &Plan) -> Case {
+    let (tariff, book, trip) = (network.tariff.clone(), book.to_vec(), plan.bytes());
+    Case { group, name, size: 0, tariff, book, trip, room: LARGEST_RECORD, refusal: 0 }
+}
+
+fn settled(network: &Network) -> Vec<Case> {
+    let ways = [
+        ("fresh book", "in a city", fresh(), LATER, Reach::City),
+        ("used book", "in a city", used(network), LATER, Reach::City),
+        ("used book", "across regions", used(network), LATER, Reach::State),
+        ("next window", "in a city", used(network), NEXT_WINDOW, Reach::City),
+    ];
+    let mut cases = Vec::new();
+    for (state, where_to, book, check_in, reach) in ways {
+        for party in [ALONE, FULL] {
+            let riders = 1 + party.iter().sum::<u64>();
+            let name = format!("{}, {state}, {where_to}, party of {riders}", network.name);
+            cases.push(case(Group::Settled, name, network, &book, &plan(network, reach, check_in, party)));
+        }
+    }
+    cases
+}
+
+fn checked(network: &Network) -> Vec<Case> {
+    let mut cases = Vec::new();
+    for (state, book) in [("fresh book", fresh()), ("used book", used(network))] {
+        for (refusal, spoil) in [(5, trip_too_long as Spoil), (12, no_room)] {
+            let name = format!("{}, {state}, refused by {refusal}", network.name);
+            let mut case = case(Group::Checked, name, network, &book, &plan(network, Reach::City, LATER, FULL));
+            spoil(&mut case);
+            cases.push(Case { refusal, ..case });
+        }
+    }
+    cases
+}
+
+/// A change that makes a good case one of a refusal.
+type Spoil = fn(&mut Case);
+
+/// Each refusal, with its fault as late in the bytes as it can stand.
+fn refused(network: &Network) -> Vec<Case> {
+    let spoils: [(&str, Spoil); 12] = [
+        ("the last record cut", |case| case.tariff.truncate(case.tariff.len() - 1)),
+        ("the last record of another kind", |case| set_from_end(&mut case.tariff, 11, 9)),
+        ("the last stop in no area", |case| set_from_end(&mut case.tariff, 9, 32)),
+        ("the last bicycle in no area", |case| set_word(&mut case.book, BICYCLES + 9, 33)),
+        ("a byte behind the record", trip_too_long),
+        ("11 bicycles", |case| case.trip[20] = 11),
+        ("the last stop unknown", |case| set_from_end(&mut case.trip, 1, 255)),
+        ("check-out at minute 60", |case| case.trip[15] = 60),
+        ("check-out before check-in", |case| case.trip[14] -= 1),
+        ("check-in before the last check-out", |case| case.trip[8] = 8),
+        ("a window of 256 trips", |case| set_word(&mut case.book, TRIPS, 256)),
+        ("a statement too short", no_room),
+    ];
+    let book = used(network);
+    let good = plan(network, Reach::City, LATER, FULL);
+    let mut cases = Vec::new();
+    for (refusal, (fault, spoil)) in (1..).zip(spoils) {
+        let mut case = case(Group::Refused, format!("{refusal}: {fault}"), network, &book, &good);
+        spoil(&mut case);
+        cases.push(Case { refusal, ..case });
+    }
+    cases
+}
+
+/// Sets the byte that stands so many bytes before the end.
+fn set_from_end(bytes: &mut [u8], before_end: usize, value: u8) {
+    let place = bytes.len() - before_end;
+    bytes[place] = value;
+}
+
+fn trip_too_long(case: &mut Case) {
+    case.trip.push(0);
+}
+
+fn no_room(case: &mut Case) {
+    case.room = LARGEST_RECORD - 1;
+}
+
+/// The same trip of one person on a fresh book, from stop 0 to stop 1.
+fn growing(group: Group, tariff: Vec<u8>) -> Case {
+    let network = Network { name: "grown", tariff, stops: |_, _, _| vec![0, 1] };
+    case(group, String::new(), &network, &fresh(), &plan(&network, Reach::State, LATER, ALONE))
+}
+
+/// The account holder, then ten adults, ten children and ten bicycles more.
+fn parties(network: &Network) -> [Case; 4] {
+    let book = used(network);
+    [[0, 0, 0], [10, 0, 0], [10, 10, 0], [10, 10, 10]].map(|party| {
+        let plan = plan(network, Reach::City, LATER, party);
+        let size = 1 + party.iter().sum::<u64>() as usize;
+        Case { size, ..case(Group::Party, String::new(), network, &book, &plan) }
+    })
+}
+
+#[cfg(test)]
+mod tests {
+    use super::*;
+    use crate::model::charge::ChargeRecord;
+
+    #[test]
+    fn each_is_answered_as_it_is_meant() {
+        for Case { group, name, size, tariff, mut book, trip, room, refusal } in all() {
+            let mut statement = vec![0; room];
+            match model::settle(&tariff, &mut book, &trip, &mut statement) {
+                Ok(written) => {
+                    let record = ChargeRecord::read(&statement[..written]).expect("a charge record");
+                    assert_eq!(refusal, 0, "{name}");
+                    assert!(record.km > 0, "{group:?} {name} {size} goes nowhere");
+                }
+                Err(found) => assert_eq!(u64::from(found.number), refusal, "{name}"),
+            }
+        }
+    }
+
+    #[test]
+    fn a_used_book_has_sums_of_all() {
+        for network in [largest(), sample()] {
+            let book = model::book::Book::read(&used(&network)).expect("a book");
+            assert_eq!(book.trips(), 4);
+            assert!((0..21).all(|rider| book.all_classes_sum(rider, 0) > 0));
+            assert!((0..10).all(|bicycle| book.covering_area(bicycle) == Some(0)));
+        }
+    }
+}

@@ -1,0 +1,125 @@
+//! Instructions, counted by valgrind's callgrind.
+//!
+//! One run of this very program under callgrind counts all calls: it tells callgrind before each call to count, and
+//! after it to write the count into a file of its own. A call of a side that does nothing tells what counting costs.
+
+use super::cases::Case;
+use super::machine::{tell_callgrind, Word};
+use super::room::Room;
+use super::sides::{nothing, PerSide, SIDES};
+use crate::differential::Settle;
+use std::ffi::OsStr;
+use std::fs::{self, File};
+use std::hint::black_box;
+use std::io::ErrorKind;
+use std::path::Path;
+use std::process::{Command, Stdio};
+
+/// The argument of the run under callgrind.
+pub const SWITCH: &str = "--calls-to-count";
+
+/// Callgrind counts an instruction that repeats itself once for each byte. These settings keep the C library from using
+/// any to copy and fill memory, so that a copied book counts as what a loop of the processor's widest moves counts.
+const SETTINGS: &str = "glibc.cpu.x86_rep_movsb_threshold=1000000000:glibc.cpu.x86_rep_stosb_threshold=1000000000";
+
+/// Makes the calls to be counted: for each case one of each side, and one of the side that does nothing.
+pub fn make_calls(cases: &[Case]) {
+    for case in cases {
+        for settle in SIDES.iter().map(|side| side.settle).chain([nothing as Settle]) {
+            let mut statement = vec![0; case.room];
+            // Once before, so that what a first call costs is not counted.
+            black_box(settle)(&case.tariff, &mut case.book.clone(), &case.trip, &mut statement);
+            let mut book = case.book.clone();
+            counted_call(black_box(settle), &case.tariff, &mut book, &case.trip, &mut statement);
+        }
+    }
+}
+
+/// The one call that is counted.
+#[inline(never)]
+fn counted_call(settle: Settle, tariff: &[u8], book: &mut [u8], trip: &[u8], statement: &mut [u8]) {
+    tell_callgrind(Word::Toggle);
+    black_box(settle(tariff, book, trip, statement));
+    tell_callgrind(Word::Toggle);
+    tell_callgrind(Word::Dump);
+}
+
+/// The instructions of each case on each side.
+pub fn count(cases: &[Case]) -> Result<Vec<PerSide<u64>>, String> {
+    let room = Room::new()?;
+    let program = std::env::current_exe().map_err(|error| format!("this program cannot be found: {error}"))?;
+    let out = room.path().join("counts");
+    let mut callgrind = callgrind(&out);
+    callgrind.arg("--collect-atstart=no").arg(program).arg(SWITCH).stdout(Stdio::null());
+    run(&mut callgrind)?;
+    let counts = (1..=4 * cases.len()).map(|call| total_in(&out.with_extension(call.to_string())));
+    let counts = counts.collect::<Result<Vec<u64>, String>>()?;
+    counts.chunks(4).map(own_counts).collect()
+}
+
+/// The counts of the three sides less that of the one which does nothing.
+fn own_counts(of_case: &[u64]) -> Result<PerSide<u64>, String> {
+    let &[library, tuned, plain, nothing] = of_case else {
+        return Err("callgrind wrote too few counts".to_string());
+    };
+    let own = [library, tuned, plain].map(|count| count.checked_sub(nothing));
+    match own {
+        [Some(library), Some(tuned), Some(plain)] if nothing < 200 => Ok([library, tuned, plain]),
+        _ => Err(format!("callgrind's counts are not those of single calls: {of_case:?}")),
+    }
+}
+
+/// The instructions of a whole run of a program that reads this roll and the tariff in this folder.
+pub fn count_program(program: &Path, folder: &Path, roll: &Path, room: &Room) -> Result<u64, String> {
+    let out = room.path().join("count");
+    let roll = File::open(roll).map_err(|error| format!("{}: {error}", roll.display()))?;
+    let mut callgrind = callgrind(&out);
+    callgrind.arg(program).current_dir(folder).stdin(roll).stdout(Stdio::null());
+    run(&mut callgrind)?;
+    total_in(&out)
+}
+
+fn callgrind(out: &Path) -> Command {
+    let mut command = Command::new("valgrind");
+    let mut file = OsStr::new("--callgrind-out-file=").to_os_string();
+    file.push(out);
+    command.arg("--tool=callgrind").arg(file).env("GLIBC_TUNABLES", SETTINGS);
+    command
+}
+
+fn run(callgrind: &mut Command) -> Result<(), String> {
+    let told = callgrind.stderr(Stdio::piped()).output().map_err(|error| match error.kind() {
+        ErrorKind::NotFound => "there is no valgrind here".to_string(),
+        _ => format!("valgrind: {error}"),
+    })?;
+    if told.status.success() {
+        Ok(())
+    } else {
+        Err(format!("valgrind ended with {}\n{}", told.status, String::from_utf8_lossy(&told.stderr)))
+    }
+}
+
+/// The count that callgrind wrote into this file.
+fn total_in(file: &Path) -> Result<u64, String> {
+    let text = fs::read_to_string(file).map_err(|error| format!("callgrind's count {}: {error}", file.display()))?;
+    total_of(&text).ok_or(format!("callgrind's count {} has no total", file.display()))
+}
+
+fn total_of(text: &str) -> Option<u64> {
+    text.lines().find_map(|line| line.strip_prefix("totals: "))?.trim().parse().ok()
+}
+
+#[cfg(test)]
+mod tests {
+    use super::*;
+
+    #[test]
+    fn totals_and_counts() {
+        assert_eq!(total_of("events: Ir\nfn=(1) a\n0 7\n\ntotals: 1234\n"), Some(1_234));
+        assert_eq!(total_of("events: Ir\n"), None);
+        assert_eq!(own_counts(&[110, 120, 130, 10]), Ok([100, 110, 120]));
+        assert!(own_counts(&[110, 120, 5, 10]).is_err());
+        assert!(own_counts(&[1_100, 1_200, 1_300, 1_000]).is_err());
+        assert!(own_counts(&[110, 120]).is_err());
+    }
+}

@@ -1,0 +1,36 @@
+//! The size of the archive and of the programs.
+
+use super::programs::{host, Programs};
+use super::tables::{with_commas, Table};
+use std::path::{Path, PathBuf};
+use std::process::Command;
+use std::{env, fs};
+
+pub fn report() -> Result<(), String> {
+    let programs = Programs::find()?;
+    let [settle_roll, tuned_roll] = &programs.paths;
+    println!("\n## Sizes in bytes\n");
+    let mut table = Table::of(&["file", "all", "code and constants"]);
+    for (name, file) in
+        [("libsettle.a", &archive()), ("settle_roll, the program", settle_roll), ("tuned_roll", tuned_roll)]
+    {
+        let all = fs::metadata(file).map_err(|error| format!("{}: {error}", file.display()))?.len();
+        table.row([name.to_string(), with_commas(all), text_of(file).map_or("–".to_string(), with_commas)]);
+    }
+    print!("{table}");
+    Ok(())
+}
+
+/// MILECOPPER_LIB_DIR is its directory, seen from the host's; ../target/staticlib unless set.
+fn archive() -> PathBuf {
+    let directory = env::var("MILECOPPER_LIB_DIR").unwrap_or("../target/staticlib".to_string());
+    host().join(directory).join("libsettle.a")
+}
+
+/// What the tool `size` calls text, of all members; nothing where there is no such tool.
+fn text_of(file: &Path) -> Option<u64> {
+    let told = Command::new("size").arg(file).output().ok()?;
+    let text = String::from_utf8(told.stdout).ok()?;
+    let sizes = text.lines().skip(1).map(|line| line.split_whitespace().next()?.parse::<u64>().ok());
+    sizes.sum::<Option<u64>>().filter(|_| told.status.success())
+}

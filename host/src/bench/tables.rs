@@ -1,0 +1,163 @@
+//! Tables in Markdown, and what is met and what is missed.
+
+use std::fmt;
+
+pub struct Table {
+    rows: Vec<Vec<String>>,
+}
+
+impl Table {
+    pub fn of(head: &[&str]) -> Table {
+        Table { rows: vec![head.iter().map(|cell| cell.to_string()).collect()] }
+    }
+
+    pub fn row(&mut self, cells: impl IntoIterator<Item = String>) {
+        self.rows.push(cells.into_iter().collect());
+    }
+
+    /// Changes a cell; rows are counted from 0 below the head.
+    pub fn set(&mut self, row: usize, column: usize, cell: String) {
+        self.rows[1 + row][column] = cell;
+    }
+}
+
+impl fmt::Display for Table {
+    /// The first column to the left, the others to the right.
+    fn fmt(&self, out: &mut fmt::Formatter) -> fmt::Result {
+        for (number, row) in self.rows.iter().enumerate() {
+            writeln!(out, "| {} |", row.join(" | "))?;
+            if number == 0 {
+                writeln!(out, "|---|{}", "---:|".repeat(row.len() - 1))?;
+            }
+        }
+        Ok(())
+    }
+}
+
+/// What was judged so far.
+#[derive(Default)]
+pub struct Verdicts {
+    met: usize,
+    missed: Vec<String>,
+    left_out: Vec<&'static str>,
+}
+
+impl Verdicts {
+    /// The word for the table about a ratio, which is judged as it is printed.
+    pub fn judge_ratio(&mut self, what: &str, found: f64, aim: f64) -> &'static str {
+        let thousandths = |value: f64| (1_000.0 * value).round();
+        self.judge(&format!("{what}: {}, not {aim:.1}", ratio(found)), thousandths(found) <= thousandths(aim))
+    }
+
+    /// The word for the table.
+    pub fn judge(&mut self, what: &str, met: bool) -> &'static str {
+        if met {
+            self.met += 1;
+            "met"
+        } else {
+            self.missed.push(what.to_string());
+            "**missed**"
+        }
+    }
+
+    /// What was not measured, and so not judged.
+    pub fn leave_out(&mut self, what: &'static str) {
+        self.left_out.push(what);
+    }
+}
+
+impl fmt::Display for Verdicts {
+    fn fmt(&self, out: &mut fmt::Formatter) -> fmt::Result {
+        writeln!(out, "{} of {} aims are met.", self.met, self.met + self.missed.len())?;
+        for what in &self.missed {
+            writeln!(out, "- missed: {what}")?;
+        }
+        for what in &self.left_out {
+            writeln!(out, "- NOT measured: {what}")?;
+        }
+        Ok(())
+    }
+}
+
+/// 1234567 as 1,234,567.
+pub fn with_commas(number: u64) -> String {
+    let digits = number.to_string();
+    let mut text = String::new();
+    for (place, digit) in digits.chars().enumerate() {
+        if place > 0 && (digits.len() - place).is_multiple_of(3) {
+            text.push(',');
+        }
+        text.push(digit);
+    }
+    text
+}
+
+/// A whole number with commas.
+pub fn whole(value: f64) -> String {
+    with_commas(value.round() as u64)
+}
+
+/// A number with so many decimals, and commas.
+pub fn decimal(value: f64, decimals: usize) -> String {
+    let text = format!("{:.decimals$}", value.abs());
+    let (before, after) = text.split_once('.').unwrap_or((&text, ""));
+    let point = if after.is_empty() { "" } else { "." };
+    let sign = if value < 0.0 { "-" } else { "" };
+    format!("{sign}{}{point}{after}", with_commas(before.parse().unwrap_or(0)))
+}
+
+/// With three decimals.
+pub fn ratio(value: f64) -> String {
+    decimal(value, 3)
+}
+
+/// How much a value grows with each item, by least squares.
+pub fn slope(points: &[(f64, f64)]) -> f64 {
+    let many = points.len() as f64;
+    let x = points.iter().map(|point| point.0).sum::<f64>() / many;
+    let y = points.iter().map(|point| point.1).sum::<f64>() / many;
+    let over: f64 = points.iter().map(|point| (point.0 - x) * (point.1 - y)).sum();
+    let under: f64 = points.iter().map(|point| (point.0 - x) * (point.0 - x)).sum();
+    over / under
+}
+
+#[cfg(test)]
+mod tests {
+    use super::*;
+
+    #[test]
+    fn numbers_as_they_are_printed() {
+        assert_eq!(with_commas(0), "0");
+        assert_eq!(with_commas(999), "999");
+        assert_eq!(with_commas(65_535), "65,535");
+        assert_eq!(with_commas(1_234_567), "1,234,567");
+        assert_eq!(whole(1_999.5), "2,000");
+        assert_eq!(ratio(0.70049), "0.700");
+        assert_eq!(decimal(1_234.56, 1), "1,234.6");
+        assert_eq!(decimal(-0.25, 2), "-0.25");
+    }
+
+    #[test]
+    fn slopes() {
+        assert_eq!(slope(&[(1.0, 5.0), (2.0, 7.0), (4.0, 11.0)]), 2.0);
+        assert_eq!(slope(&[(2.0, 3.0), (4.0, 3.0)]), 0.0);
+    }
+
+    #[test]
+    fn ratios_are_judged_as_they_are_printed() {
+        let mut verdicts = Verdicts::default();
+        assert_eq!(verdicts.judge_ratio("one", 1.000_4, 1.0), "met");
+        assert_eq!(verdicts.judge_ratio("two", 0.700_6, 0.7), "**missed**");
+        verdicts.leave_out("three");
+        let text = "1 of 2 aims are met.\n- missed: two: 0.701, not 0.7\n- NOT measured: three\n";
+        assert_eq!(verdicts.to_string(), text);
+    }
+
+    #[test]
+    fn tables() {
+        let mut table = Table::of(&["case", "ns"]);
+        table.row(["one".to_string(), "7".to_string()]);
+        table.set(0, 1, "8".to_string());
+        assert_eq!(table.to_string(), "| case | ns |\n|---|---:|\n| one | 8 |\n");
+    }
+}

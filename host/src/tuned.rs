@@ -1,0 +1,99 @@
+//! Settling tuned for speed, without `unsafe`: what the proved library is measured against.
+//!
+//! - [`numbers`]: little-endian numbers, and the ranges of several at once;
+//! - [`tariff`]: the tariff as it lies in its bytes, its areas, its first fault; [`stops`]: many stops at once;
+//! - [`book`]: the book as it lies in its bytes, when it is sound, its window;
+//! - [`calendar`]: stamps and minute numbers; [`trip`]: the trip record;
+//! - [`fare`]: kilometres and the price; [`charge`]: caps, charges, bicycles; [`record`]: the charge record;
+//! - [`roll`]: the program; [`lines`]: what it prints; [`line`]: a line and its numbers.
+//!
+//! Nothing is copied: tariff and book are views of the bytes that were lent. Whether all is well is asked of many
+//! fields at once, in as few steps as can be; what is not well is found out only then. Most trips are not refused, most
+//! account holders travel alone, most of a book is 0: that comes first, and all else stands out of its way.
+#![forbid(unsafe_code)]
+
+mod book;
+mod calendar;
+mod charge;
+mod fare;
+mod line;
+mod lines;
+mod numbers;
+mod record;
+mod roll;
+mod stops;
+mod tariff;
+#[cfg(test)]
+mod tests;
+mod trip;
+
+pub use roll::settle_roll;
+
+use book::Book;
+use charge::charge_party;
+use fare::Ride;
+use record::{head_of, record_bytes};
+use tariff::Tariff;
+use trip::Trip;
+
+/// Whole cents.
+type Cents = u32;
+/// Started kilometres.
+type Km = u32;
+/// Minutes, also counted from 2000-01-01 00:00.
+type Minutes = u32;
+
+/// A refusal as the answer has it: its number in the upper half, its place in the lower one.
+#[derive(Clone, Copy)]
+struct Refusal(u64);
+
+impl Refusal {
+    /// Without a place.
+    #[cold]
+    #[inline(never)]
+    fn new(number: u32) -> Refusal {
+        Refusal::at(number, 0)
+    }
+
+    fn at(number: u32, place: usize) -> Refusal {
+        Refusal(u64::from(number) << 32 | place as u64)
+    }
+
+    fn number(self) -> u32 {
+        (self.0 >> 32) as u32
+    }
+
+    fn place(self) -> u32 {
+        self.0 as u32
+    }
+}
+
+/// Settles one trip; the answer is the library's number.
+pub fn settle(tariff: &[u8], book: &mut [u8], trip: &[u8], statement: &mut [u8]) -> u64 {
+    match try_to_settle(tariff, book, trip, statement) {
+        Ok(written) => written as u64,
+        Err(refusal) => refusal.0,
+    }
+}
+
+fn try_to_settle(tariff: &[u8], book: &mut [u8], trip: &[u8], statement: &mut [u8]) -> Result<usize, Refusal> {
+    let tariff = Tariff::read(tariff)?;
+    let mut book = Book::read(book, tariff.areas.len())?;
+    settle_next(&tariff, &mut book, trip, statement)
+}
+
+/// Settles under a tariff without fault, on a book that is sound.
+#[inline(never)]
+fn settle_next(tariff: &Tariff, book: &mut Book, trip: &[u8], statement: &mut [u8]) -> Result<usize, Refusal> {
+    let trip = Trip::read(trip, tariff)?;
+    let window = book.window_for(&trip)?;
+    let written = record_bytes(&trip);
+    let Some((head, slots)) = statement.get_mut(..written).and_then(|record| record.split_first_chunk_mut()) else {
+        return Err(Refusal::new(12));
+    };
+    let ride = Ride::of(tariff, &trip);
+    book.enter(&window, trip.check_out);
+    *head = head_of(written, window.opening, &ride);
+    charge_party(tariff, &trip, &ride, book, slots.as_chunks_mut().0);
+    Ok(written)
+}

@@ -1,0 +1,128 @@
+//! The program: it settles a roll of trips one after another on one book, and prints a line for each.
+
+use super::book::{Book, BOOK};
+use super::charge::{charge_party, Slot};
+use super::fare::Ride;
+use super::lines::{Charged, Lines, Tally};
+use super::numbers::two;
+use super::tariff::Tariff;
+use super::trip::Trip;
+use super::Refusal;
+use std::io::{self, ErrorKind, Read, Write};
+
+const MOST_RECORDS: u32 = 65_535;
+/// The longest record has 1,026 bytes.
+const BUFFER: usize = 8_192;
+/// The account holder, ten adults, ten children and ten bicycles.
+const LARGEST_PARTY: usize = 31;
+
+/// Settles the roll under the tariff and prints what the program prints; of a roll that cannot be read to its end the
+/// lines so far, and no tail.
+pub fn settle_roll(tariff: &[u8], roll: impl Read, out: impl Write) -> io::Result<()> {
+    let mut lines = Lines::to(out);
+    let read = match Tariff::read(tariff) {
+        Err(fault) => lines.put_fault(fault),
+        Ok(tariff) => settle_records(&tariff, roll, &mut lines),
+    };
+    lines.write().and(read)
+}
+
+/// Header, lines and tail.
+fn settle_records(tariff: &Tariff, mut roll: impl Read, lines: &mut Lines<impl Write>) -> io::Result<()> {
+    lines.put_header()?;
+    let mut book = [0; BOOK];
+    let mut run = Run { tariff, book: Book::fresh(&mut book), slots: [[0; 4]; LARGEST_PARTY], tally: Tally::default() };
+    let mut buffer = [0; BUFFER];
+    let mut kept = 0;
+    loop {
+        let got = read(&mut roll, &mut buffer[kept..])?;
+        let bytes = &buffer[..kept + got];
+        let Some(rest) = run.settle_whole(bytes, lines)? else {
+            break;
+        };
+        if got == 0 {
+            run.settle_end(rest, lines)?;
+            break;
+        }
+        let settled = bytes.len() - rest.len();
+        kept = rest.len();
+        buffer.copy_within(settled..settled + kept, 0);
+    }
+    lines.put_tail(&run.tally)
+}
+
+fn read(roll: &mut impl Read, buffer: &mut [u8]) -> io::Result<usize> {
+    loop {
+        match roll.read(buffer) {
+            Err(error) if error.kind() == ErrorKind::Interrupted => (),
+            answer => return answer,
+        }
+    }
+}
+
+struct Run<'a> {
+    tariff: &'a Tariff<'a>,
+    /// Sound from its start on, since settling leaves it sound.
+    book: Book<'a>,
+    slots: [Slot; LARGEST_PARTY],
+    tally: Tally,
+}
+
+impl Run<'_> {
+    /// Settles all records that are whole. The answer is the bytes behind them, or nothing where the run is over.
+    fn settle_whole<'b>(&mut self, bytes: &'b [u8], lines: &mut Lines<impl Write>) -> io::Result<Option<&'b [u8]>> {
+        let mut rest = bytes;
+        while let Some(head) = rest.first_chunk::<4>() {
+            let length = two(head, 0) as usize;
+            if !(2..=1_024).contains(&length) {
+                self.refuse(5, lines)?;
+                return Ok(None);
+            }
+            let Some((record, further)) = rest.split_at_checked(2 + length) else {
+                break;
+            };
+            match self.settle(record) {
+                Ok(charged) => self.accept(&charged, lines)?,
+                Err(refusal) => self.refuse(refusal.number(), lines)?,
+            }
+            if self.tally.accepted + self.tally.refused == MOST_RECORDS {
+                return Ok(None);
+            }
+            rest = further;
+        }
+        Ok(Some(rest))
+    }
+
+    /// What is left where the roll ends is a broken frame.
+    fn settle_end(&mut self, rest: &[u8], lines: &mut Lines<impl Write>) -> io::Result<()> {
+        if rest.is_empty() {
+            Ok(())
+        } else {
+            self.refuse(5, lines)
+        }
+    }
+
+    /// Settles as `settle` does, but writes no record.
+    #[inline(always)]
+    fn settle(&mut self, trip: &[u8]) -> Result<Charged, Refusal> {
+        let Run { tariff, book, slots, .. } = self;
+        let trip = Trip::read(trip, tariff)?;
+        let window = book.window_for(&trip)?;
+        let ride = Ride::of(tariff, &trip);
+        book.enter(&window, trip.check_out);
+        let cents = charge_party(tariff, &trip, &ride, book, slots);
+        Ok(Charged { area: ride.area, km: ride.km, minutes: ride.minutes, opening: window.opening, cents })
+    }
+
+    #[inline(always)]
+    fn accept(&mut self, charged: &Charged, lines: &mut Lines<impl Write>) -> io::Result<()> {
+        self.tally.accepted += 1;
+        self.tally.cents += u64::from(charged.cents);
+        lines.put_charged(charged)
+    }
+
+    fn refuse(&mut self, refusal: u32, lines: &mut Lines<impl Write>) -> io::Result<()> {
+        self.tally.refused += 1;
+        lines.put_refused(refusal)
+    }
+}

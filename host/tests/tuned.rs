@@ -1,0 +1,156 @@
+//! The tuned implementation settles as the model does, and its program prints what the model's prints.
+
+use milecopper_host::differential::{compare, number_of, Options};
+use milecopper_host::maker::bytes_of;
+use milecopper_host::model::book::BOOK_BYTES;
+use milecopper_host::model::roll::settle_roll;
+use milecopper_host::{model, tuned};
+use std::io::{self, Read};
+
+const TARIFF: &[u8] = include_bytes!("../../samples/tariff.bin");
+const ROLL: &[u8] = include_bytes!("../../samples/roll.bin");
+const PAPER_ROLL: &[u8] = include_bytes!("../../samples/paper-roll.bin");
+
+#[test]
+fn it_settles_as_the_model_does() {
+    let options = Options { seeds: vec![5], longer: 1, part: None, names: Vec::new() };
+    if let Err(difference) = compare("the tuned implementation", tuned::settle, &options) {
+        panic!("{difference}");
+    }
+}
+
+/// Stops are looked at in groups: each bit of many of them is flipped, and the tariff is cut everywhere.
+#[test]
+fn faults_among_many_stops() {
+    let mut tariff = TARIFF.to_vec();
+    for stop in 28..64 {
+        tariff.extend(made(&format!("stop {} {} {}\n", stop % 7, 15_625 * stop, 1_000_000 - stop % 2)));
+    }
+    for byte in 0..tariff.len() {
+        for bit in 0..8 {
+            tariff[byte] ^= 1 << bit;
+            answers_the_same(&tariff);
+            tariff[byte] ^= 1 << bit;
+        }
+        answers_the_same(&tariff[..byte]);
+    }
+    answers_the_same(&tariff);
+}
+
+fn answers_the_same(tariff: &[u8]) {
+    let trip = &PAPER_ROLL[..26];
+    let expected = number_of(model::settle(tariff, &mut vec![0; BOOK_BYTES], trip, &mut [0; 17]));
+    assert_eq!(tuned::settle(tariff, &mut vec![0; BOOK_BYTES], trip, &mut [0; 17]), expected, "{tariff:?}");
+}
+
+#[test]
+fn it_prints_the_samples_as_the_model_does() {
+    prints_the_same(TARIFF, ROLL);
+    prints_the_same(TARIFF, PAPER_ROLL);
+    prints_the_same(TARIFF, &[]);
+}
+
+#[test]
+fn broken_frames_end_the_run() {
+    let broken: [&[u8]; 5] = [&[1], &[1, 0, 3, 0], &[1, 4, 3, 0], &[24, 0, 3], &[24, 0, 3, 0, 0, 0]];
+    for frame in broken {
+        prints_the_same(TARIFF, &[PAPER_ROLL, frame].concat());
+        prints_the_same(TARIFF, &[PAPER_ROLL, frame, PAPER_ROLL].concat());
+        prints_the_same(TARIFF, &[frame, PAPER_ROLL].concat());
+    }
+}
+
+#[test]
+fn wrong_kinds_are_passed_over() {
+    let other_kinds = made("record 9\nrecord 1 01 02 03\nrecord 65535\n");
+    let longest = [&[0, 4, 3, 0], [0; 1_022].as_slice()].concat();
+    prints_the_same(TARIFF, &[&other_kinds, ROLL, &other_kinds, &longest, ROLL].concat());
+}
+
+#[test]
+fn refused_tariffs_give_one_line() {
+    let tariffs = [Vec::new(), TARIFF[..28].to_vec(), [TARIFF, &[0]].concat(), TARIFF.repeat(2)];
+    for tariff in tariffs {
+        prints_the_same(&tariff, ROLL);
+    }
+}
+
+/// More lines and bytes than the buffers hold, numbers of many lengths, refusals of all sorts of trips.
+#[test]
+fn long_rolls() {
+    let mut text = String::new();
+    for day in 1..=28 {
+        for hour in 8..18 {
+            let (class, adults, bicycles) = (hour % 2 + 1, day % 4, hour % 3);
+            let (first, last) = (hour % 5, day * 7 % 28);
+            text += &format!(
+                "trip 2026-02-{day} {hour}:05 to 2026-02-{day} {hour}:31 class {class} level {} \
+                 adults {adults} children 1 bikes {bicycles} stops {first} {last} 0\n",
+                hour % 6
+            );
+        }
+    }
+    let month = made(&text);
+    prints_the_same(TARIFF, &month.repeat(4));
+}
+
+#[test]
+fn as_many_records_as_there_may_be() {
+    let tariff = made(
+        "area state parent 0 base 10000 km 1000 valid 30 first 100 child 0 cap none day none bike 0\n\
+         stop 0 0 0\nstop 0 1000000 1000000\n",
+    );
+    let trip = "trip 2026-05-04 08:00 to 2026-05-04 08:00 class 1 level 0 adults 10 children 10 bikes 0 stops 0 1\n";
+    let (trip, other) = (made(trip), made("record 9\n"));
+    // A total above 32 bits.
+    prints_the_same(&tariff, &trip.repeat(80));
+    let most = [trip.clone(), other.repeat(65_534)].concat();
+    for behind in [Vec::new(), vec![1], other, trip] {
+        prints_the_same(&tariff, &[&most[..], &behind].concat());
+    }
+    prints_the_same(&tariff, &most[..most.len() - 1]);
+}
+
+#[test]
+fn a_roll_that_cannot_be_read_gets_no_tail() {
+    let mut printed = Vec::new();
+    assert!(tuned::settle_roll(TARIFF, PAPER_ROLL.chain(Failing), &mut printed).is_err());
+    let whole = settle_roll(TARIFF, PAPER_ROLL);
+    let lines = whole.split_inclusive('\n').take(6).collect::<String>();
+    assert_eq!(String::from_utf8(printed).expect("a text"), lines);
+}
+
+/// Prints what the model prints, however many bytes come at a time.
+fn prints_the_same(tariff: &[u8], roll: &[u8]) {
+    let expected = settle_roll(tariff, roll);
+    for most in [usize::MAX, 1_000, 7, 1] {
+        let mut printed = Vec::new();
+        tuned::settle_roll(tariff, Pieces { bytes: roll, most }, &mut printed).expect("a roll that can be read");
+        assert!(printed == expected.as_bytes(), "in pieces of {most}\n{}", String::from_utf8_lossy(&printed));
+    }
+}
+
+fn made(text: &str) -> Vec<u8> {
+    bytes_of(text).unwrap_or_else(|fault| panic!("{fault} in\n{text}"))
+}
+
+/// Bytes that come a few at a time.
+struct Pieces<'a> {
+    bytes: &'a [u8],
+    most: usize,
+}
+
+impl Read for Pieces<'_> {
+    fn read(&mut self, buffer: &mut [u8]) -> io::Result<usize> {
+        let most = self.most.min(buffer.len());
+        self.bytes.read(&mut buffer[..most])
+    }
+}
+
+struct Failing;
+
+impl Read for Failing {
+    fn read(&mut self, _: &mut [u8]) -> io::Result<usize> {
+        Err(io::Error::other("no more"))
+    }
+}
