@@ -4,6 +4,7 @@ use crate::limits::Chain;
 use crate::limits::Link;
 use crate::limits::capped_here;
 use crate::limits::chain_of;
+use crate::words::FIRST_CHILD;
 use crate::words::cover;
 use crate::words::get;
 use crate::words::pair;
@@ -191,7 +192,7 @@ pub fn charges_of(
         current,
         ride,
         true,
-        11,
+        FIRST_CHILD,
         children,
         amounts,
         adults,

@@ -1,6 +1,7 @@
 // The window opened, the charges added to the sums, the bicycles' covering areas: all that is ever written to a book.
 use crate::Window;
 use crate::charging::new_cover;
+use crate::words::FIRST_CHILD;
 use crate::words::LAST_OUT;
 use crate::words::OPENING;
 use crate::words::SIZE;
@@ -33,7 +34,8 @@ fn clear(book: &mut [u8])
     }
 }
 
-// The trip's window: cleared if it is new, unless the book is fresh and there is nothing to clear; word 0 the trips with this one, word 1 the opening, word 2 the check-out.
+// The trip's window: cleared if it is new, unless the book is fresh and there is nothing to clear; word 0 the trips with this one, word 1
+// the opening, word 2 the check-out.
 fn open_window(book: &mut [u8], window: Window, checkout: Minutes)
     requires { ⌜ (length (now book) ≡ bookSize) × FreshOrUsed (now book) ⌝ }
     ensures { λ _. ⌜ now (book .exit) ≡ opened window (checkout .0) (inWindow (window .current) (now (book .entry))) ⌝ }
@@ -139,6 +141,15 @@ pub fn post(
     let children = party.children as usize;
     open_window(book, window, checkout);
     add_riders(tariff, counts, book, ride, 0, adults, amounts, 0);
-    add_riders(tariff, counts, book, ride, 11, children, amounts, adults);
+    add_riders(
+        tariff,
+        counts,
+        book,
+        ride,
+        FIRST_CHILD,
+        children,
+        amounts,
+        adults,
+    );
     cover_bicycles(tariff, counts, book, ride, party.bicycles as usize);
 }

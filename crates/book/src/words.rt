@@ -18,6 +18,9 @@ pub const OPENING: usize = 1;
 
 pub const LAST_OUT: usize = 2;
 
+// Riders: 0 the account holder, then ten adults, then ten children from here on.
+pub const FIRST_CHILD: usize = 11;
+
 // The two sums of a rider in an area: second class, and the word after it all classes.
 pub fn pair(rider: usize, area: usize) -> usize
     requires { ⌜ (rider < 21) × (area < 32) ⌝ }

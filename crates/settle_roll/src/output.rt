@@ -2,7 +2,7 @@
 use libc::STDOUT_FILENO;
 use roll::Line;
 ghost use mathlib.Core.Path.{_≡_};
-ghost use Prim.Native.Nat.{_+_, _*_, _≤_};
+ghost use Prim.Native.Nat.{_+_, _≤_};
 ghost use lib.ListN.{length};
 
 // The buffer's size, and the room that a line and the tail behind it take at most.
@@ -21,8 +21,9 @@ fn put_text(out: &mut [u8], place: usize, text: &[u8]) -> usize
     place + text.len()
 }
 
-// A number's digits in front of a place, 10 at most, the last one first, so that nobody has to count them. The answer is where they begin.
-fn put_short_before(text: &mut [u8], end: usize, number: u32) -> usize
+// A number's digits in front of a place, 10 at most, the last one first, so that nobody has to count them. The answer is where they
+// begin, as with each function that puts something before a place.
+fn put_before(text: &mut [u8], end: usize, number: u32) -> usize
     requires { ⌜ (10 ≤ end) × (end ≤ length (now text)) ⌝ }
     ensures { λ r. ⌜ (r ≤ end) × (end ≤ r + 10) ⌝ }
 {
@@ -37,8 +38,8 @@ fn put_short_before(text: &mut [u8], end: usize, number: u32) -> usize
     at
 }
 
-// The same of a longer number, with 21 at most: once what is left is short, it is put as such.
-fn put_before(text: &mut [u8], end: usize, number: u64) -> usize
+// The same of a long number, for which 21 places are enough: once what is left fits 32 bits, it is put as above.
+fn put_long_before(text: &mut [u8], end: usize, number: u64) -> usize
     requires { ⌜ (21 ≤ end) × (end ≤ length (now text)) ⌝ }
     ensures { λ r. ⌜ (r ≤ end) × (end ≤ r + 21) ⌝ }
 {
@@ -49,35 +50,36 @@ fn put_before(text: &mut [u8], end: usize, number: u64) -> usize
         text[at] = b'0' + (rest % 10) as u8;
         rest = rest / 10;
     }
-    put_short_before(text, at, rest as u32)
+    put_before(text, at, rest as u32)
 }
 
-// A blank, and a short number's digits in front of a place.
+// A blank, and a number's digits in front of a place.
 fn put_spaced_before(text: &mut [u8], end: usize, number: u32) -> usize
     requires { ⌜ (11 ≤ end) × (end ≤ length (now text)) ⌝ }
     ensures { λ r. ⌜ (r ≤ end) × (end ≤ r + 11) ⌝ }
-{
-    let at = put_short_before(text, end, number) - 1;
-    text[at] = b' ';
-    at
-}
-
-// The same of a longer number.
-fn put_long_spaced_before(text: &mut [u8], end: usize, number: u64) -> usize
-    requires { ⌜ (22 ≤ end) × (end ≤ length (now text)) ⌝ }
-    ensures { λ r. ⌜ (r ≤ end) × (end ≤ r + 22) ⌝ }
 {
     let at = put_before(text, end, number) - 1;
     text[at] = b' ';
     at
 }
 
+// The same of a long number.
+fn put_long_spaced_before(text: &mut [u8], end: usize, number: u64) -> usize
+    requires { ⌜ (22 ≤ end) × (end ≤ length (now text)) ⌝ }
+    ensures { λ r. ⌜ (r ≤ end) × (end ≤ r + 22) ⌝ }
+{
+    let at = put_long_before(text, end, number) - 1;
+    text[at] = b' ';
+    at
+}
+
+// A number's digits from a place on.
 fn put_number(out: &mut [u8], place: usize, number: u64) -> usize
     requires { ⌜ place + 21 ≤ length (now out) ⌝ }
     ensures { λ r. ⌜ r ≤ place + 21 ⌝ }
 {
     let mut digits = [0u8; 21];
-    let at = put_before(&mut digits, 21, number);
+    let at = put_long_before(&mut digits, 21, number);
     put_text(out, place, &digits[at..])
 }
 
@@ -117,7 +119,7 @@ fn put_charged(
     let at3 = put_spaced_before(&mut text, at4, minutes as u32);
     let at2 = put_spaced_before(&mut text, at3, km as u32);
     let at1 = put_spaced_before(&mut text, at2, area as u32);
-    let start = put_short_before(&mut text, at1, number);
+    let start = put_before(&mut text, at1, number);
     put_text(out, place, &text[start..])
 }
 

@@ -5,7 +5,10 @@ use native.Mathlib.Omega.{arith}
 use native.Mathlib.Nat.{add-assoc}
 use native.Mathlib.Numerals.{unary-clauses}
 use mathlib.Core.Path.{_≡_, refl, _∙_}
-use mathlib.Core.Bool.{Bool, true, false}
+use native.Mathlib.Decide.{ℕ-discrete}
+use mathlib.Core.Bool.{Bool, true, false, _&&_}
+use borrow.Author.Tests.{eq-eqb, ne-eqb}
+use lib.Dec.{eqb}
 use mathlib.Core.List.{List}
 use lib.ListN.{length}
 use Rattle.wire.specs.Number.{getLe, Bytes}
@@ -71,20 +74,31 @@ words : (b : List ℕ) (p : ℕ) → getLe 4 b p ≡ getLe 2 b p + 65536 * getLe
 unfolding getLe
 words b p = simp add-assoc (omega arith)
 
-module _ (b : List ℕ) (bytes : Bytes b) (areas : ℕ) (some : 0 < areas) where
-  -- the length and kind of a stop, as one number, are those of a whole frame
-  stop-head : (at : ℕ) → at + 13 ≤ length b → getLe 4 b at ≡ 131083 → frameAt b at ≡ Whole 2 9
-  stop-head at fits head =
-      let both = words b at in
-      let low = get-range 2 b at bytes in
-      let high = get-range 2 b (at + 2) bytes in
+-- so the length and the kind of a stop may be tested as one
+pub head-tests : (b : List ℕ) → Bytes b → (at : ℕ) → eqb (getLe 4 b at) 131083 ≡ eqb (getLe 2 b at) 11 && eqb (getLe 2 b (at + 2)) 2
+head-tests b bytes at =
+    elim (ℕ-discrete (getLe 2 b at) 11) [
+      | yes long ↦
+          elim (ℕ-discrete (getLe 2 b (at + 2)) 2) [
+            | yes kind ↦ rw (eq-eqb _ _ long, eq-eqb _ _ kind, eq-eqb (getLe 4 b at) 131083 (omega (arith, words b at)))
+            | no kind ↦ rw (eq-eqb _ _ long, ne-eqb _ _ kind, ne-eqb (getLe 4 b at) 131083 (λ e. kind (omega (arith, words b at))))
+          ]
+      | no long ↦
+          let low = get-range 2 b at bytes in
+          rw (ne-eqb _ _ long, ne-eqb (getLe 4 b at) 131083 (λ e. long (omega (arith, words b at))))
+    ]
+
+module _ (b : List ℕ) (areas : ℕ) (some : 0 < areas) where
+  -- the length and kind of a stop are those of a whole frame
+  stop-head : (at : ℕ) → at + 13 ≤ length b → getLe 2 b at ≡ 11 → getLe 2 b (at + 2) ≡ 2 → frameAt b at ≡ Whole 2 9
+  stop-head at fits long kind =
       whole-back b at 2 9 (record { kind-is = omega arith; length-is = omega arith; fits = omega arith; short = omega arith })
 
   -- What the tests of `stopStands` let through is a faultless stop.
   stop-stands : (at stops : ℕ) → at + 13 ≤ length b → stops < 1000 → stopStands b at areas ≡ true → entryAt b at areas stops ≡ Stop
   unfolding stopStands
   stop-stands at stops fits few e =
-      let frame = stop-head at fits (search told) in
+      let frame = stop-head at fits (search told) (search told) in
       let right : stopRight (stopFields b at) areas ≡ true = search told in
       stop-frame b at areas stops 9 frame
       ∙ stop-due b at areas stops 9 (stop-holds b at areas stops (record { frame = frame; some = some; few = few })) right

@@ -9,7 +9,7 @@ use Rattle.tariff.specs.Rules.{stopRight}
 
 -- a stop record: its length is 11, its kind 2, and its values are right
 unfoldable pub stopStands : List ℕ → ℕ → ℕ → Bool
-stopStands b at areas = eqb (getLe 4 b at) 131083 && stopRight (stopFields b at) areas
+stopStands b at areas = (eqb (getLe 2 b at) 11 && eqb (getLe 2 b (at + 2)) 2) && stopRight (stopFields b at) areas
 
 -- four of them, one after another
 unfoldable pub rowStands : List ℕ → ℕ → ℕ → Bool

@@ -1,26 +1,21 @@
--- `output::put_before` is safe, and puts 21 digits at most. The loop's invariant: what is left has no more digits than there are places left
--- of twenty, and eleven places at most are taken, since what is put here does not fit 32 bits. The measure is the place.
+-- `output::put_before` is safe, and puts 10 digits at most. The loop's invariant: what is left has no more digits than there are places
+-- left of the ten. The measure is the place.
 -- Assumes nothing.
-use Prim.Native.Nat.{_+_, _-_, _^_, _≤_, _<_}
+use Prim.Native.Nat.{_-_, _/_, _≤_, _<_}
 use native.Mathlib.Omega.{arith}
 use mathlib.Core.Path.{_≡_, refl, _∙_}
 use lib.ListN.{length, length-set}
-use Rattle.settle_roll.proofs.Digits.{DigitsLeft, digit-put, long-left}
+use borrow.Author.Needs.{needs}
+use Rattle.settle_roll.proofs.Digits.{DigitsLeft, digit-put}
 use Rattle.settle_roll.proofs.output.put_before.Statement.{statement}
 use Rattle.settle_roll.proofs.output.put_before.Tie as tie
 
 abbrev Inv-loop : tie.InvT-loop
 Inv-loop text₀ end number at₀ rest₀ text at rest =
-    DigitsLeft rest (end - 20) at × (at ≤ end) × (end ≤ at + 11) × (length text ≡ length text₀)
+    DigitsLeft rest (end - 10) at × (at < end) × (end ≤ length text₀) × (length text ≡ length text₀)
 
 abbrev μ-loop : tie.MeasureT-loop
 μ-loop text₀ end number at₀ rest₀ text at rest = at
-
-loop-holds : tie.Need-loop-holds Inv-loop μ-loop
-loop-holds c =
-    let fits = c .before .fits .number .fits in
-    let small : c .before .args .number < 100000000000000000000 = omega arith in
-    (record { left = 20; small = small; room = omega arith }, omega arith, omega arith, refl)
 
 sub-at : tie.Need-sub-at Inv-loop μ-loop
 sub-at c = omega arith
@@ -34,29 +29,41 @@ add-text c = omega arith
 slice-write-text : tie.Need-slice-write-text Inv-loop μ-loop
 slice-write-text c = omega arith
 
+loop-holds : tie.Need-loop-holds Inv-loop μ-loop
+loop-holds c =
+    let fits = c .fits .number .fits in
+    let small : c .args .number / 10 < 1000000000 = omega arith in
+    (record { left = 9; small = small; room = omega arith }, omega arith, simp length-set (omega arith), refl)
+
+sub-at-2 : tie.Need-sub-at-2 Inv-loop μ-loop
+sub-at-2 c = omega (arith, digit-put (c .before .loop .inv .0) (c .loop-test .taken))
+
+cast-text-2 : tie.Need-cast-text-2 Inv-loop μ-loop
+cast-text-2 c = omega arith
+
+add-text-2 : tie.Need-add-text-2 Inv-loop μ-loop
+add-text-2 c = omega arith
+
+slice-write-text-2 : tie.Need-slice-write-text-2 Inv-loop μ-loop
+slice-write-text-2 c = omega arith
+
 loop-less : tie.Need-loop-less Inv-loop μ-loop
-loop-less c = omega arith
+loop-less c = omega (arith, digit-put (c .before .loop .inv .0) (c .loop-test .taken))
 
 loop-again : tie.Need-loop-again Inv-loop μ-loop
 loop-again c =
     let s = c .before .loop .inv in (
-      digit-put (s .0) (omega arith) .0,
+      digit-put (s .0) (c .loop-test .taken) .0,
       omega arith,
-      omega (arith, long-left (s .0) (c .loop-test .taken)),
+      s .2,
       length-set (c .before .loop .text) _ _ ∙ s .3,
     )
 
-cast-put-short-before : tie.Need-cast-put-short-before Inv-loop μ-loop
-cast-put-short-before c = omega arith
-
-put-short-before-requires : tie.Need-put-short-before-requires Inv-loop μ-loop
-put-short-before-requires c κs = omega arith
-
 same-length : tie.Need-same-length Inv-loop μ-loop
-same-length c = omega arith
+same-length c = c .before .loop .inv .3 ∙ length-set (c .before .before .args .text .now) _ _
 
 returns : tie.Need-returns Inv-loop μ-loop
-returns c = omega arith
+returns c = (omega arith, omega (arith, c .before .loop .inv .0 .room))
 
 pub put-before-spec : {M : Type 1} → statement M
 put-before-spec =
@@ -64,14 +71,16 @@ put-before-spec =
     (tie.spec
     Inv-loop
     μ-loop
-    loop-holds
     sub-at
     cast-text
     add-text
     slice-write-text
+    loop-holds
+    sub-at-2
+    cast-text-2
+    add-text-2
+    slice-write-text-2
     loop-less
     loop-again
-    cast-put-short-before
-    put-short-before-requires
     same-length
     returns)

@@ -102,7 +102,7 @@ loop-again-2 c =
     let here = stop-there (c .before .before) in
     let facts = stop-entry _ _ _ _ here in
     rw (c .rows-standing .ensures .0)
-    (passed-rows _ (λ i. c .before .before .before .before .before .before .shared-slice-known .given i .fits) _ (facts .some)
+    (passed-rows _ _ (facts .some)
     (c .before .rows-due .result) _ _ (omega arith) (omega arith)
     (passed-stop _ _ _ _ (c .before .before .before .before .before .loop .inv) here))
 
