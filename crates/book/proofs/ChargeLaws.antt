@@ -246,7 +246,7 @@ module _ (t w : List ℕ) (ride : Ride) where
   pub riders-by-chain :
       {areas stops : ℕ} → FaultlessTariff t areas stops → ride .area < areas → (child : Bool) (first : ℕ) {area : Area} {chain : Chain} {fare : ℕ}
       → area ≡ areaAt t (ride .area) → chain ≡ chainOf t (ride .area) child → fare ≡ priceOf area ride child → (n : ℕ)
-      → listed (λ i. chargeBy chain w (first + i) (ride .party .class) fare) n ≡ riderCharges t w ride child first n
+      → listed (λ i. chargeBy chain w (first + i) (ride .class) fare) n ≡ riderCharges t w ride child first n
   unfolding listed riderCharge riderCharges
   riders-by-chain f there child first e e′ e″ zero = refl
   riders-by-chain f there child first e e′ e″ (suc n) =
@@ -356,7 +356,7 @@ module _ {t : List ℕ} {counts : Counts} {b : List ℕ} {ride : Ride} (r : Ride
   pub rider-charge-most : (w : List ℕ) (child : Bool) (rider : ℕ) → riderCharge t w ride child rider ≤ 3790000
   unfolding riderCharge
   rider-charge-most w child rider =
-      le-trans (charge-most t w rider child (ride .party .class) (levelOf t (ride .area)) (ride .area) _)
+      le-trans (charge-most t w rider child (ride .class) (levelOf t (ride .area)) (ride .area) _)
       (price-most (areaAt t (ride .area)) ride child priceable)
 
   pub charges-most : (current : Bool) (i : ℕ) → getD (chargesOf t (inWindow current b) ride) i 0 ≤ 3790000

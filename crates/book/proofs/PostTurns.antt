@@ -173,7 +173,7 @@ pub record RidersAdded (t b₀ b amounts : List ℕ) (first count from class at 
   pub size : length b ≡ bookSize
   pub within : i ≤ count
   pub room : (k : ℕ) → i ≤ k → k < count → Room b (first + k)
-  pub done : (ride : Ride) → ride .party .class ≡ class → ride .area ≡ at → b ≡ addList t ride first i amounts from b₀
+  pub done : (ride : Ride) → ride .class ≡ class → ride .area ≡ at → b ≡ addList t ride first i amounts from b₀
 
 pub riders-start :
     {t b amounts : List ℕ} {first count from class at : ℕ} → length b ≡ bookSize → ((k : ℕ) → k < count → Room b (first + k))
@@ -203,7 +203,7 @@ riders-turn {t} f {b = b} {amounts = amounts} {first} {count} {from} {class} {at
 
 pub riders-end :
     {t b₀ b amounts : List ℕ} (ride : Ride) {first count from i : ℕ}
-    → RidersAdded t b₀ b amounts first count from (ride .party .class) (ride .area) i → count ≤ i
+    → RidersAdded t b₀ b amounts first count from (ride .class) (ride .area) i → count ≤ i
     → b ≡ addList t ride first count amounts from b₀
 riders-end {t} {b₀} {amounts = amounts} ride {first} {count} {from} {i} s last =
     let e : i ≡ count = omega (arith, s .within) in

@@ -171,7 +171,7 @@ chargesIn tariff book window ride = chargesOf tariff (wordsIn window book) ride
 
 -- what a charge adds to one of a rider's two sums in an area: itself where its class counts and the ride's area lies within, else 0
 abbrev pub added : Bool → List ℕ → Ride → ℕ → ℕ → ℕ
-added which tariff ride area amount = cond (counted which (ride .party .class) && liesWithin tariff (ride .area) area) amount 0
+added which tariff ride area amount = cond (counted which (ride .class) && liesWithin tariff (ride .area) area) amount 0
 
 -- a rider's charge among those of a party: 0 for a rider who is not carried
 unfoldable pub ownCharge : Ride → List ℕ → ℕ → ℕ
@@ -421,7 +421,7 @@ module _ {tariff : List ℕ} {counts : Counts} {book : List ℕ} {ride : Ride} (
       (λ r h. rw (own-adult ride (chargesIn tariff book window ride) r (ok .adults) h) (posted-adult which r x h hx))
       (λ i h. rw (own-child ride (chargesIn tariff book window ride) i h) (posted-child which i x h hx))
       (λ out. rw (own-none ride (chargesIn tariff book window ride) rider out)
-      (posted-none which rider x hr out hx ∙ nothing (counted which (ride .party .class) && liesWithin tariff (ride .area) x) _))
+      (posted-none which rider x hr out hx ∙ nothing (counted which (ride .class) && liesWithin tariff (ride .area) x) _))
     where
       nothing : (s : Bool) (n : ℕ) → n ≡ n + cond s 0 0
       nothing true n = sym (add-zero n)

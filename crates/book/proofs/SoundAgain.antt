@@ -106,7 +106,7 @@ module _ {tariff : List ℕ} {counts : Counts} {book : List ℕ} {ride : Ride} (
       let before = counting (window .current) (sound-has book (counts .areas) (ok .sound-book)) room .pairs rider area hr ha in
       let second = posted-sum ok window checkout room true rider area hr ha in
       let all = posted-sum ok window checkout room false rider area hr ha in
-      let less = added-less (eqb (ride .party .class) 2) inside own in
+      let less = added-less (eqb (ride .class) 2) inside own in
       let most = added-most inside own in
       let charge = own-range ok window rider in
       let one = right .trips in

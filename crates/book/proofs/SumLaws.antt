@@ -191,14 +191,14 @@ module _ {tariff : List ℕ} {areas stops : ℕ} (t : FaultlessTariff tariff are
       (which : Bool) (n : ℕ) (b : List ℕ) → length b ≡ bookSize → first + n ≤ 21
       → ((i : ℕ) → i < n → (x : ℕ) → x < 32 → Fits b (first + i) (getD charges (from + i) 0) x) → (i : ℕ) → i < n → (x : ℕ) → x < 32
       → sumOf which (addList tariff ride first n charges from b) (first + i) x
-      ≡ sumOf which b (first + i) x + cond (counted which (ride .party .class) && liesWithin tariff (ride .area) x) (getD charges (from + i) 0) 0
+      ≡ sumOf which b (first + i) x + cond (counted which (ride .class) && liesWithin tariff (ride .area) x) (getD charges (from + i) 0) 0
   unfolding addList
   list-sum which zero b size few fits i h x hx = absurd (omega arith)
   list-sum which (suc n) b size few fits i h x hx =
       let some = t .few-areas in
       let before = addList tariff ride first n charges from b in
       let c = getD charges (from + n) 0 in
-      let class = ride .party .class in
+      let class = ride .class in
       let a = ride .area in
       let sized : length before ≡ bookSize = list-size n b (omega arith) ∙ size in
       let fits′ : (y : ℕ) → y ≤ a → Fits before (first + n) c y =

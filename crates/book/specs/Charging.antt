@@ -56,7 +56,7 @@ pub record ChargeBy (chain : Chain) (w : List ℕ) (rider class price r : ℕ) :
 
 unfoldable pub riderCharge : List ℕ → List ℕ → Ride → Bool → ℕ → ℕ
 riderCharge tariff w ride child rider =
-    chargeUp (levelOf tariff (ride .area)) tariff w rider child (ride .party .class) (ride .area)
+    chargeUp (levelOf tariff (ride .area)) tariff w rider child (ride .class) (ride .area)
     (priceOf (areaAt tariff (ride .area)) ride child)
 
 -- the charges of `count` riders from `first` on

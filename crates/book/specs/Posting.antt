@@ -31,7 +31,7 @@ unfoldable pub addList : List ℕ → Ride → ℕ → ℕ → List ℕ → ℕ 
 addList tariff ride first zero charges from book = book
 addList tariff ride first (suc count) charges from book =
     addUp (levelOf tariff (ride .area)) tariff (addList tariff ride first count charges from book) (first + count)
-    (ride .party .class) (ride .area) (getD charges (from + count) 0)
+    (ride .class) (ride .area) (getD charges (from + count) 0)
 
 -- the new covering areas of the first `count` bicycles
 unfoldable pub coverBicycles : List ℕ → Ride → ℕ → List ℕ → List ℕ

@@ -94,8 +94,7 @@ fn charge_riders(
     if count == 0 {
         return;
     }
-    let party = ride.party;
-    let class = party.class;
+    let class = ride.class;
     let at = ride.area;
     let fare = price(area(tariff, counts, at), ride, child);
     let chain = chain_of(tariff, counts, at, child);

@@ -100,8 +100,7 @@ fn add_riders(
     requires { ⌜ Adding (now tariff) counts (now book) ride first count (now amounts) from ⌝ }
     ensures { λ _. ⌜ now (book .exit) ≡ addList (now (tariff .entry)) ride first count (now (amounts .entry)) from (now (book .entry)) ⌝ }
 {
-    let party = ride.party;
-    let class = party.class;
+    let class = ride.class;
     let at = ride.area;
     for i in 0..count {
         let amount = amounts[from + i];

@@ -47,7 +47,7 @@ step4-most area false amount = le-refl amount
 
 -- The contract of `price`: the steps in their order, each on what the one before it gives.
 pub priced : {area : Area} {ride : Ride} (child : Bool) {far trip adult r : ℕ} → Step1 area (ride .minutes .0) (ride .km .0) far
-    → Step2 area (ride .minutes .0) (ride .party .level) far trip → Step3 area (ride .party .class) trip adult
+    → Step2 area (ride .minutes .0) (ride .level) far trip → Step3 area (ride .class) trip adult
     → r ≡ step4 area child adult → Price area ride child r
 unfolding priceOf
 priced {area} {ride} child {far} {trip} {adult} {r} first second third fourth =

@@ -114,6 +114,8 @@ pub ride :
       area = area;
       km = record { 0 = km };
       minutes = record { 0 = trip .checkout .0 - trip .checkin .0 };
+      class = trip .class;
+      level = trip .level;
       party = trip .party;
     })
 unfolding rideOf

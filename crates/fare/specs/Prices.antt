@@ -46,8 +46,8 @@ step4 area child amount = cond child (reducedBy (area .reduction) amount) amount
 unfoldable pub priceOf : Area → Ride → Bool → ℕ
 priceOf area ride child =
     step4 area child
-    (step3 area (ride .party .class)
-    (step2 area (ride .minutes .0) (ride .party .level) (step1 area (ride .minutes .0) (ride .km .0))))
+    (step3 area (ride .class)
+    (step2 area (ride .minutes .0) (ride .level) (step1 area (ride .minutes .0) (ride .km .0))))
 
 pub record Step1 (area : Area) (minutes km r : ℕ) : Type 0 where
   pub value : r ≡ step1 area minutes km

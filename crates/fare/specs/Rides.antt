@@ -57,6 +57,8 @@ rideOf tariff areas bytes trip =
       area = areaOfStops tariff areas bytes 0 (trip .stops - 1);
       km = record { 0 = kmOf (apart (stopOf tariff areas bytes 0) (stopOf tariff areas bytes (trip .stops - 1))) };
       minutes = record { 0 = trip .checkout .0 - trip .checkin .0 };
+      class = trip .class;
+      level = trip .level;
       party = trip .party;
     }
 

@@ -9,10 +9,12 @@ use units::Minutes;
 pub mod prices;
 pub mod rides;
 
-// What is priced: in which area, how far, how long, and for whom.
+// What is priced: in which area, how far, how long, in which class, with which ticket level, and for whom.
 pub struct Ride {
     pub area: usize,
     pub km: Km,
     pub minutes: Minutes,
+    pub class: u8,
+    pub level: u8,
     pub party: Party,
 }

@@ -76,10 +76,9 @@ pub fn price(area: Area, ride: Ride, child: bool) -> Cents
 {
     let minutes = ride.minutes;
     let km = ride.km;
-    let party = ride.party;
     let far = distance_price(area, minutes, km);
-    let trip = trip_capped(area, far, minutes, party.level);
-    let adult = in_class(area, trip, party.class);
+    let trip = trip_capped(area, far, minutes, ride.level);
+    let adult = in_class(area, trip, ride.class);
     if child {
         reduced(adult, area.reduction)
     } else {

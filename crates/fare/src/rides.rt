@@ -105,6 +105,8 @@ pub fn ride_of(tariff: &[u8], counts: Counts, bytes: &[u8], trip: Trip) -> Ride
         area,
         km: kilometres(from, to),
         minutes: Minutes(duration),
+        class: trip.class,
+        level: trip.level,
         party,
     }
 }

@@ -104,7 +104,7 @@ module _ (tariff w w′ : List ℕ) (same : SameSums w w′) where
   riders-alike ride child first (suc count) =
       rw (
         riders-alike ride child first count,
-        charge-alike (levelOf tariff (ride .area)) (first + count) child (ride .party .class) (ride .area)
+        charge-alike (levelOf tariff (ride .area)) (first + count) child (ride .class) (ride .area)
             (priceOf (areaAt tariff (ride .area)) ride child),
       )
 
@@ -161,7 +161,7 @@ module _ (tariff : List ℕ) where
   unfolding addList
   add-list-alike ride first zero charges from same = same
   add-list-alike ride first (suc count) charges from same =
-      add-up-alike (levelOf tariff (ride .area)) (add-list-alike ride first count charges from same) (first + count) (ride .party .class)
+      add-up-alike (levelOf tariff (ride .area)) (add-list-alike ride first count charges from same) (first + count) (ride .class)
       (ride .area) (getD charges (from + count) 0)
 
   cover-alike :

@@ -92,7 +92,7 @@ module _ (tariff bytes w : List â„•) (counts : Counts) (trip : Trip) (opens : â„
   said =
       let facts = offered.good bytes (counts .stops) trip good in
       let g = good-read bytes (counts .stops) trip good in
-      let party = party-ranges (trip .party) (trip .stops) (facts .right) in
+      let party = party-ranges (trip .class) (trip .level) (trip .party) (trip .stops) (facts .right) in
       let times = offered.good-times bytes (counts .stops) trip facts in
       let riding : Riding tariff counts bytes (trip .stops) =
       record { read = read; known = facts .known-stops; fits = omega (arith, facts .size) }

@@ -36,7 +36,7 @@ pub good-ride :
 unfolding rideOf
 good-ride tariff counts book bytes trip read right is =
     let facts = good bytes (counts .stops) trip is in
-    let party = party-ranges (trip .party) (trip .stops) (facts .right) in
+    let party = party-ranges (trip .class) (trip .level) (trip .party) (trip .stops) (facts .right) in
     let riding : Riding tariff counts bytes (trip .stops) =
     record { read = read; known = facts .known-stops; fits = omega (arith, facts .size) }
     in
@@ -55,5 +55,5 @@ good-ride tariff counts book bytes trip read right is =
 
 -- Its class is 1 or 2.
 pub good-class :
-    (bytes : List ℕ) (stops : ℕ) (trip : Trip) → readTrip bytes stops ≡ Good trip → (trip .party .class ≡ 1) ⊎ (trip .party .class ≡ 2)
-good-class bytes stops trip is = party-ranges (trip .party) (trip .stops) (good bytes stops trip is .right) .class-is
+    (bytes : List ℕ) (stops : ℕ) (trip : Trip) → readTrip bytes stops ≡ Good trip → (trip .class ≡ 1) ⊎ (trip .class ≡ 2)
+good-class bytes stops trip is = party-ranges (trip .class) (trip .level) (trip .party) (trip .stops) (good bytes stops trip is .right) .class-is

@@ -237,7 +237,7 @@ module _ {tariff : List ℕ} {counts : Counts} {rider : ℕ} {book : List ℕ} {
         charged =
             more (words .charged) (ok .area) (good-class bytes (counts .stops) trip is)
             (written ∙ c .charge
-            ∙ charge-same tariff counts read w rider (isChild rider) (trip .party .class) _ _ (words .sums true) (words .sums false)
+            ∙ charge-same tariff counts read w rider (isChild rider) (trip .class) _ _ (words .sums true) (words .sums false)
             (levelOf tariff (ride .area)) (ride .area) _ (ok .area));
       }
 

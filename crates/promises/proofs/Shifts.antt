@@ -20,7 +20,7 @@ use Rattle.tariff.specs.declared.Stop.{Stop}
 use Rattle.tariff.specs.Areas.{smallestOf}
 use Rattle.tariff.proofs.Faultless.{read-one}
 use Rattle.trip.specs.declared.Trip.{Trip}
-use Rattle.trip.specs.Record.{countAt, partyAt, stopNumber}
+use Rattle.trip.specs.Record.{countAt, classAt, levelAt, partyAt, stopNumber}
 use Rattle.fare.specs.Rides.{stopOf, areaOfStops, rideOf}
 use Rattle.book.specs.Words.{bookSize, word, tripsOf, openingOf, lastOutOf, coverWord}
 use Rattle.book.specs.Sound.{allZero, headSound, pairsSound, coversSound, sound}
@@ -175,12 +175,16 @@ module _ {c d : ℕ} {book bytes book′ bytes′ : List ℕ} (s : Shifted c d b
   count-same : countAt bytes′ 0 ≡ countAt bytes 0
   count-same = get-alike (s .trip) 1 21 (inr (omega arith))
 
+  class-same : classAt bytes′ 0 ≡ classAt bytes 0
+  class-same = get-alike (s .trip) 1 16 (inr (omega arith))
+
+  level-same : levelAt bytes′ 0 ≡ levelAt bytes 0
+  level-same = get-alike (s .trip) 1 17 (inr (omega arith))
+
   party-same : partyAt bytes′ 0 ≡ partyAt bytes 0
   unfolding partyAt
   party-same =
       rw (
-        get-alike (s .trip) 1 16 (inr (omega arith)),
-        get-alike (s .trip) 1 17 (inr (omega arith)),
         get-alike (s .trip) 1 18 (inr (omega arith)),
         get-alike (s .trip) 1 19 (inr (omega arith)),
         get-alike (s .trip) 1 20 (inr (omega arith)),
@@ -247,7 +251,7 @@ module _ {c d : ℕ} {book bytes book′ bytes′ : List ℕ} (s : Shifted c d b
           (on 3 (on 2 (on 1 (on 0 (below-none _) (λ w. w)) (λ w. w)) (λ w. w)) (λ w. w))
           (λ w. sound-same (countsOf tariff .areas) ∙ w))
           five)
-          (λ w. rw (party-same, count-same) w))
+          (λ w. rw (class-same, level-same, party-same, count-same) w))
           (λ w. record { i = w .i; of-trip = omega (arith, count-same, w .of-trip); lacking = omega (arith, stop-same (w .i), w .lacking) }))
           eight)
           nine)
@@ -269,15 +273,18 @@ module _ {c d : ℕ} {book bytes book′ bytes′ : List ℕ} (s : Shifted c d b
       ap (λ (a : ℕ). smallestOf tariff a (stopOf tariff areas bytes′ (first + suc more) .area)) (area-of-same tariff areas first more)
       ∙ ap (λ (p : Stop). smallestOf tariff (areaOfStops tariff areas bytes first more) (p .area)) (stop-of-same tariff areas (first + suc more))
 
-  -- two trips with the same stops, party and minutes are one ride
+  -- two trips with the same stops, class, level, party and minutes are one ride
   ride-same :
-      (tariff : List ℕ) (areas : ℕ) (trip trip′ : Trip) → trip′ .stops ≡ trip .stops → trip′ .party ≡ trip .party
+      (tariff : List ℕ) (areas : ℕ) (trip trip′ : Trip) → trip′ .stops ≡ trip .stops → trip′ .class ≡ trip .class
+      → trip′ .level ≡ trip .level → trip′ .party ≡ trip .party
       → trip′ .checkout .0 - trip′ .checkin .0 ≡ trip .checkout .0 - trip .checkin .0
       → rideOf tariff areas bytes′ trip′ ≡ rideOf tariff areas bytes trip
   unfolding rideOf
-  ride-same tariff areas trip trip′ stops party minutes =
+  ride-same tariff areas trip trip′ stops class level party minutes =
       rw (
         stops,
+        class,
+        level,
         party,
         minutes,
         area-of-same tariff areas 0 (trip .stops - 1),
@@ -339,6 +346,7 @@ module _ {tariff : List ℕ} {room d : ℕ} {book bytes book′ bytes′ : List 
   one-ride =
       rw counts-same
       (ride-same s tariff (a .counts .areas) (a .trip) (a′ .trip) (read′ .stops ∙ count-same s ∙ sym (read .stops))
+      (read′ .class ∙ class-same s ∙ sym (read .class)) (read′ .level ∙ level-same s ∙ sym (read .level))
       (read′ .party ∙ party-same s ∙ sym (read .party))
       (omega (arith, read .from, read .to, read′ .from, read′ .to, s .checkin, s .checkout)))
 

@@ -159,7 +159,7 @@ module _ (ride : Ride) (alone : Alone ride) (book : List ℕ) where
 
   posted-alone :
       posted sample book oneWindow 0 ride
-      ≡ addUp (levelOf sample (ride .area)) sample (opened oneWindow 0 book) 0 (ride .party .class) (ride .area) (riderCharge sample book ride false 0)
+      ≡ addUp (levelOf sample (ride .area)) sample (opened oneWindow 0 book) 0 (ride .class) (ride .area) (riderCharge sample book ride false 0)
   unfolding posted addList coverBicycles
   posted-alone = rw (charges-alone, alone .adults, alone .children, alone .bicycles)
 
@@ -167,7 +167,7 @@ module _ (ride : Ride) (alone : Alone ride) {b b′ : List ℕ} (s : SameStart 6
   rider-start : riderCharge sample b′ ride false 0 ≡ riderCharge sample b ride false 0
   unfolding riderCharge
   rider-start =
-      charge-start (levelOf sample (ride .area)) s (ride .party .class) (ride .area) (priceOf (areaAt sample (ride .area)) ride false)
+      charge-start (levelOf sample (ride .area)) s (ride .class) (ride .area) (priceOf (areaAt sample (ride .area)) ride false)
       (alone .area)
 
   charges-start : chargesOf sample b′ ride ≡ chargesOf sample b ride
@@ -180,7 +180,7 @@ module _ (ride : Ride) (alone : Alone ride) {b b′ : List ℕ} (s : SameStart 6
   posted-start : SameStart 68 (posted sample b oneWindow 0 ride) (posted sample b′ oneWindow 0 ride)
   posted-start =
       rw (posted-alone ride alone b, posted-alone ride alone b′, rider-start)
-      (up-start (levelOf sample (ride .area)) opened-start (ride .party .class) (ride .area) (riderCharge sample b ride false 0) (alone .area))
+      (up-start (levelOf sample (ride .area)) opened-start (ride .class) (ride .area) (riderCharge sample b ride false 0) (alone .area))
 
 -- ---- The cases.
 

@@ -14,7 +14,7 @@ use Rattle.wire.specs.declared.Frame.the-variants.{Whole}
 use Rattle.trip.specs.declared.Trip.{Trip}
 use Rattle.trip.specs.declared.Offered.the-variants.{Good}
 use Rattle.trip.specs.declared.Party.{Party}
-use Rattle.trip.specs.Record.{countAt, partyAt, partyRight}
+use Rattle.trip.specs.Record.{countAt, classAt, levelAt, partyAt, partyRight}
 use Rattle.trip.specs.Trips.{readTrip}
 use Rattle.trip.proofs.Shapes.{TripAt, trip-at, broken-frame}
 use Rattle.trip.proofs.Shapes as shapes
@@ -77,30 +77,30 @@ is-five bytes (offered.not-filling n trip other) = not-filling 3 (18 + 2 * n) (t
 at-most : {A : Type 0} (n most : ℕ) → (most < n → A) → (n ≤ most → A) → A
 at-most n most above within = elim (decLt most n) [ yes h ↦ above h | no h ↦ within (omega arith) ]
 
-module _ (party : Party) (n : ℕ) where
-  not-six : partyRight party n ≡ true → WrongParty party n → ⊥
-  not-six e wrong = go (party-ranges party n e) wrong
+module _ (class level : ℕ) (party : Party) (n : ℕ) where
+  not-six : partyRight class level party n ≡ true → WrongParty class level party n → ⊥
+  not-six e wrong = go (party-ranges class level party n e) wrong
     where
-      go : PartyRanges party n → WrongParty party n → ⊥
+      go : PartyRanges class level party n → WrongParty class level party n → ⊥
       go r (no-class one two) = ⊎-elim one two (r .class-is)
-      go r (high-level h) = omega (arith, r .level)
+      go r (high-level h) = omega (arith, r .level-most)
       go r (many-adults h) = omega (arith, r .adults)
       go r (many-children h) = omega (arith, r .children)
       go r (many-bicycles h) = omega (arith, r .bicycles)
       go r (few-stops h) = omega (arith, r .least)
       go r (many-stops h) = omega (arith, r .most)
 
-  is-six : (PartyRanges party n → ⊥) → WrongParty party n
+  is-six : (PartyRanges class level party n → ⊥) → WrongParty class level party n
   is-six out =
-      at-most (party .level) 5 high-level λ level.
+      at-most level 5 high-level λ low.
       at-most (party .adults) 10 many-adults λ adults.
       at-most (party .children) 10 many-children λ children.
       at-most (party .bicycles) 10 many-bicycles λ bicycles.
       at-most 2 n few-stops λ least.
       at-most n 32 many-stops λ most.
-      let ranges : (party .class ≡ 1) ⊎ (party .class ≡ 2) → PartyRanges party n =
-      λ class.
-      record { class-is = class; level = level; adults = adults; children = children; bicycles = bicycles; least = least; most = most }
+      let ranges : (class ≡ 1) ⊎ (class ≡ 2) → PartyRanges class level party n =
+      λ is.
+      record { class-is = is; level-most = low; adults = adults; children = children; bicycles = bicycles; least = least; most = most }
       in
       no-class (λ e. out (ranges (inl e))) (λ e. out (ranges (inr e)))
 
@@ -109,15 +109,15 @@ module _ (bytes : List ℕ) (known n : ℕ) where
   counted : Filled bytes n → countAt bytes 0 ≡ n
   counted filled = at bytes n filled .count
 
-  pub not-six-read : RightParty bytes n → WrongParty (partyAt bytes 0) (countAt bytes 0) → ⊥
-  not-six-read p = rw (counted (p .filled)) (not-six (partyAt bytes 0) n (p .right))
+  pub not-six-read : RightParty bytes n → WrongParty (classAt bytes 0) (levelAt bytes 0) (partyAt bytes 0) (countAt bytes 0) → ⊥
+  not-six-read p = rw (counted (p .filled)) (not-six (classAt bytes 0) (levelAt bytes 0) (partyAt bytes 0) n (p .right))
 
   pub not-seven : KnownStops bytes known n → LackingStop bytes known → ⊥
   not-seven k lack =
       omega (arith, known-at bytes known n .0 (k .known-stops) (lack .i) (omega (arith, lack .of-trip, counted (k .party .filled))), lack .lacking)
 
-pub is-six-read : (bytes : List ℕ) → offered.WrongParty bytes → WrongParty (partyAt bytes 0) (countAt bytes 0)
-is-six-read bytes w = rw (counted bytes 0 (w .n) (w .filled)) (is-six (partyAt bytes 0) (w .n) (w .wrong))
+pub is-six-read : (bytes : List ℕ) → offered.WrongParty bytes → WrongParty (classAt bytes 0) (levelAt bytes 0) (partyAt bytes 0) (countAt bytes 0)
+is-six-read bytes w = rw (counted bytes 0 (w .n) (w .filled)) (is-six (classAt bytes 0) (levelAt bytes 0) (partyAt bytes 0) (w .n) (w .wrong))
 
 pub is-seven : (bytes : List ℕ) (known : ℕ) → offered.LackingStop bytes known → LackingStop bytes known
 is-seven bytes known w =
@@ -138,12 +138,14 @@ is-nine bytes known w =
 -- a good trip meets none of 5 to 9
 pub record GoodRead (bytes : List ℕ) (known : ℕ) (trip : Trip) : Type 0 where
   pub five : NoTrip bytes → ⊥
-  pub six : WrongParty (partyAt bytes 0) (countAt bytes 0) → ⊥
+  pub six : WrongParty (classAt bytes 0) (levelAt bytes 0) (partyAt bytes 0) (countAt bytes 0) → ⊥
   pub seven : LackingStop bytes known → ⊥
   pub eight : WrongStamp bytes → ⊥
   pub nine : WrongOrder bytes → ⊥
   pub from : trip .checkin .0 ≡ checkinOf bytes
   pub to : trip .checkout .0 ≡ checkoutOf bytes
+  pub class : trip .class ≡ classAt bytes 0
+  pub level : trip .level ≡ levelAt bytes 0
   pub party : trip .party ≡ partyAt bytes 0
   pub stops : trip .stops ≡ countAt bytes 0
 
@@ -152,7 +154,7 @@ good-read bytes known trip e =
     let g = offered.good bytes known trip e in
     let n = trip .stops in
     let filled : Filled bytes n = record { shape = g .shape; size = g .size } in
-    let right : RightParty bytes n = record { filled = filled; right = rw (g .party-is) at (g .right) } in
+    let right : RightParty bytes n = record { filled = filled; right = rw (g .class-is, g .level-is, g .party-is) at (g .right) } in
     let stops : KnownStops bytes known n = record { party = right; known-stops = g .known-stops } in
     let one = moment-of bytes 4 (trip .checkin) (g .checkin) in
     let two = moment-of bytes 10 (trip .checkout) (g .checkout) in
@@ -165,6 +167,8 @@ good-read bytes known trip e =
       nine = not-nine (one .minute) (two .minute) (times .forward) (times .short);
       from = one .minute;
       to = two .minute;
+      class = g .class-is;
+      level = g .level-is;
       party = g .party-is;
       stops = sym (counted bytes known n filled);
     }

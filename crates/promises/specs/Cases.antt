@@ -79,7 +79,9 @@ rideIn area km minutes class level =
       area = area;
       km = record { 0 = km };
       minutes = record { 0 = minutes };
-      party = record { class = class; level = level; adults = 0; children = 0; bicycles = 0 };
+      class = class;
+      level = level;
+      party = record { adults = 0; children = 0; bicycles = 0 };
     }
 
 -- such a ride, its price and its charge

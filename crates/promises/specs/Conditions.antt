@@ -17,7 +17,7 @@ use Rattle.tariff.specs.Areas.{Read}
 use Rattle.trip.specs.declared.Trip.{Trip}
 use Rattle.trip.specs.declared.Party.{Party}
 use Rattle.trip.specs.declared.Offered.the-variants.{Good}
-use Rattle.trip.specs.Record.{countAt, partyAt, stopNumber}
+use Rattle.trip.specs.Record.{countAt, classAt, levelAt, partyAt, stopNumber}
 use Rattle.trip.specs.Trips.{readTrip}
 use Rattle.fare.specs.declared.Ride.{Ride}
 use Rattle.fare.specs.Distance.{apart, LeastKm}
@@ -79,14 +79,14 @@ pub data NoTrip (trip : List ℕ) : Type 0 where
   other-body : (kind body : ℕ) → frameAt trip 0 ≡ Whole kind body → (body ≡ 18 + 2 * countAt trip 0 → ⊥) → NoTrip trip
 
 -- 6: class not 1 or 2, level above 5, adults, children or bicycles above 10, n not 2..32
-pub data WrongParty (party : Party) (n : ℕ) : Type 0 where
-  no-class : (party .class ≡ 1 → ⊥) → (party .class ≡ 2 → ⊥) → WrongParty party n
-  high-level : 5 < party .level → WrongParty party n
-  many-adults : 10 < party .adults → WrongParty party n
-  many-children : 10 < party .children → WrongParty party n
-  many-bicycles : 10 < party .bicycles → WrongParty party n
-  few-stops : n < 2 → WrongParty party n
-  many-stops : 32 < n → WrongParty party n
+pub data WrongParty (class level : ℕ) (party : Party) (n : ℕ) : Type 0 where
+  no-class : (class ≡ 1 → ⊥) → (class ≡ 2 → ⊥) → WrongParty class level party n
+  high-level : 5 < level → WrongParty class level party n
+  many-adults : 10 < party .adults → WrongParty class level party n
+  many-children : 10 < party .children → WrongParty class level party n
+  many-bicycles : 10 < party .bicycles → WrongParty class level party n
+  few-stops : n < 2 → WrongParty class level party n
+  many-stops : 32 < n → WrongParty class level party n
 
 -- 7: a stop number the tariff lacks; it has those below `known`
 pub record LackingStop (trip : List ℕ) (known : ℕ) : Type 0 where
@@ -117,7 +117,7 @@ condition tariff book trip room n =
     (cond (eqb n 3) (FirstFaulty tariff (WrongValue tariff))
     (cond (eqb n 4) (sound book (countsOf tariff .areas) ≡ false)
     (cond (eqb n 5) (NoTrip trip)
-    (cond (eqb n 6) (WrongParty (partyAt trip 0) (countAt trip 0))
+    (cond (eqb n 6) (WrongParty (classAt trip 0) (levelAt trip 0) (partyAt trip 0) (countAt trip 0))
     (cond (eqb n 7) (LackingStop trip (countsOf tariff .stops))
     (cond (eqb n 8) (WrongStamp trip)
     (cond (eqb n 9) (WrongOrder trip)

@@ -50,7 +50,7 @@ entryOf tariff counts rider bytes trip entry =
     let ride = rideOf tariff (counts .areas) bytes trip in
     record {
       area = ride .area;
-      class = trip .party .class;
+      class = trip .class;
       price = priceOf (areaAt tariff (ride .area)) ride (isChild rider);
       charge = getLe 4 entry (13 + 4 * placeOf (trip .party) rider);
     }

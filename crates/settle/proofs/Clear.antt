@@ -39,8 +39,8 @@ module _ (tariff : List ℕ) (counts : Counts) (book bytes : List ℕ) (trip : T
   fields : GoodTrip bytes (counts .stops) trip
   fields = good bytes (counts .stops) trip (clear .good)
 
-  ranges : PartyRanges (trip .party) (trip .stops)
-  ranges = party-ranges (trip .party) (trip .stops) (fields .right)
+  ranges : PartyRanges (trip .class) (trip .level) (trip .party) (trip .stops)
+  ranges = party-ranges (trip .class) (trip .level) (trip .party) (trip .stops) (fields .right)
 
   times : Times (trip .checkin .0) (trip .checkout .0)
   times = good-times bytes (counts .stops) trip fields

@@ -16,7 +16,7 @@ use Rattle.trip.specs.declared.Moment.the-variants.{At, NoMoment}
 use Rattle.trip.specs.declared.Trip.{Trip}
 use Rattle.trip.specs.declared.Offered.{Offered}
 use Rattle.trip.specs.declared.Offered.the-variants.{Good, BadRecord, BadParty, UnknownStop, BadStamp, BadOrder}
-use Rattle.trip.specs.Record.{tripSize, shapeAt, partyAt, partyRight, stopNumber}
+use Rattle.trip.specs.Record.{tripSize, shapeAt, classAt, levelAt, partyAt, partyRight, stopNumber}
 use Rattle.trip.specs.Moments.{momentAt, inOrder}
 use Rattle.trip.specs.Trips.{stopsKnown, tripOf, readTrip}
 use Rattle.trip.proofs.Shapes.{TripAt, NoTripAt, trip-at, trip-given, no-trip, no-trip-given}
@@ -29,8 +29,10 @@ use Rattle.trip.proofs.Ways.{no-checkin, no-checkout, two-moments, no-r
 pub record GoodTrip (b : List ℕ) (known : ℕ) (t : Trip) : Type 0 where
   pub shape : shapeAt b 0 ≡ Stops (t .stops)
   pub size : tripSize (t .stops) ≡ length b
+  pub class-is : t .class ≡ classAt b 0
+  pub level-is : t .level ≡ levelAt b 0
   pub party-is : t .party ≡ partyAt b 0
-  pub right : partyRight (t .party) (t .stops) ≡ true
+  pub right : partyRight (t .class) (t .level) (t .party) (t .stops) ≡ true
   pub known-stops : stopsKnown b (t .stops) known ≡ true
   pub checkin : momentAt b 4 ≡ At (t .checkin)
   pub checkout : momentAt b 10 ≡ At (t .checkout)
@@ -56,12 +58,12 @@ pub record Filled (b : List ℕ) (n : ℕ) : Type 0 where
 pub record WrongParty (b : List ℕ) : Type 0 where
   pub n : ℕ
   pub filled : Filled b n
-  pub wrong : PartyRanges (partyAt b 0) n → ⊥
+  pub wrong : PartyRanges (classAt b 0) (levelAt b 0) (partyAt b 0) n → ⊥
 
 -- 6 is clear too.
 pub record RightParty (b : List ℕ) (n : ℕ) : Type 0 where
   pub filled : Filled b n
-  pub right : partyRight (partyAt b 0) n ≡ true
+  pub right : partyRight (classAt b 0) (levelAt b 0) (partyAt b 0) n ≡ true
 
 -- 7: a stop number the tariff lacks.
 pub record LackingStop (b : List ℕ) (known : ℕ) : Type 0 where
@@ -103,18 +105,20 @@ data Means (b : List ℕ) (known : ℕ) : Offered → Type 0 where
 
 module _ (b : List ℕ) (known : ℕ) where
   -- past the refusals 5 to 7 the two stamps decide
-  times : (n : ℕ) → KnownStops b known n → readTrip b known ≡ tripOf b (partyAt b 0) n
+  times : (n : ℕ) → KnownStops b known n → readTrip b known ≡ tripOf b (classAt b 0) (levelAt b 0) (partyAt b 0) n
   times n k = stops-there b known n (k .party .filled .shape) (k .party .filled .size) (k .party .right) (k .known-stops)
 
   -- past the refusal 8 their order does
   ordered : (n : ℕ) (from to : Minutes) → KnownStops b known n → momentAt b 4 ≡ At from → momentAt b 10 ≡ At to
-      → (t : Bool) → inOrder (from .0) (to .0) ≡ t → Means b known (tripOf b (partyAt b 0) n)
+      → (t : Bool) → inOrder (from .0) (to .0) ≡ t → Means b known (tripOf b (classAt b 0) (levelAt b 0) (partyAt b 0) n)
   ordered n from to k in-is out-is true e =
-      rw (two-moments b (partyAt b 0) n from to in-is out-is e)
+      rw (two-moments b (classAt b 0) (levelAt b 0) (partyAt b 0) n from to in-is out-is e)
       (clear
       (record {
         shape = k .party .filled .shape;
         size = k .party .filled .size;
+        class-is = refl;
+        level-is = refl;
         party-is = refl;
         right = k .party .right;
         known-stops = k .known-stops;
@@ -123,7 +127,7 @@ module _ (b : List ℕ) (known : ℕ) where
         ordered = e;
       }))
   ordered n from to k in-is out-is false e =
-      rw (two-moments b (partyAt b 0) n from to in-is out-is e)
+      rw (two-moments b (classAt b 0) (levelAt b 0) (partyAt b 0) n from to in-is out-is e)
       (nine
       (record {
         n = n;
@@ -136,11 +140,11 @@ module _ (b : List ℕ) (known : ℕ) where
       }))
 
   timed : (n : ℕ) → KnownStops b known n → (from to : Moment) → momentAt b 4 ≡ from → momentAt b 10 ≡ to
-      → Means b known (tripOf b (partyAt b 0) n)
+      → Means b known (tripOf b (classAt b 0) (levelAt b 0) (partyAt b 0) n)
   timed n k NoMoment to in-is out-is =
-      rw (no-checkin b (partyAt b 0) n in-is) (eight (record { n = n; stops = k; wrong = inl (no-moment b 4 in-is) }))
+      rw (no-checkin b (classAt b 0) (levelAt b 0) (partyAt b 0) n in-is) (eight (record { n = n; stops = k; wrong = inl (no-moment b 4 in-is) }))
   timed n k (At from) NoMoment in-is out-is =
-      rw (no-checkout b (partyAt b 0) n from in-is out-is) (eight (record { n = n; stops = k; wrong = inr (no-moment b 10 out-is) }))
+      rw (no-checkout b (classAt b 0) (levelAt b 0) (partyAt b 0) n from in-is out-is) (eight (record { n = n; stops = k; wrong = inr (no-moment b 10 out-is) }))
   timed n k (At from) (At to) in-is out-is = ordered n from to k in-is out-is (inOrder (from .0) (to .0)) refl
 
   stopped : (n : ℕ) → RightParty b n → (t : Bool) → stopsKnown b n known ≡ t → Means b known (readTrip b known)
@@ -152,16 +156,16 @@ module _ (b : List ℕ) (known : ℕ) where
       rw (stop-lacking b known n (p .filled .shape) (p .filled .size) (p .right) e)
       (seven (record { n = n; party = p; i = one .0; within = one .1; lacking = one .2 }))
 
-  partied : (n : ℕ) → Filled b n → (t : Bool) → partyRight (partyAt b 0) n ≡ t → Means b known (readTrip b known)
+  partied : (n : ℕ) → Filled b n → (t : Bool) → partyRight (classAt b 0) (levelAt b 0) (partyAt b 0) n ≡ t → Means b known (readTrip b known)
   partied n f true e = stopped n (record { filled = f; right = e }) (stopsKnown b n known) refl
   partied n f false e =
-      rw (wrong-party b known n (f .shape) (f .size) e) (six (record { n = n; filled = f; wrong = party-wrong (partyAt b 0) n .0 e }))
+      rw (wrong-party b known n (f .shape) (f .size) e) (six (record { n = n; filled = f; wrong = party-wrong (classAt b 0) (levelAt b 0) (partyAt b 0) n .0 e }))
 
   means : (s : Shape) → shapeAt b 0 ≡ s → Means b known (readTrip b known)
   means NoTrip e = rw (no-record b known e) (five (none (no-trip b 0 e)))
   means (Stops n) e =
       elim (ℕ-discrete (tripSize n) (length b)) [
-        | yes size ↦ partied n (record { shape = e; size = size }) (partyRight (partyAt b 0) n) refl
+        | yes size ↦ partied n (record { shape = e; size = size }) (partyRight (classAt b 0) (levelAt b 0) (partyAt b 0) n) refl
         | no other ↦ rw (unfilled b known n e other) (five (not-filling n (trip-at b 0 n e) other))
       ]
 
@@ -174,9 +178,9 @@ module _ (b : List ℕ) (known : ℕ) where
 
   pub good-back : (t : Trip) → GoodTrip b known t → readTrip b known ≡ Good t
   good-back t g =
-      stops-there b known (t .stops) (g .shape) (g .size) (rw (g .party-is) at (g .right)) (g .known-stops)
-      ∙ two-moments b (partyAt b 0) (t .stops) (t .checkin) (t .checkout) (g .checkin) (g .checkout) (g .ordered)
-      ∙ rw (← g .party-is)
+      stops-there b known (t .stops) (g .shape) (g .size) (rw (g .class-is, g .level-is, g .party-is) at (g .right)) (g .known-stops)
+      ∙ two-moments b (classAt b 0) (levelAt b 0) (partyAt b 0) (t .stops) (t .checkin) (t .checkout) (g .checkin) (g .checkout) (g .ordered)
+      ∙ rw (← g .class-is, ← g .level-is, ← g .party-is)
 
   pub good-times : (t : Trip) → GoodTrip b known t → Times (t .checkin .0) (t .checkout .0)
   good-times t g =
@@ -194,7 +198,7 @@ module _ (b : List ℕ) (known : ℕ) where
   pub bad-party : readTrip b known ≡ BadParty ↔ WrongParty b
   bad-party = (
     λ e. elim (given e) [ six facts ↦ facts ],
-    λ w. wrong-party b known (w .n) (w .filled .shape) (w .filled .size) (party-wrong (partyAt b 0) (w .n) .1 (w .wrong)),
+    λ w. wrong-party b known (w .n) (w .filled .shape) (w .filled .size) (party-wrong (classAt b 0) (levelAt b 0) (partyAt b 0) (w .n) .1 (w .wrong)),
   )
 
   pub unknown-stop : readTrip b known ≡ UnknownStop ↔ LackingStop b known
@@ -209,16 +213,16 @@ module _ (b : List ℕ) (known : ℕ) where
   bad-stamp = (λ e. elim (given e) [ eight facts ↦ facts ], λ w. times (w .n) (w .stops) ∙ back (w .n) (momentAt b 4) refl (w .wrong))
     where
       back : (n : ℕ) (from : Moment) → momentAt b 4 ≡ from → (isStamp (stampAt b 4) ≡ false) ⊎ (isStamp (stampAt b 10) ≡ false)
-          → tripOf b (partyAt b 0) n ≡ BadStamp
-      back n from in-is (inl e) = no-checkin b (partyAt b 0) n (no-moment-given b 4 e)
-      back n NoMoment in-is (inr e) = no-checkin b (partyAt b 0) n in-is
-      back n (At from) in-is (inr e) = no-checkout b (partyAt b 0) n from in-is (no-moment-given b 10 e)
+          → tripOf b (classAt b 0) (levelAt b 0) (partyAt b 0) n ≡ BadStamp
+      back n from in-is (inl e) = no-checkin b (classAt b 0) (levelAt b 0) (partyAt b 0) n (no-moment-given b 4 e)
+      back n NoMoment in-is (inr e) = no-checkin b (classAt b 0) (levelAt b 0) (partyAt b 0) n in-is
+      back n (At from) in-is (inr e) = no-checkout b (classAt b 0) (levelAt b 0) (partyAt b 0) n from in-is (no-moment-given b 10 e)
 
   pub bad-order : readTrip b known ≡ BadOrder ↔ WrongOrder b known
   bad-order = (
     λ e. elim (given e) [ nine facts ↦ facts ],
     λ w.
         times (w .n) (w .stops)
-        ∙ two-moments b (partyAt b 0) (w .n) (w .from) (w .to) (moment-given b 4 (w .from) (w .checkin)) (moment-given b 10 (w .to) (w .checkout))
+        ∙ two-moments b (classAt b 0) (levelAt b 0) (partyAt b 0) (w .n) (w .from) (w .to) (moment-given b 4 (w .from) (w .checkin)) (moment-given b 10 (w .to) (w .checkout))
         (out-of-order (w .from .0) (w .to .0) .1 (w .wrong)),
   )

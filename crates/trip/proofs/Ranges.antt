@@ -14,21 +14,21 @@ use Rattle.trip.specs.Record.{partyRight}
 use Rattle.trip.specs.Moments.{inOrder}
 
 -- Class 1 or 2, level at most 5, adults, children and bicycles at most 10, n 2..32.
-pub record PartyRanges (p : Party) (n : ℕ) : Type 0 where
-  pub class-is : (p .class ≡ 1) ⊎ (p .class ≡ 2)
-  pub level : p .level ≤ 5
+pub record PartyRanges (class level : ℕ) (p : Party) (n : ℕ) : Type 0 where
+  pub class-is : (class ≡ 1) ⊎ (class ≡ 2)
+  pub level-most : level ≤ 5
   pub adults : p .adults ≤ 10
   pub children : p .children ≤ 10
   pub bicycles : p .bicycles ≤ 10
   pub least : 2 ≤ n
   pub most : n ≤ 32
 
-pub party-ranges : (p : Party) (n : ℕ) → partyRight p n ≡ true → PartyRanges p n
+pub party-ranges : (class level : ℕ) (p : Party) (n : ℕ) → partyRight class level p n ≡ true → PartyRanges class level p n
 unfolding partyRight
-party-ranges p n e =
+party-ranges class level p n e =
     record {
-      class-is = one-of (eqb (p .class) 1) (eqb (p .class) 2) (search told depth 9) (λ t. inl (eqb-true _ _ t)) (λ t. inr (eqb-true _ _ t));
-      level = search told depth 9;
+      class-is = one-of (eqb class 1) (eqb class 2) (search told depth 9) (λ t. inl (eqb-true _ _ t)) (λ t. inr (eqb-true _ _ t));
+      level-most = search told depth 9;
       adults = search told depth 9;
       children = search told depth 9;
       bicycles = search told depth 9;
@@ -36,12 +36,12 @@ party-ranges p n e =
       most = search told depth 9;
     }
 
-pub ranges-right : (p : Party) (n : ℕ) → PartyRanges p n → partyRight p n ≡ true
+pub ranges-right : (class level : ℕ) (p : Party) (n : ℕ) → PartyRanges class level p n → partyRight class level p n ≡ true
 unfolding partyRight
-ranges-right p n r =
+ranges-right class level p n r =
     rw (
       classes (r .class-is),
-      le-leb (p .level) 5 (r .level),
+      le-leb level 5 (r .level-most),
       le-leb (p .adults) 10 (r .adults),
       le-leb (p .children) 10 (r .children),
       le-leb (p .bicycles) 10 (r .bicycles),
@@ -49,16 +49,16 @@ ranges-right p n r =
       le-leb n 32 (r .most),
     )
   where
-    classes : (p .class ≡ 1) ⊎ (p .class ≡ 2) → eqb (p .class) 1 || eqb (p .class) 2 ≡ true
+    classes : (class ≡ 1) ⊎ (class ≡ 2) → eqb class 1 || eqb class 2 ≡ true
     classes (inl e) = rw e
     classes (inr e) = rw e
 
 -- The test fails exactly when one of them is out of its range.
-pub party-wrong : (p : Party) (n : ℕ) → partyRight p n ≡ false ↔ (PartyRanges p n → ⊥)
-party-wrong p n = (λ e r. false≢true (sym e ∙ ranges-right p n r), go (partyRight p n) refl)
+pub party-wrong : (class level : ℕ) (p : Party) (n : ℕ) → partyRight class level p n ≡ false ↔ (PartyRanges class level p n → ⊥)
+party-wrong class level p n = (λ e r. false≢true (sym e ∙ ranges-right class level p n r), go (partyRight class level p n) refl)
   where
-    go : (t : Bool) → partyRight p n ≡ t → (PartyRanges p n → ⊥) → partyRight p n ≡ false
-    go true e never = absurd (never (party-ranges p n e))
+    go : (t : Bool) → partyRight class level p n ≡ t → (PartyRanges class level p n → ⊥) → partyRight class level p n ≡ false
+    go true e never = absurd (never (party-ranges class level p n e))
     go false e never = e
 
 -- Check-out is not before check-in, nor over 1,440 minutes after it.

@@ -11,22 +11,22 @@ use Rattle.trip.specs.declared.Shape.the-variants.{Stops, NoTrip}
 use Rattle.trip.specs.declared.Moment.the-variants.{At, NoMoment}
 use Rattle.trip.specs.declared.Party.{Party}
 use Rattle.trip.specs.declared.Offered.the-variants.{Good, BadRecord, BadParty, UnknownStop, BadStamp, BadOrder}
-use Rattle.trip.specs.Record.{tripSize, shapeAt, partyAt, partyRight}
+use Rattle.trip.specs.Record.{tripSize, shapeAt, classAt, levelAt, partyAt, partyRight}
 use Rattle.trip.specs.Moments.{momentAt, inOrder}
 use Rattle.trip.specs.Trips.{stopsKnown, tripOf, readTrip}
 
-module _ (b : List ℕ) (p : Party) (n : ℕ) where
-  pub no-checkin : momentAt b 4 ≡ NoMoment → tripOf b p n ≡ BadStamp
+module _ (b : List ℕ) (class level : ℕ) (p : Party) (n : ℕ) where
+  pub no-checkin : momentAt b 4 ≡ NoMoment → tripOf b class level p n ≡ BadStamp
   unfolding tripOf
   no-checkin from-is = rw (from-is, tripOf)
 
-  pub no-checkout : (from : Minutes) → momentAt b 4 ≡ At from → momentAt b 10 ≡ NoMoment → tripOf b p n ≡ BadStamp
+  pub no-checkout : (from : Minutes) → momentAt b 4 ≡ At from → momentAt b 10 ≡ NoMoment → tripOf b class level p n ≡ BadStamp
   unfolding tripOf
   no-checkout from from-is to-is = rw (from-is, tripOf, to-is)
 
   pub two-moments :
       (from to : Minutes) {t : Bool} → momentAt b 4 ≡ At from → momentAt b 10 ≡ At to → inOrder (from .0) (to .0) ≡ t
-      → tripOf b p n ≡ cond t (Good (record { checkin = from; checkout = to; party = p; stops = n })) BadOrder
+      → tripOf b class level p n ≡ cond t (Good (record { checkin = from; checkout = to; class = class; level = level; party = p; stops = n })) BadOrder
   unfolding tripOf
   two-moments from to from-is to-is order = rw (from-is, tripOf, to-is, order)
 
@@ -40,18 +40,18 @@ module _ (b : List ℕ) (known : ℕ) where
   unfilled n shape size = rw (shape, readTrip, ne-eqb (tripSize n) (length b) size)
 
   pub wrong-party :
-      (n : ℕ) → shapeAt b 0 ≡ Stops n → tripSize n ≡ length b → partyRight (partyAt b 0) n ≡ false → readTrip b known ≡ BadParty
+      (n : ℕ) → shapeAt b 0 ≡ Stops n → tripSize n ≡ length b → partyRight (classAt b 0) (levelAt b 0) (partyAt b 0) n ≡ false → readTrip b known ≡ BadParty
   unfolding readTrip
   wrong-party n shape size party = rw (shape, readTrip, eq-eqb (tripSize n) (length b) size, party)
 
   pub stop-lacking :
-      (n : ℕ) → shapeAt b 0 ≡ Stops n → tripSize n ≡ length b → partyRight (partyAt b 0) n ≡ true → stopsKnown b n known ≡ false
+      (n : ℕ) → shapeAt b 0 ≡ Stops n → tripSize n ≡ length b → partyRight (classAt b 0) (levelAt b 0) (partyAt b 0) n ≡ true → stopsKnown b n known ≡ false
       → readTrip b known ≡ UnknownStop
   unfolding readTrip
   stop-lacking n shape size party stops = rw (shape, readTrip, eq-eqb (tripSize n) (length b) size, party, stops)
 
   pub stops-there :
-      (n : ℕ) → shapeAt b 0 ≡ Stops n → tripSize n ≡ length b → partyRight (partyAt b 0) n ≡ true → stopsKnown b n known ≡ true
-      → readTrip b known ≡ tripOf b (partyAt b 0) n
+      (n : ℕ) → shapeAt b 0 ≡ Stops n → tripSize n ≡ length b → partyRight (classAt b 0) (levelAt b 0) (partyAt b 0) n ≡ true → stopsKnown b n known ≡ true
+      → readTrip b known ≡ tripOf b (classAt b 0) (levelAt b 0) (partyAt b 0) n
   unfolding readTrip
   stops-there n shape size party stops = rw (shape, readTrip, eq-eqb (tripSize n) (length b) size, party, stops)

@@ -30,20 +30,24 @@ shapeAt b at =
           (cond (eqb body (18 + 2 * countAt b at)) (Stops (countAt b at)) NoTrip)
     ]
 
+abbrev pub classAt : List ℕ → ℕ → ℕ
+classAt b at = getLe 1 b (at + 16)
+
+abbrev pub levelAt : List ℕ → ℕ → ℕ
+levelAt b at = getLe 1 b (at + 17)
+
 unfoldable pub partyAt : List ℕ → ℕ → Party
 partyAt b at =
     record {
-      class = getLe 1 b (at + 16);
-      level = getLe 1 b (at + 17);
       adults = getLe 1 b (at + 18);
       children = getLe 1 b (at + 19);
       bicycles = getLe 1 b (at + 20);
     }
 
 -- class 1 or 2, level at most 5, adults, children and bicycles at most 10, n 2..32
-unfoldable pub partyRight : Party → ℕ → Bool
-partyRight p n =
-    (eqb (p .class) 1 || eqb (p .class) 2) && leb (p .level) 5 && leb (p .adults) 10 && leb (p .children) 10
+unfoldable pub partyRight : ℕ → ℕ → Party → ℕ → Bool
+partyRight class level p n =
+    (eqb class 1 || eqb class 2) && leb level 5 && leb (p .adults) 10 && leb (p .children) 10
     && leb (p .bicycles) 10 && leb 2 n && leb n 32
 
 -- the number of the record's stop i, counted from 0

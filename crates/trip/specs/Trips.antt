@@ -10,7 +10,7 @@ use Rattle.trip.specs.declared.Moment.the-variants.{At, NoMoment}
 use Rattle.trip.specs.declared.Party.{Party}
 use Rattle.trip.specs.declared.Offered.{Offered}
 use Rattle.trip.specs.declared.Offered.the-variants.{Good, BadRecord, BadParty, UnknownStop, BadStamp, BadOrder}
-use Rattle.trip.specs.Record.{tripSize, shapeAt, partyAt, partyRight, stopNumber}
+use Rattle.trip.specs.Record.{tripSize, shapeAt, classAt, levelAt, partyAt, partyRight, stopNumber}
 use Rattle.trip.specs.Moments.{momentAt, inOrder}
 
 -- each of the trip's stops is one of the tariff's, which are numbered below `known`
@@ -18,15 +18,15 @@ unfoldable pub stopsKnown : List ℕ → ℕ → ℕ → Bool
 stopsKnown b stops known = each stops (λ i. ltb (stopNumber b i) known)
 
 -- 8: a stamp that is no date 2000..2099 or no clock time; 9: check-out before check-in, or over 1,440 minutes after it
-unfoldable pub tripOf : List ℕ → Party → ℕ → Offered
-tripOf b p n =
+unfoldable pub tripOf : List ℕ → ℕ → ℕ → Party → ℕ → Offered
+tripOf b class level p n =
     elim (momentAt b 4) [
       | NoMoment ↦ BadStamp
       | At from ↦
           elim (momentAt b 10) [
             | NoMoment ↦ BadStamp
             | At to ↦
-                cond (inOrder (from .0) (to .0)) (Good (record { checkin = from; checkout = to; party = p; stops = n })) BadOrder
+                cond (inOrder (from .0) (to .0)) (Good (record { checkin = from; checkout = to; class = class; level = level; party = p; stops = n })) BadOrder
           ]
     ]
 
@@ -39,9 +39,9 @@ readTrip b known =
       | NoTrip ↦ BadRecord
       | Stops n ↦
           cond (not (eqb (tripSize n) (length b))) BadRecord
-          (cond (not (partyRight (partyAt b 0) n)) BadParty
+          (cond (not (partyRight (classAt b 0) (levelAt b 0) (partyAt b 0) n)) BadParty
           (cond (not (stopsKnown b n known)) UnknownStop
-          (tripOf b (partyAt b 0) n)))
+          (tripOf b (classAt b 0) (levelAt b 0) (partyAt b 0) n)))
     ]
 
 -- the paper's number for each case; 0 where there is none

@@ -24,12 +24,14 @@ const CHECK_IN: usize = 4;
 
 const CHECK_OUT: usize = CHECK_IN + Stamp::SIZE;
 
-const PARTY: usize = CHECK_OUT + Stamp::SIZE;
+const CLASS: usize = CHECK_OUT + Stamp::SIZE;
 
-// Who rides, and how: the class, the ticket level, and those carried.
+const LEVEL: usize = CLASS + 1;
+
+const PARTY: usize = LEVEL + 1;
+
+// Those whom the account holder carries.
 pub struct Party {
-    pub class: u8,
-    pub level: u8,
     pub adults: u8,
     pub children: u8,
     pub bicycles: u8,
@@ -38,6 +40,8 @@ pub struct Party {
 pub struct Trip {
     pub checkin: Minutes,
     pub checkout: Minutes,
+    pub class: u8,
+    pub level: u8,
     pub party: Party,
     pub stops: usize,
 }
@@ -95,19 +99,17 @@ fn party_at(b: &[u8], at: usize) -> Party
 {
     let from = at + PARTY;
     Party {
-        class: one_at(b, from),
-        level: one_at(b, from + 1),
-        adults: one_at(b, from + 2),
-        children: one_at(b, from + 3),
-        bicycles: one_at(b, from + 4),
+        adults: one_at(b, from),
+        children: one_at(b, from + 1),
+        bicycles: one_at(b, from + 2),
     }
 }
 
-fn party_right(p: Party, stops: usize) -> bool
-    ensures { λ r. ⌜ r ≡ partyRight p stops ⌝ }
+fn party_right(class: u8, level: u8, p: Party, stops: usize) -> bool
+    ensures { λ r. ⌜ r ≡ partyRight class level p stops ⌝ }
 {
-    ((p.class == 1) | (p.class == 2))
-        & is_level(p.level)
+    ((class == 1) | (class == 2))
+        & is_level(level)
         & (p.adults <= 10)
         & (p.children <= 10)
         & (p.bicycles <= 10)
@@ -162,9 +164,9 @@ fn in_order(checkin: Minutes, checkout: Minutes) -> bool
 }
 
 // The refusals 8 and 9, or the trip.
-fn trip_of(trip: &[u8], party: Party, stops: usize) -> Offered
+fn trip_of(trip: &[u8], class: u8, level: u8, party: Party, stops: usize) -> Offered
     requires { ⌜ 22 ≤ length (now trip) ⌝ }
-    ensures { λ r. ⌜ r ≡ tripOf (now (trip .entry)) party stops ⌝ }
+    ensures { λ r. ⌜ r ≡ tripOf (now (trip .entry)) class level party stops ⌝ }
 {
     let Moment::At(checkin) = moment_at(trip, CHECK_IN) else {
         return Offered::BadStamp;
@@ -176,6 +178,8 @@ fn trip_of(trip: &[u8], party: Party, stops: usize) -> Offered
         Offered::Good(Trip {
             checkin,
             checkout,
+            class,
+            level,
             party,
             stops,
         })
@@ -194,12 +198,14 @@ pub fn read_trip(trip: &[u8], known: usize) -> Offered
     if FIXED + 2 * stops != trip.len() {
         return Offered::BadRecord;
     }
+    let class = one_at(trip, CLASS);
+    let level = one_at(trip, LEVEL);
     let party = party_at(trip, 0);
-    if !party_right(party, stops) {
+    if !party_right(class, level, party, stops) {
         return Offered::BadParty;
     }
     if !stops_known(trip, stops, known) {
         return Offered::UnknownStop;
     }
-    trip_of(trip, party, stops)
+    trip_of(trip, class, level, party, stops)
 }

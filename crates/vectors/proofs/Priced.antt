@@ -21,7 +21,7 @@ pub rides : (tariff : List ℕ) (counts : Counts) (bytes : List ℕ) (trip : Tri
     → readTrip bytes (counts .stops) ≡ Good trip → Riding tariff counts bytes (trip .stops) × InOrder trip
 rides tariff counts bytes trip read is =
     let fields = good bytes (counts .stops) trip is in
-    let ranges = party-ranges (trip .party) (trip .stops) (fields .right) in
+    let ranges = party-ranges (trip .class) (trip .level) (trip .party) (trip .stops) (fields .right) in
     (record { read = read; known = fields .known-stops; fits = le-of-eq (fields .size) }, record { two = ranges .least; most = ranges .most; times = fields .ordered })
 
 pub priceable : (tariff : List ℕ) (counts : Counts) (bytes : List ℕ) (trip : Trip) (ride : Ride) (area : Area) → Read tariff counts

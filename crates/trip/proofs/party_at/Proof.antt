@@ -24,27 +24,13 @@ add-one-at-2 c = search needs
 one-at-requires-3 : tie.Need-one-at-requires-3
 one-at-requires-3 c κs = search needs
 
-add-one-at-3 : tie.Need-add-one-at-3
-add-one-at-3 c = search needs
-
-one-at-requires-4 : tie.Need-one-at-requires-4
-one-at-requires-4 c κs = search needs
-
-add-one-at-4 : tie.Need-add-one-at-4
-add-one-at-4 c = search needs
-
-one-at-requires-5 : tie.Need-one-at-requires-5
-one-at-requires-5 c κs = search needs
-
 returns : tie.Need-returns
 unfolding partyAt
 returns c =
     simp (
-      c .before .before .before .before .one-at .ensures .value,
-      c .before .before .before .one-at2 .ensures .value,
-      c .before .before .one-at3 .ensures .value,
-      c .before .one-at4 .ensures .value,
-      c .one-at5 .ensures .value,
+      c .before .before .one-at .ensures .value,
+      c .before .one-at2 .ensures .value,
+      c .one-at3 .ensures .value,
       add-assoc,
     )
 
@@ -58,8 +44,4 @@ party-at-spec =
     one-at-requires-2
     add-one-at-2
     one-at-requires-3
-    add-one-at-3
-    one-at-requires-4
-    add-one-at-4
-    one-at-requires-5
     returns)

@@ -5,7 +5,7 @@ use native.Mathlib.Omega.{arith}
 use mathlib.Core.Path.{_≡_, sym, _∙_}
 use borrow.Author.Needs.{needs}
 use borrow.Author.Tests.{not-true, not-false}
-use Rattle.trip.specs.Record.{shapeAt, partyAt, partyRight}
+use Rattle.trip.specs.Record.{shapeAt, classAt, levelAt, partyAt, partyRight}
 use Rattle.trip.specs.declared.Shape.the-variants.{Stops}
 use Rattle.trip.proofs.Shapes.{trip-at}
 use Rattle.trip.proofs.Ways.{no-record, unfilled, wrong-party, stop-lacking, stops-there}
@@ -37,6 +37,12 @@ add-if1 c = omega (arith, trip-at _ _ _ (shape (c .before)))
 returns-2 : tie.Need-returns-2
 returns-2 c = sym (unfilled _ _ _ (shape (c .before .before)) (λ same. omega arith))
 
+one-at-requires : tie.Need-one-at-requires
+one-at-requires c κs = search needs
+
+one-at-requires-2 : tie.Need-one-at-requires-2
+one-at-requires-2 c κs = search needs
+
 party-at-requires : tie.Need-party-at-requires
 party-at-requires c κs = search needs
 
@@ -46,15 +52,17 @@ party-right-requires c κs = search needs
 -- what the two calls answer, taken together
 right :
     (c : tie.After-party-right)
-    → partyRight (partyAt (c .before .before .before .before .before .before .before .before .args .trip .now) 0)
-    (c .before .before .before .before .stops .given .0 .0)
+    → let bytes = c .before .before .before .before .before .before .before .before .before .before .args .trip .now in
+    partyRight (classAt bytes 0) (levelAt bytes 0) (partyAt bytes 0) (c .before .before .before .before .before .before .stops .given .0 .0)
     ≡ c .party-right .result
-right c = rw (← c .before .party-at .ensures) (sym (c .party-right .ensures))
+right c =
+    rw (← c .before .party-at .ensures, ← c .before .before .one-at2 .ensures .value, ← c .before .before .before .one-at .ensures .value)
+    (sym (c .party-right .ensures))
 
 returns-3 : tie.Need-returns-3
 returns-3 c =
     sym
-    (wrong-party _ _ _ (shape (c .before .before .before .before .before)) (omega arith) (right (c .before) ∙ not-true _ (c .if2 .taken)))
+    (wrong-party _ _ _ (shape (c .before .before .before .before .before .before .before)) (omega arith) (right (c .before) ∙ not-true _ (c .if2 .taken)))
 
 stops-known-requires : tie.Need-stops-known-requires
 stops-known-requires c κs = search needs
@@ -62,7 +70,7 @@ stops-known-requires c κs = search needs
 returns-4 : tie.Need-returns-4
 returns-4 c =
     sym
-    (stop-lacking _ _ _ (shape (c .before .before .before .before .before .before .before)) (omega arith)
+    (stop-lacking _ _ _ (shape (c .before .before .before .before .before .before .before .before .before)) (omega arith)
     (right (c .before .before .before) ∙ not-false _ (c .before .before .if2 .left))
     (sym (c .before .stops-known .ensures) ∙ not-true _ (c .if3 .taken)))
 
@@ -72,9 +80,13 @@ trip-of-requires c κs = search needs
 returns-5 : tie.Need-returns-5
 returns-5 c =
     c .trip-of .ensures
-    ∙ rw (c .before .before .before .before .before .party-at .ensures)
+    ∙ rw (
+      c .before .before .before .before .before .party-at .ensures,
+      c .before .before .before .before .before .before .one-at2 .ensures .value,
+      c .before .before .before .before .before .before .before .one-at .ensures .value,
+    )
     (sym
-    (stops-there _ _ _ (shape (c .before .before .before .before .before .before .before .before)) (omega arith)
+    (stops-there _ _ _ (shape (c .before .before .before .before .before .before .before .before .before .before)) (omega arith)
     (right (c .before .before .before .before) ∙ not-false _ (c .before .before .before .if2 .left))
     (sym (c .before .before .stops-known .ensures) ∙ not-false _ (c .before .if3 .left))))
 
@@ -89,6 +101,8 @@ read-trip-spec =
     mul-if1
     add-if1
     returns-2
+    one-at-requires
+    one-at-requires-2
     party-at-requires
     party-right-requires
     returns-3

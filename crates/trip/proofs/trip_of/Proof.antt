@@ -20,7 +20,7 @@ enum-told : tie.Need-enum-told
 enum-told c = search needs
 
 returns : tie.Need-returns
-returns c = sym (no-checkin _ _ _ (sym (c .before .before .moment-at .ensures) ∙ c .enum-told .given .1))
+returns c = sym (no-checkin _ _ _ _ _ (sym (c .before .before .moment-at .ensures) ∙ c .enum-told .given .1))
 
 -- the moments that the two matches have taken apart
 checkin : (c : tie.After-checkin) → momentAt (c .before .before .before .before .args .trip .now) 4 ≡ At (c .checkin .given .0 .0)
@@ -43,7 +43,7 @@ enum-told-2 c = search needs
 returns-2 : tie.Need-returns-2
 returns-2 c =
     sym
-    (no-checkout _ _ _ _ (checkin (c .before .before .before .before)) (sym (c .before .before .moment-at2 .ensures) ∙ c .enum-told2 .given .1))
+    (no-checkout _ _ _ _ _ _ (checkin (c .before .before .before .before)) (sym (c .before .before .moment-at2 .ensures) ∙ c .enum-told2 .given .1))
 
 in-order-requires : tie.Need-in-order-requires
 in-order-requires c κs = moment-range _ _ _ (checkin (c .before .before .before .before .before))
@@ -51,13 +51,13 @@ in-order-requires c κs = moment-range _ _ _ (checkin (c .before .before .before
 returns-3 : tie.Need-returns-3
 returns-3 c =
     sym
-    (two-moments _ _ _ _ _ (checkin (c .before .before .before .before .before .before .before)) (checkout (c .before .before .before))
+    (two-moments _ _ _ _ _ _ _ (checkin (c .before .before .before .before .before .before .before)) (checkout (c .before .before .before))
     (sym (c .before .in-order .ensures) ∙ c .if1 .taken))
 
 returns-4 : tie.Need-returns-4
 returns-4 c =
     sym
-    (two-moments _ _ _ _ _ (checkin (c .before .before .before .before .before .before .before)) (checkout (c .before .before .before))
+    (two-moments _ _ _ _ _ _ _ (checkin (c .before .before .before .before .before .before .before)) (checkout (c .before .before .before))
     (sym (c .before .in-order .ensures) ∙ c .if1 .left))
 
 pub trip-of-spec : {M : Type 1} → statement M

@@ -28,11 +28,11 @@ area-requires : tie.Need-area-requires Inv-loop μ-loop
 area-requires c κs = search needs
 
 price-requires : tie.Need-price-requires Inv-loop μ-loop
-price-requires c κs = rw (c .area .ensures) (priceable (c .before .before .before .before .before .before .pre .0))
+price-requires c κs = rw (c .area .ensures) (priceable (c .before .before .before .before .before .pre .0))
 
 chain-of-requires : tie.Need-chain-of-requires Inv-loop μ-loop
 chain-of-requires c κs =
-    let p = c .before .before .before .before .before .before .before .pre .0 in (p .read, p .area)
+    let p = c .before .before .before .before .before .before .pre .0 in (p .read, p .area)
 
 loop-holds : tie.Need-loop-holds Inv-loop μ-loop
 loop-holds c = filled-none _ _ _ _
@@ -43,7 +43,7 @@ add-charge c = omega arith
 charge-requires : tie.Need-charge-requires Inv-loop μ-loop
 charge-requires c κs =
     let s = c .before .before in
-    let p = s .before .before .before .before .before .before .before .before .pre in
+    let p = s .before .before .before .before .before .before .before .pre in
     (sound-has _ _ (p .0 .sound-book) .size, (omega (arith, p .1), s .chain-of .ensures .places))
 
 -- the places are those of a list, so their bytes are counted by 64 bits
@@ -51,16 +51,16 @@ room : (s : tie.After-slice-known Inv-loop μ-loop) → let a = s .before .befor
 room s = omega arith
 
 add-amounts : tie.Need-add-amounts Inv-loop μ-loop
-add-amounts c = omega (arith, room (c .before .before .before .before .before .before .before .before .before))
+add-amounts c = omega (arith, room (c .before .before .before .before .before .before .before .before))
 
 mul-amounts : tie.Need-mul-amounts Inv-loop μ-loop
-mul-amounts c = omega (arith, room (c .before .before .before .before .before .before .before .before .before))
+mul-amounts c = omega (arith, room (c .before .before .before .before .before .before .before .before))
 
 slice-write-amounts : tie.Need-slice-write-amounts Inv-loop μ-loop
-slice-write-amounts c = omega (arith, filled-size (c .before .before .before .loop .inv), c .before .before .before .before .before .before .before .before .before .before .before .before .pre .1 .1)
+slice-write-amounts c = omega (arith, filled-size (c .before .before .before .loop .inv), c .before .before .before .before .before .before .before .before .before .before .before .pre .1 .1)
 
 add-i : tie.Need-add-i Inv-loop μ-loop
-add-i c = omega (arith, room (c .before .before .before .before .before .before .before .before .before))
+add-i c = omega (arith, room (c .before .before .before .before .before .before .before .before))
 
 loop-less : tie.Need-loop-less Inv-loop μ-loop
 loop-less c = omega arith
@@ -75,7 +75,7 @@ same-length c = filled-size (c .before .loop .inv)
 returns-2 : tie.Need-returns-2 Inv-loop μ-loop
 returns-2 c =
     let s = c .before .before in
-    let first = s .before .before .before .before .before .before .before .before in
+    let first = s .before .before .before .before .before .before .before in
     let a = first .args in
     let p = first .pre .0 in
     let listed =

@@ -16,29 +16,29 @@ abbrev μ-loop : tie.MeasureT-loop
 μ-loop tariff counts book₀ first count amounts from class at i₀ book i = count - i
 
 loop-holds : tie.Need-loop-holds Inv-loop μ-loop
-loop-holds c = riders-start (c .before .before .before .before .pre .size) (c .before .before .before .before .pre .room)
+loop-holds c = riders-start (c .before .before .before .pre .size) (c .before .before .before .pre .room)
 
 add-amount : tie.Need-add-amount Inv-loop μ-loop
-add-amount c = omega (arith, c .before .before .before .before .before .before .pre .places)
+add-amount c = omega (arith, c .before .before .before .before .before .pre .places)
 
 mul-amount : tie.Need-mul-amount Inv-loop μ-loop
-mul-amount c = omega (arith, c .before .before .before .before .before .before .pre .places)
+mul-amount c = omega (arith, c .before .before .before .before .before .pre .places)
 
 shared-slice-read-amount : tie.Need-shared-slice-read-amount Inv-loop μ-loop
-shared-slice-read-amount c = omega (arith, c .before .before .before .before .before .before .before .pre .places)
+shared-slice-read-amount c = omega (arith, c .before .before .before .before .before .before .pre .places)
 
 add-add-up : tie.Need-add-add-up Inv-loop μ-loop
-add-add-up c = omega (arith, c .before .before .before .before .before .before .before .before .pre .riders)
+add-add-up c = omega (arith, c .before .before .before .before .before .before .before .pre .riders)
 
 add-up-requires : tie.Need-add-up-requires Inv-loop μ-loop
 add-up-requires c κs =
-    let p = c .before .before .before .before .before .before .before .before .pre in
+    let p = c .before .before .before .before .before .before .before .pre in
     let l = c .before .before .before .loop in
     let more = c .before .before .loop-test .taken in
     ((l .inv .size, omega (arith, p .riders)), ((p .read, p .area), (p .range (l .i) more, l .inv .room (l .i) (omega arith) more)))
 
 add-i : tie.Need-add-i Inv-loop μ-loop
-add-i c = let s = c .before .before .before .before .before in omega (arith, s .loop-test .taken, s .before .before .before .before .before .before .pre .places)
+add-i c = let s = c .before .before .before .before .before in omega (arith, s .loop-test .taken, s .before .before .before .before .before .pre .places)
 
 loop-less : tie.Need-loop-less Inv-loop μ-loop
 loop-less c = omega (arith, c .before .before .before .before .before .loop-test .taken)
@@ -46,12 +46,12 @@ loop-less c = omega (arith, c .before .before .before .before .before .loop-test
 loop-again : tie.Need-loop-again Inv-loop μ-loop
 loop-again c =
     let s = c .before .before .before .before .before in
-    let p = s .before .before .before .before .before .before .pre in
+    let p = s .before .before .before .before .before .pre in
     riders-turn (faultless _ _ (p .read)) (s .before .loop .inv) (s .loop-test .taken) (p .area) (p .riders)
     (c .before .before .add-up .ensures)
 
 same-length : tie.Need-same-length Inv-loop μ-loop
-same-length c = c .before .loop .inv .size ∙ sym (c .before .before .before .before .before .before .pre .size)
+same-length c = c .before .loop .inv .size ∙ sym (c .before .before .before .before .before .pre .size)
 
 returns : tie.Need-returns Inv-loop μ-loop
 returns c = riders-end _ (c .before .loop .inv) (c .loop-test .left)
