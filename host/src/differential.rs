@@ -6,7 +6,7 @@
 //! damaged cases in between ([`damage`]). What settles on the library's side gets slices beside protected pages
 //! ([`guarded`]), so that a byte touched outside them is seen.
 
-pub(crate) mod books;
+pub mod books;
 mod cases;
 mod chains;
 mod counts;
@@ -15,13 +15,13 @@ mod fields;
 mod guarded;
 mod kinds;
 mod options;
-pub(crate) mod random;
+pub mod random;
 mod report;
 mod run;
 mod signals;
 mod sweeps;
 mod tariffs;
-pub(crate) mod trips;
+pub mod trips;
 
 pub use options::{Options, USAGE};
 pub use run::{number_of, Difference, Settle};

@@ -6,13 +6,10 @@
 //! - [`answer`] takes the number that settling answers apart.
 //! - `library` (feature `library`) is settling by the library, in safe Rust.
 //! - [`differential`] compares the library with the model on many cases.
-//! - [`tuned`] is an implementation tuned for speed without `unsafe`, the yardstick of the benchmark.
-//! - `bench` (feature `library`) measures the library beside the model and the tuned implementation.
+//! - `stack` (feature `library`) paints the stack that a call of the library runs on.
 //! - `planted` (feature `planted`) holds copies of the model with an error in each, to show that the comparison finds it.
 
 pub mod answer;
-#[cfg(feature = "library")]
-pub mod bench;
 pub mod differential;
 #[cfg(feature = "library")]
 pub mod library;
@@ -21,4 +18,5 @@ pub mod model;
 pub mod numbers;
 #[cfg(feature = "planted")]
 pub mod planted;
-pub mod tuned;
+#[cfg(feature = "library")]
+pub mod stack;

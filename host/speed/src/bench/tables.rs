@@ -6,18 +6,16 @@ pub struct Table {
     rows: Vec<Vec<String>>,
 }
 
+/// What stands where nothing was measured.
+pub const NONE: &str = "–";
+
 impl Table {
-    pub fn of(head: &[&str]) -> Table {
-        Table { rows: vec![head.iter().map(|cell| cell.to_string()).collect()] }
+    pub fn of<C: Into<String>>(head: impl IntoIterator<Item = C>) -> Table {
+        Table { rows: vec![head.into_iter().map(C::into).collect()] }
     }
 
     pub fn row(&mut self, cells: impl IntoIterator<Item = String>) {
         self.rows.push(cells.into_iter().collect());
-    }
-
-    /// Changes a cell; rows are counted from 0 below the head.
-    pub fn set(&mut self, row: usize, column: usize, cell: String) {
-        self.rows[1 + row][column] = cell;
     }
 }
 
@@ -155,9 +153,8 @@ mod tests {
 
     #[test]
     fn tables() {
-        let mut table = Table::of(&["case", "ns"]);
-        table.row(["one".to_string(), "7".to_string()]);
-        table.set(0, 1, "8".to_string());
+        let mut table = Table::of(["case", "ns"]);
+        table.row(["one".to_string(), "8".to_string()]);
         assert_eq!(table.to_string(), "| case | ns |\n|---|---:|\n| one | 8 |\n");
     }
 }

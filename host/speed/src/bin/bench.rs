@@ -1,6 +1,6 @@
 //! Measures the proved library beside two implementations in Rust. `host/benchmark` builds all that it needs.
 
-use milecopper_host::bench::run;
+use milecopper_speed::bench::run;
 use std::env;
 use std::process::ExitCode;
 

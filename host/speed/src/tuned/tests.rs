@@ -3,8 +3,8 @@
 use super::calendar::minutes_of;
 use super::fare::started_kilometres;
 use super::line::{Line, ROOM};
-use crate::model::clock::Stamp;
-use crate::model::record::Fields;
+use milecopper_host::model::clock::Stamp;
+use milecopper_host::model::record::Fields;
 
 #[test]
 fn kilometres_at_every_edge() {

@@ -2,14 +2,15 @@
 
 use milecopper_host::differential::{compare, number_of, Options};
 use milecopper_host::maker::bytes_of;
+use milecopper_host::model;
 use milecopper_host::model::book::BOOK_BYTES;
 use milecopper_host::model::roll::settle_roll;
-use milecopper_host::{model, tuned};
+use milecopper_speed::tuned;
 use std::io::{self, Read};
 
-const TARIFF: &[u8] = include_bytes!("../../samples/tariff.bin");
-const ROLL: &[u8] = include_bytes!("../../samples/roll.bin");
-const PAPER_ROLL: &[u8] = include_bytes!("../../samples/paper-roll.bin");
+const TARIFF: &[u8] = include_bytes!("../../../samples/tariff.bin");
+const ROLL: &[u8] = include_bytes!("../../../samples/roll.bin");
+const PAPER_ROLL: &[u8] = include_bytes!("../../../samples/paper-roll.bin");
 
 #[test]
 fn it_settles_as_the_model_does() {

@@ -6,8 +6,8 @@
 use super::cases::Case;
 use super::machine::{tell_callgrind, Word};
 use super::room::Room;
-use super::sides::{nothing, PerSide, SIDES};
-use crate::differential::Settle;
+use super::sides::{nothing, PerSide, Side};
+use milecopper_host::differential::Settle;
 use std::ffi::OsStr;
 use std::fs::{self, File};
 use std::hint::black_box;
@@ -22,10 +22,10 @@ pub const SWITCH: &str = "--calls-to-count";
 /// any to copy and fill memory, so that a copied book counts as what a loop of the processor's widest moves counts.
 const SETTINGS: &str = "glibc.cpu.x86_rep_movsb_threshold=1000000000:glibc.cpu.x86_rep_stosb_threshold=1000000000";
 
-/// Makes the calls to be counted: for each case one of each side, and one of the side that does nothing.
-pub fn make_calls(cases: &[Case]) {
+/// Makes the calls to be counted: for each case one of each side, and one that does nothing.
+pub fn make_calls(cases: &[Case], sides: &[Side]) {
     for case in cases {
-        for settle in SIDES.iter().map(|side| side.settle).chain([nothing as Settle]) {
+        for settle in sides.iter().map(|side| side.settle).chain([nothing as Settle]) {
             let mut statement = vec![0; case.room];
             // Once before, so that what a first call costs is not counted.
             black_box(settle)(&case.tariff, &mut case.book.clone(), &case.trip, &mut statement);
@@ -44,29 +44,25 @@ fn counted_call(settle: Settle, tariff: &[u8], book: &mut [u8], trip: &[u8], sta
     tell_callgrind(Word::Dump);
 }
 
-/// The instructions of each case on each side.
-pub fn count(cases: &[Case]) -> Result<Vec<PerSide<u64>>, String> {
+/// The instructions of each case on each side; this program is run with these arguments for it.
+pub fn count(cases: &[Case], sides: &[Side], arguments: &[&str]) -> Result<Vec<PerSide<u64>>, String> {
     let room = Room::new()?;
     let program = std::env::current_exe().map_err(|error| format!("this program cannot be found: {error}"))?;
     let out = room.path().join("counts");
     let mut callgrind = callgrind(&out);
-    callgrind.arg("--collect-atstart=no").arg(program).arg(SWITCH).stdout(Stdio::null());
+    callgrind.arg("--collect-atstart=no").arg(program).args(arguments).stdout(Stdio::null());
     run(&mut callgrind)?;
-    let counts = (1..=4 * cases.len()).map(|call| total_in(&out.with_extension(call.to_string())));
+    let calls = sides.len() + 1;
+    let counts = (1..=calls * cases.len()).map(|call| total_in(&out.with_extension(call.to_string())));
     let counts = counts.collect::<Result<Vec<u64>, String>>()?;
-    counts.chunks(4).map(own_counts).collect()
+    counts.chunks(calls).map(own_counts).collect()
 }
 
-/// The counts of the three sides less that of the one which does nothing.
+/// The counts of the sides less that of the one which does nothing, the last.
 fn own_counts(of_case: &[u64]) -> Result<PerSide<u64>, String> {
-    let &[library, tuned, plain, nothing] = of_case else {
-        return Err("callgrind wrote too few counts".to_string());
-    };
-    let own = [library, tuned, plain].map(|count| count.checked_sub(nothing));
-    match own {
-        [Some(library), Some(tuned), Some(plain)] if nothing < 200 => Ok([library, tuned, plain]),
-        _ => Err(format!("callgrind's counts are not those of single calls: {of_case:?}")),
-    }
+    let fault = || format!("callgrind's counts are not those of single calls: {of_case:?}");
+    let (&nothing, sides) = of_case.split_last().filter(|(&nothing, _)| nothing < 200).ok_or_else(fault)?;
+    sides.iter().map(|count| count.checked_sub(nothing)).collect::<Option<_>>().ok_or_else(fault)
 }
 
 /// The instructions of a whole run of a program that reads this roll and the tariff in this folder.
@@ -117,9 +113,9 @@ mod tests {
     fn totals_and_counts() {
         assert_eq!(total_of("events: Ir\nfn=(1) a\n0 7\n\ntotals: 1234\n"), Some(1_234));
         assert_eq!(total_of("events: Ir\n"), None);
-        assert_eq!(own_counts(&[110, 120, 130, 10]), Ok([100, 110, 120]));
+        assert_eq!(own_counts(&[110, 120, 130, 10]), Ok(vec![100, 110, 120]));
         assert!(own_counts(&[110, 120, 5, 10]).is_err());
         assert!(own_counts(&[1_100, 1_200, 1_300, 1_000]).is_err());
-        assert!(own_counts(&[110, 120]).is_err());
+        assert!(own_counts(&[]).is_err());
     }
 }

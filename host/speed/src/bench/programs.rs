@@ -1,4 +1,4 @@
-//! The program that settles a roll, beside the tuned one that prints the same text.
+//! The program that settles a roll, beside the tuned one that prints the same text where that is not left out.
 
 use super::counting::count_program;
 use super::effort::Effort;
@@ -7,44 +7,49 @@ use super::machine::time_of_programs;
 use super::rolls::roll;
 use super::room::Room;
 use super::timing::{median, spread};
-use crate::model::settle_roll;
+use milecopper_host::model::settle_roll;
 use std::fs::{self, File, OpenOptions};
 use std::io::Read;
 use std::path::{Path, PathBuf};
 use std::process::{Command, Stdio};
 use std::{env, io};
 
-/// One value for the proved program and one for the tuned one.
-pub type PerProgram<T> = [T; 2];
+/// One value for the proved program, and one for the tuned one where it is measured.
+pub type PerProgram<T> = Vec<T>;
 
 /// What a run takes of each program. It is the processor's time for it, which others at work change less than the time
 /// that passes.
-#[derive(Clone, Copy)]
 pub struct Times {
     /// The medians, in nanoseconds.
     pub ns: PerProgram<f64>,
-    /// What the middle half of a program's runs spans, as a part of its median: the larger of the two.
+    /// What the middle half of a program's runs spans, as a part of its median: the larger of them.
     pub spread: f64,
 }
 
-/// `settle_roll`, and `tuned_roll` beside this program. MILECOPPER_PROGRAM is the first one's path, seen from the
-/// host's folder: ../target/bin/settle_roll unless set.
+/// `settle_roll`, and `tuned_roll` beside this program. MILECOPPER_PROGRAM is the first one's path, seen from this
+/// package's folder: ../../target/bin/settle_roll unless set.
 pub struct Programs {
+    pub names: PerProgram<&'static str>,
     pub paths: PerProgram<PathBuf>,
     /// The toolchain makes programs for x86-64, which run nowhere else but under an emulator.
     pub run_here: bool,
 }
 
 impl Programs {
-    pub fn find() -> Result<Programs, String> {
+    pub fn find(with_tuned: bool) -> Result<Programs, String> {
         let own = env::current_exe().map_err(|error| format!("this program cannot be found: {error}"))?;
-        let program = env::var("MILECOPPER_PROGRAM").unwrap_or("../target/bin/settle_roll".to_string());
-        let paths = [host().join(program), own.with_file_name("tuned_roll")];
+        let program = env::var("MILECOPPER_PROGRAM").unwrap_or("../../target/bin/settle_roll".to_string());
+        let mut names = vec!["settle_roll"];
+        let mut paths = vec![package().join(program)];
+        if with_tuned {
+            names.push("tuned_roll");
+            paths.push(own.with_file_name("tuned_roll"));
+        }
         if let Some(path) = paths.iter().find(|path| !path.is_file()) {
             return Err(format!("{} is not there: host/benchmark builds it", path.display()));
         }
         let run_here = processor_of(&paths[0])? == processor_of(&own)?;
-        Ok(Programs { paths, run_here })
+        Ok(Programs { names, paths, run_here })
     }
 }
 
@@ -55,12 +60,12 @@ fn processor_of(program: &Path) -> Result<[u8; 2], String> {
     Ok([head[18], head[19]])
 }
 
-/// The host's folder.
-pub fn host() -> &'static Path {
+/// This package's folder.
+pub fn package() -> &'static Path {
     Path::new(env!("CARGO_MANIFEST_DIR"))
 }
 
-/// A folder with a tariff and rolls, in which both programs are run.
+/// A folder with a tariff and rolls, in which the programs are run.
 pub struct Site<'a> {
     programs: &'a Programs,
     network: &'a Network,
@@ -83,7 +88,7 @@ impl Site<'_> {
         Ok(file)
     }
 
-    /// Both programs have to print the same, byte for byte; the answer is what they print.
+    /// The programs have to print the same, byte for byte; the answer is what they print.
     pub fn agree(&self, records: usize) -> Result<String, String> {
         let roll = self.roll(records)?;
         let mut texts = Vec::new();
@@ -93,8 +98,10 @@ impl Site<'_> {
             self.run(program, &roll, printed)?;
             texts.push(fs::read_to_string(&out).map_err(|error| told(&out, error))?);
         }
-        if texts[0] != texts[1] {
-            return Err(differ("settle_roll", &texts[0], "tuned_roll", &texts[1], self.network));
+        if let [printed, tuned] = &texts[..] {
+            if printed != tuned {
+                return Err(differ("settle_roll", printed, "tuned_roll", tuned, self.network));
+            }
         }
         Ok(texts.swap_remove(0))
     }
@@ -109,13 +116,14 @@ impl Site<'_> {
         Ok(())
     }
 
-    /// Times the runs of each program on a roll; they take turns at being the first.
+    /// Times the runs of each program on a roll; two take turns at being the first.
     pub fn time(&self, records: usize, effort: &Effort) -> Result<Times, String> {
         let roll = self.roll(records)?;
         let out = self.room.path().join("written");
-        let mut times = [Vec::new(), Vec::new()];
+        let many = self.programs.paths.len();
+        let mut times = vec![Vec::new(); many];
         for turn in 0..=effort.runs {
-            for program in [turn % 2, 1 - turn % 2] {
+            for program in (0..many).map(|program| (turn + program) % many) {
                 // The file is never cut, so that no run makes it grow but the first, which does not count.
                 let printed = OpenOptions::new().write(true).create(true).truncate(false).open(&out);
                 let printed = printed.map_err(|error| told(&out, error))?;
@@ -128,14 +136,14 @@ impl Site<'_> {
             }
         }
         let spread = times.iter().cloned().map(spread).fold(0.0, f64::max);
-        Ok(Times { ns: times.map(median), spread })
+        Ok(Times { ns: times.into_iter().map(median).collect(), spread })
     }
 
     /// The instructions of a whole run of each program.
     pub fn count(&self, records: usize) -> Result<PerProgram<u64>, String> {
         let roll = self.roll(records)?;
-        let count = |program: usize| count_program(&self.programs.paths[program], self.room.path(), &roll, &self.room);
-        Ok([count(0)?, count(1)?])
+        let count = |program: &PathBuf| count_program(program, self.room.path(), &roll, &self.room);
+        self.programs.paths.iter().map(count).collect()
     }
 
     fn run(&self, program: &Path, roll: &Path, printed: File) -> Result<(), String> {

@@ -1,7 +1,7 @@
 //! The tariffs to measure on, and a way to choose a trip's stops on each.
 
-use crate::differential::random::Random;
-use crate::maker::bytes_of;
+use milecopper_host::differential::random::Random;
+use milecopper_host::maker::bytes_of;
 
 /// What everything that looks random here comes from.
 pub const SEED: u64 = 2_026;
@@ -28,7 +28,7 @@ pub fn largest() -> Network {
 
 /// The paper's sample: 7 areas, 28 stops.
 pub fn sample() -> Network {
-    Network { name: "sample", tariff: include_bytes!("../../../samples/tariff.bin").to_vec(), stops: sample_stops }
+    Network { name: "sample", tariff: include_bytes!("../../../../samples/tariff.bin").to_vec(), stops: sample_stops }
 }
 
 /// State, region and city, and what a trip needs to go as far as any on the largest tariff.
@@ -179,8 +179,8 @@ fn three_areas_stops(random: &mut Random, reach: Reach, many: usize) -> Vec<usiz
 #[cfg(test)]
 mod tests {
     use super::*;
-    use crate::model::read_tariff;
-    use crate::model::tariff::{Level, TripCap};
+    use milecopper_host::model::read_tariff;
+    use milecopper_host::model::tariff::{Level, TripCap};
 
     #[test]
     fn tariffs_are_faultless_and_as_large_as_they_are_called() {

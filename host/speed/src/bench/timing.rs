@@ -2,38 +2,38 @@
 
 use super::cases::Case;
 use super::effort::Effort;
-use super::sides::{PerSide, SIDES};
-use crate::differential::Settle;
+use super::sides::{PerSide, Side};
+use milecopper_host::differential::Settle;
 use std::hint::black_box;
 use std::time::{Duration, Instant};
 
 /// A batch is one call on each of so many books, which are put back before it and not within its time.
 pub const BOOKS: usize = 16;
 
-/// Every order of the three sides, so that each comes after each other as often.
-const ORDERS: [PerSide<usize>; 6] = [[0, 1, 2], [2, 1, 0], [1, 2, 0], [0, 2, 1], [2, 0, 1], [1, 0, 2]];
+/// Every order of three sides, so that each comes after each other as often; where the last is left out, so do two.
+const ORDERS: [[usize; 3]; 6] = [[0, 1, 2], [2, 1, 0], [1, 2, 0], [0, 2, 1], [2, 0, 1], [1, 0, 2]];
 
 /// What a call takes on each side.
-#[derive(Clone, Copy)]
+#[derive(Clone)]
 pub struct Times {
     /// The medians, in nanoseconds.
     pub ns: PerSide<f64>,
-    /// What the middle half of a side's samples spans, as a part of its median: the largest of the three.
+    /// What the middle half of a side's samples spans, as a part of its median: the largest of them.
     pub spread: f64,
 }
 
 /// Times a call on each side.
-pub fn time(case: &Case, effort: &Effort) -> Times {
+pub fn time(case: &Case, effort: &Effort, sides: &[Side]) -> Times {
     let mut bench = Bench::of(case);
-    let batches = [0, 1, 2].map(|side| bench.batches_for(SIDES[side].settle, effort.sample));
-    let mut samples = [const { Vec::new() }; 3];
+    let batches: PerSide<u32> = sides.iter().map(|side| bench.batches_for(side.settle, effort.sample)).collect();
+    let mut samples = vec![Vec::new(); sides.len()];
     for order in ORDERS.iter().cycle().take(effort.samples) {
-        for &side in order {
-            samples[side].push(bench.sample(SIDES[side].settle, batches[side]));
+        for &side in order.iter().filter(|&&side| side < sides.len()) {
+            samples[side].push(bench.sample(sides[side].settle, batches[side]));
         }
     }
     let spread = samples.iter().cloned().map(spread).fold(0.0, f64::max);
-    Times { ns: samples.map(median), spread }
+    Times { ns: samples.into_iter().map(median).collect(), spread }
 }
 
 /// A case, and the slices that are written.
@@ -110,7 +110,7 @@ mod tests {
     #[test]
     fn each_side_comes_after_each_other_as_often() {
         for (first, then) in [(0, 1), (0, 2), (1, 0), (1, 2), (2, 0), (2, 1)] {
-            let follows = |order: &&PerSide<usize>| order.windows(2).any(|pair| pair == [first, then]);
+            let follows = |order: &&[usize; 3]| order.windows(2).any(|pair| pair == [first, then]);
             assert_eq!(ORDERS.iter().filter(follows).count(), 2);
         }
     }

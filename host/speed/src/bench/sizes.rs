@@ -1,30 +1,29 @@
 //! The size of the archive and of the programs.
 
-use super::programs::{host, Programs};
-use super::tables::{with_commas, Table};
+use super::programs::{package, Programs};
+use super::tables::{with_commas, Table, NONE};
 use std::path::{Path, PathBuf};
 use std::process::Command;
 use std::{env, fs};
 
-pub fn report() -> Result<(), String> {
-    let programs = Programs::find()?;
-    let [settle_roll, tuned_roll] = &programs.paths;
+pub fn report(programs: &Programs) -> Result<(), String> {
     println!("\n## Sizes in bytes\n");
-    let mut table = Table::of(&["file", "all", "code and constants"]);
+    let mut table = Table::of(["file", "all", "code and constants"]);
+    let archive = archive();
     for (name, file) in
-        [("libsettle.a", &archive()), ("settle_roll, the program", settle_roll), ("tuned_roll", tuned_roll)]
+        [("libsettle.a", &archive)].into_iter().chain(programs.names.iter().copied().zip(&programs.paths))
     {
         let all = fs::metadata(file).map_err(|error| format!("{}: {error}", file.display()))?.len();
-        table.row([name.to_string(), with_commas(all), text_of(file).map_or("–".to_string(), with_commas)]);
+        table.row([name.to_string(), with_commas(all), text_of(file).map_or(NONE.to_string(), with_commas)]);
     }
     print!("{table}");
     Ok(())
 }
 
-/// MILECOPPER_LIB_DIR is its directory, seen from the host's; ../target/staticlib unless set.
+/// MILECOPPER_LIB_DIR is its directory, seen from this package's; ../../target/staticlib unless set.
 fn archive() -> PathBuf {
-    let directory = env::var("MILECOPPER_LIB_DIR").unwrap_or("../target/staticlib".to_string());
-    host().join(directory).join("libsettle.a")
+    let directory = env::var("MILECOPPER_LIB_DIR").unwrap_or("../../target/staticlib".to_string());
+    package().join(directory).join("libsettle.a")
 }
 
 /// What the tool `size` calls text, of all members; nothing where there is no such tool.

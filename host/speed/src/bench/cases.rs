@@ -1,10 +1,10 @@
 //! The calls that are measured.
 
 use super::inputs::{grown, largest, sample, Network, Reach, SEED};
-use crate::differential::books::{fresh, set_word, BICYCLES, TRIPS};
-use crate::differential::random::Random;
-use crate::differential::trips::Plan;
-use crate::model;
+use milecopper_host::differential::books::{fresh, set_word, BICYCLES, TRIPS};
+use milecopper_host::differential::random::Random;
+use milecopper_host::differential::trips::Plan;
+use milecopper_host::model;
 
 /// In which table a case stands.
 #[derive(Clone, Copy, Debug, PartialEq, Eq)]
@@ -178,7 +178,7 @@ fn parties(network: &Network) -> [Case; 4] {
 #[cfg(test)]
 mod tests {
     use super::*;
-    use crate::model::charge::ChargeRecord;
+    use milecopper_host::model::charge::ChargeRecord;
 
     #[test]
     fn each_is_answered_as_it_is_meant() {

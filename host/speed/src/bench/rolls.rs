@@ -1,8 +1,8 @@
 //! Rolls for the program: the same trips on each tariff, but for their stops.
 
 use super::inputs::{Network, Reach, SEED};
-use crate::differential::random::Random;
-use crate::differential::trips::Plan;
+use milecopper_host::differential::random::Random;
+use milecopper_host::differential::trips::Plan;
 
 /// As many records as the program settles.
 pub const RECORDS: usize = 65_535;
@@ -66,7 +66,7 @@ fn spoil(trips: &mut Random, record: &mut [u8]) {
 mod tests {
     use super::super::inputs::{largest, smallest, three_areas};
     use super::*;
-    use crate::model::settle_roll;
+    use milecopper_host::model::settle_roll;
 
     #[test]
     fn nearly_all_are_accepted_several_in_a_window() {

@@ -1,7 +1,7 @@
 //! The program that settles a roll, by the tuned implementation: the tariff from `tariff.bin`, the roll from standard
 //! input, a line a record on standard output.
 
-use milecopper_host::tuned::settle_roll;
+use milecopper_speed::tuned::settle_roll;
 use std::fs::File;
 use std::io::{self, ErrorKind, Read};
 use std::os::fd::AsFd;

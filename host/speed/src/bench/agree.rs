@@ -1,8 +1,8 @@
 //! Before anything is measured: all sides make the same of every case.
 
 use super::cases::Case;
-use super::sides::{Side, PLAIN, SIDES};
-use crate::answer::Answer;
+use super::sides::{Side, PLAIN};
+use milecopper_host::answer::Answer;
 
 /// What a side made of a case.
 #[derive(PartialEq, Eq)]
@@ -14,16 +14,16 @@ struct Outcome {
 
 /// Runs every case once on every side. The first difference is an error, and so is a case that is not answered as it is
 /// meant to be.
-pub fn all_agree(cases: &[Case]) -> Result<(), String> {
-    cases.iter().try_for_each(agree)
+pub fn all_agree(cases: &[Case], sides: &[Side]) -> Result<(), String> {
+    cases.iter().try_for_each(|case| agree(case, sides))
 }
 
-fn agree(case: &Case) -> Result<(), String> {
-    let due = outcome(&SIDES[PLAIN], case);
+fn agree(case: &Case, sides: &[Side]) -> Result<(), String> {
+    let due = outcome(&sides[PLAIN], case);
     if due.number >> 32 != case.refusal {
         return Err(told(case, &format!("the case is meant for refusal {}, and is {}", case.refusal, words(&due))));
     }
-    for side in &SIDES {
+    for side in sides {
         let found = outcome(side, case);
         let what = if found.number != due.number {
             format!("the answer is {} by the {} side, {} by the plain one", words(&found), side.name, words(&due))
