@@ -13,10 +13,7 @@ use lib.Seq.{sets, length-sets, getD-append-add, getD-at, getD-take}
 use lib.Dec.{eqb}
 use borrow.Author.Tests.{eq-eqb, ne-eqb}
 use Rattle.wire.proofs.Number.{sets-more}
-use Rattle.units.specs.Caps.{cappedBy}
-use Rattle.units.specs.declared.Cap.{Cap}
-use Rattle.units.specs.declared.Cap.the-variants.{NoCap, UpTo}
-use Rattle.units.proofs.Caps.{capped-most}
+use Rattle.caps.proofs.Cut.{here-most, here-again}
 use Rattle.tariff.specs.declared.Area.{Area}
 use Rattle.tariff.specs.declared.Counts.{Counts}
 use Rattle.tariff.specs.Rules.{levelOf}
@@ -26,65 +23,25 @@ use Rattle.tariff.proofs.Within.{area-flat, above-of, parent-there, parent-top,
 use Rattle.fare.specs.declared.Ride.{Ride}
 use Rattle.fare.specs.Prices.{Priceable, priceOf}
 use Rattle.fare.proofs.Steps.{price-most}
-use Rattle.book.specs.declared.limits.Caps.{Caps}
 use Rattle.book.specs.declared.limits.Chain.{Chain}
 use Rattle.book.specs.Words.{coverWord}
 use Rattle.book.specs.Windows.{inWindow}
-use Rattle.book.specs.Caps.{capsHere, cappedHere, leftOf, chainOf}
+use Rattle.book.specs.Caps.{capsHere, chainOf}
 use Rattle.book.specs.Charging.{Rideable, cappedAt, chargeUp, chargeBy, riderCharge, riderCharges, newCover, NewCover, bicycleCharge, BicycleCharge, bicycleCharges, chargesOf, Charged}
 use Rattle.book.proofs.WordLaws.{word-fresh}
 use Rattle.book.proofs.SoundLaws.{SoundBook, sound-has}
 
--- What an area's caps have left cuts an amount, and never raises it.
-pub capped-here-most : (caps : Caps) (class second all amount : ℕ) → cappedHere caps class second all amount ≤ amount
-unfolding cappedHere
-capped-here-most caps class second all amount = go (eqb class 2)
-  where
-    rest : ℕ
-    rest = cappedBy (leftOf (caps .all) all) amount
-
-    go : (both : Bool) → cond both (cappedBy (leftOf (caps .second) second) rest) rest ≤ amount
-    go true = le-trans (capped-most (leftOf (caps .second) second) rest) (capped-most (leftOf (caps .all) all) amount)
-    go false = capped-most (leftOf (caps .all) all) amount
-
--- what two caps have cut, the same two do not cut again
-caps-again : (c d : Cap) (n : ℕ) → cappedBy d (cappedBy c (cappedBy d (cappedBy c n))) ≡ cappedBy d (cappedBy c n)
-caps-again NoCap NoCap n = refl
-caps-again NoCap (UpTo most) n = omega arith
-caps-again (UpTo most) NoCap n = omega arith
-caps-again (UpTo most) (UpTo most′) n = omega arith
-
-capped-here-again :
-    (caps : Caps) (class second all n : ℕ)
-    → cappedHere caps class second all (cappedHere caps class second all n) ≡ cappedHere caps class second all n
-unfolding cappedHere
-capped-here-again caps class second all n = go (eqb class 2)
-  where
-    c : Cap
-    c = leftOf (caps .all) all
-
-    d : Cap
-    d = leftOf (caps .second) second
-
-    go :
-        (both : Bool)
-        → cond both (cappedBy d (cappedBy c (cond both (cappedBy d (cappedBy c n)) (cappedBy c n))))
-        (cappedBy c (cond both (cappedBy d (cappedBy c n)) (cappedBy c n)))
-        ≡ cond both (cappedBy d (cappedBy c n)) (cappedBy c n)
-    go true = caps-again c d n
-    go false = caps-again c NoCap n
-
 module _ (t w : List ℕ) (rider : ℕ) (child : Bool) (class : ℕ) where
   pub capped-at-most : (a amount : ℕ) → cappedAt t w rider child class a amount ≤ amount
   unfolding cappedAt
-  capped-at-most a amount = capped-here-most (capsHere (areaAt t a) child) class _ _ amount
+  capped-at-most a amount = here-most (capsHere (areaAt t a) child) class _ _ amount
 
   -- an area that stands in a chain again
   capped-again :
       (a b amount : ℕ) → b ≡ a
       → cappedAt t w rider child class b (cappedAt t w rider child class a amount) ≡ cappedAt t w rider child class a amount
   unfolding cappedAt
-  capped-again a b amount e = rw e (capped-here-again (capsHere (areaAt t a) child) class _ _ amount)
+  capped-again a b amount e = rw e (here-again (capsHere (areaAt t a) child) class _ _ amount)
 
   -- No charge is above the price.
   pub charge-most : (level a amount : ℕ) → chargeUp level t w rider child class a amount ≤ amount

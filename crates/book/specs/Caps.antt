@@ -1,17 +1,15 @@
--- Paper 01, "Windows and charges": an area's caps, and what they have left.
-use Prim.Native.Nat.{ℕ, _-_, _<_}
+-- Paper 01, "Windows and charges": an area's caps.
+use Prim.Native.Nat.{ℕ, _<_}
 use mathlib.Core.Path.{_≡_}
 use mathlib.Core.List.{List}
-use mathlib.Core.Bool.{Bool, cond}
-use lib.Dec.{eqb}
+use mathlib.Core.Bool.{Bool}
 use Rattle.units.specs.Rounding.{raisedBy}
-use Rattle.units.specs.Caps.{cappedBy}
 use Rattle.units.specs.declared.Cap.{Cap}
 use Rattle.units.specs.declared.Cap.the-variants.{NoCap, UpTo}
 use Rattle.tariff.specs.declared.Area.{Area}
 use Rattle.tariff.specs.Areas.{areaAt, parentOf}
 use Rattle.fare.specs.Prices.{step4}
-use Rattle.book.specs.declared.limits.Caps.{Caps}
+use Rattle.caps.specs.declared.Caps.{Caps}
 use Rattle.book.specs.declared.limits.Link.{Link}
 use Rattle.book.specs.declared.limits.Chain.{Chain}
 
@@ -52,14 +50,3 @@ chainOf tariff area child = record {
 pub record ChainOf (tariff : List ℕ) (area : ℕ) (child : Bool) (r : Chain) : Type 0 where
   pub value : r ≡ chainOf tariff area child
   pub places : Places r
-
--- what a cap has left over a sum: 0 if passed already
-unfoldable pub leftOf : Cap → ℕ → Cap
-leftOf NoCap sum = NoCap
-leftOf (UpTo most) sum = UpTo (record { 0 = most .0 - sum })
-
--- the smallest of an amount and what an area's caps have left: a class 2 trip has both caps, a class 1 trip the all-classes one
-unfoldable pub cappedHere : Caps → ℕ → ℕ → ℕ → ℕ → ℕ
-cappedHere caps class second all amount =
-    let rest = cappedBy (leftOf (caps .all) all) amount in
-    cond (eqb class 2) (cappedBy (leftOf (caps .second) second) rest) rest

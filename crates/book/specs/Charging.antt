@@ -14,7 +14,8 @@ use Rattle.fare.specs.Prices.{priceOf}
 use Rattle.book.specs.declared.limits.Link.{Link}
 use Rattle.book.specs.declared.limits.Chain.{Chain}
 use Rattle.book.specs.Words.{secondSum, allSum, coverWord}
-use Rattle.book.specs.Caps.{capsHere, cappedHere}
+use Rattle.caps.specs.Limits.{cappedHere}
+use Rattle.book.specs.Caps.{capsHere}
 use Rattle.book.specs.Sound.{sound}
 
 -- a ride of a faultless tariff, with its party in the ranges of 6, and a sound book

@@ -2,12 +2,12 @@
 use crate::Charge;
 use crate::limits::Chain;
 use crate::limits::Link;
-use crate::limits::capped_here;
 use crate::limits::chain_of;
 use crate::words::FIRST_CHILD;
 use crate::words::cover;
 use crate::words::get;
 use crate::words::pair;
+use caps::capped_here;
 use fare::Ride;
 use fare::prices::price;
 use tariff::Counts;

@@ -3,7 +3,7 @@
 // words.rt     where each word stands, once
 // sound.rt     whether a byte string is a sound book
 // windows.rt   the window that a trip belongs to, and 10
-// limits.rt    an area's caps, and what they have left
+// limits.rt    an area's caps, and the areas whose caps a ride has
 // charging.rt  what each of a party is charged: only reads
 // posting.rt   the window opened and the charges added: only writes
 use units::Cents;

@@ -1,23 +1,16 @@
-// An area's caps for a rider, and what they have left.
+// An area's caps for a rider, and the chain of areas whose caps a ride has.
+use caps::Caps;
 use tariff::Area;
 use tariff::Counts;
 use tariff::areas::area;
 use tariff::areas::parent;
 use units::Cap;
-use units::Cents;
-use units::capped;
 use units::raised;
 use units::reduced;
 ghost use mathlib.Core.Path.{_≡_};
-ghost use Prim.Native.Nat.{_≤_, _<_};
+ghost use Prim.Native.Nat.{_<_};
 ghost use Rattle.tariff.specs.Areas.{AreaRanges, Read};
-ghost use Rattle.book.specs.Caps.{leftOf, cappedHere, capsHere, linkOf, ChainOf};
-
-// An area's second-class cap and its all-classes cap, for an adult or a child.
-pub struct Caps {
-    pub second: Cap,
-    pub all: Cap,
-}
+ghost use Rattle.book.specs.Caps.{capsHere, linkOf, ChainOf};
 
 // An area of a chain, with its caps.
 pub struct Link {
@@ -81,35 +74,5 @@ pub fn chain_of(tariff: &[u8], counts: Counts, at: usize, child: bool) -> Chain
         own: link_of(tariff, counts, at, child),
         above: link_of(tariff, counts, above, child),
         top: link_of(tariff, counts, top, child),
-    }
-}
-
-// What a cap has left over a sum: 0 if passed already.
-fn left_of(cap: Cap, sum: Cents) -> Cap
-    ensures { λ r. ⌜ r ≡ leftOf cap (sum .0) ⌝ }
-{
-    match cap {
-        Cap::NoCap => Cap::NoCap,
-        Cap::UpTo(most) => {
-            if most.0 <= sum.0 {
-                Cap::UpTo(Cents(0))
-            } else {
-                Cap::UpTo(Cents(most.0 - sum.0))
-            }
-        }
-    }
-}
-
-// The smallest of an amount and what an area's caps have left: both of them in class 2, the all-classes one in class 1.
-pub fn capped_here(caps: Caps, class: u8, second: Cents, all: Cents, amount: Cents) -> Cents
-    ensures { λ r. ⌜ (r .0 ≡ cappedHere caps class (second .0) (all .0) (amount .0)) × (r .0 ≤ amount .0) ⌝ }
-{
-    let second_cap = caps.second;
-    let all_cap = caps.all;
-    let rest = capped(amount, left_of(all_cap, all));
-    if class == 2 {
-        capped(rest, left_of(second_cap, second))
-    } else {
-        rest
     }
 }

@@ -10,9 +10,3 @@ pub mod RunLaws
 pub mod Records
 pub mod GoodRides
 pub mod Trees
-pub mod Window
-pub mod OneClass
-pub mod Children
-pub mod Charge
-pub mod Chain
-pub mod Cut

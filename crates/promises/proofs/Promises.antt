@@ -11,28 +11,28 @@ use native.Mathlib.Omega.{arith}
 use mathlib.Core.Path.{_≡_, subst, _∙_}
 use mathlib.Core.Bool.{true, false}
 use mathlib.Core.List.{List, _∷_, _++_, List·Memᴰ}
-use Rattle.tariff.specs.declared.Counts.{Counts}
-use Rattle.tariff.specs.Areas.{areaAt, Read}
-use Rattle.book.specs.Words.{secondSum, allSum}
-use Rattle.book.specs.Sound.{sound}
-use Rattle.book.specs.Caps.{secondCap, allCap}
-use Rattle.promises.specs.Tree.{Tree, IsTree}
-use Rattle.promises.specs.Charged.{
-  Entry,
-  Charged,
+use Rattle.caps.specs.Limits.{AtMost}
+use Rattle.caps.specs.Tree.{Tree, IsTree}
+use Rattle.caps.specs.Rides.{
+  ChargedRide,
+  ChargedInTurn,
   allTotal,
   secondTotal,
   charges,
-  AtMost,
   CapFull,
   ownPrices,
   oneClass,
   totalsAlone,
 }
+use Rattle.caps.proofs.Window.{earlier, no-cap-passed, each-no-more-than-price, cut-leaves-full, no-free-ride as free-leaves-full, state-total}
+use Rattle.caps.proofs.OneClass.{one-class-total, order-free}
+use Rattle.tariff.specs.declared.Counts.{Counts}
+use Rattle.tariff.specs.Areas.{areaAt, Read}
+use Rattle.book.specs.Words.{secondSum, allSum}
+use Rattle.book.specs.Sound.{sound}
+use Rattle.book.specs.Caps.{secondCap, allCap}
 use Rattle.promises.specs.Runs.{Offer, bookOf, isChild, ridesOf, treeOf}
 use Rattle.promises.proofs.Trees.{is-tree}
-use Rattle.promises.proofs.Window.{earlier, no-cap-passed, each-no-more-than-price, cut-leaves-full, no-free-ride as free-leaves-full, state-total}
-use Rattle.promises.proofs.OneClass.{one-class-total, order-free}
 use Rattle.promises.proofs.RunLaws.{Kept, kept}
 
 module _ (tariff : List ℕ) (counts : Counts) (read : Read tariff counts) (rider : ℕ) (known : rider < 21) where
@@ -45,18 +45,18 @@ module _ (tariff : List ℕ) (counts : Counts) (read : Read tariff counts) (ride
 
   module _ (run : List Offer) where
     -- the rider's rides in the window that is open at the run's end, the latest first
-    abbrev rides : List Entry
+    abbrev rides : List ChargedRide
     rides = ridesOf tariff counts rider run
 
     run-kept : Kept tariff counts rider (bookOf tariff run) rides
     run-kept = kept tariff counts read rider known run
 
     -- the rides up to any moment of the window
-    charged-up-to : (later es : List Entry) → rides ≡ later ++ es → Charged tree es
-    charged-up-to later es is = earlier later (subst (Charged tree) is (run-kept .charged))
+    charged-up-to : (later es : List ChargedRide) → rides ≡ later ++ es → ChargedInTurn tree es
+    charged-up-to later es is = earlier later (subst (ChargedInTurn tree) is (run-kept .charged))
 
     -- No charge exceeds its price.
-    pub charges-at-most-prices : (e : Entry) → List·Memᴰ e rides → e .charge ≤ e .price
+    pub charges-at-most-prices : (e : ChargedRide) → List·Memᴰ e rides → e .charge ≤ e .price
     charges-at-most-prices e m = each-no-more-than-price tree-is (run-kept .charged) m
 
     -- No cap is ever passed: in every area, the rider's charges of all classes are at most the all-classes cap, and those of second class
@@ -69,12 +69,12 @@ module _ (tariff : List ℕ) (counts : Counts) (read : Read tariff counts) (ride
 
     -- A charge below its price leaves one of that ride's caps exactly full. `es` are the rides before it, `later` those after it.
     pub cut-only-at-a-full-cap :
-        (later : List Entry) (e : Entry) (es : List Entry) → rides ≡ later ++ e ∷ es → e .charge < e .price → CapFull tree e (e ∷ es)
+        (later : List ChargedRide) (e : ChargedRide) (es : List ChargedRide) → rides ≡ later ++ e ∷ es → e .charge < e .price → CapFull tree e (e ∷ es)
     cut-only-at-a-full-cap later e es is cut = cut-leaves-full tree-is (charged-up-to later (e ∷ es) is) cut
 
     -- No ride with a price is free while none of its caps is full: who charges the first trip and zero for the rest breaks this.
     pub no-free-ride :
-        (later : List Entry) (e : Entry) (es : List Entry) → rides ≡ later ++ e ∷ es → e .charge ≡ 0 → 0 < e .price
+        (later : List ChargedRide) (e : ChargedRide) (es : List ChargedRide) → rides ≡ later ++ e ∷ es → e .charge ≡ 0 → 0 < e .price
         → (CapFull tree e (e ∷ es) → ⊥) → ⊥
     no-free-ride later e es is free price none-full =
         none-full (free-leaves-full tree-is (charged-up-to later (e ∷ es) is) free price)

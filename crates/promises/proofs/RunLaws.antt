@@ -11,9 +11,12 @@ use borrow.Author.Tests.{ltb-true, ltb-false, leb-true, leb-false}
 use lib.ListN.{getD}
 use lib.Dec.{leb, ltb}
 use Rattle.wire.specs.Number.{getLe}
+use Rattle.caps.specs.Limits.{cappedHere}
+use Rattle.caps.specs.Tree.{Tree, foldUp, within, chargeIn}
+use Rattle.caps.specs.Rides.{ChargedRide, ChargedInTurn, none, more, allTotal, secondTotal}
 use Rattle.tariff.specs.declared.Counts.{Counts}
 use Rattle.tariff.specs.Rules.{levelOf}
-use Rattle.tariff.specs.Areas.{parentOf, Read}
+use Rattle.tariff.specs.Areas.{areaAt, parentOf, Read}
 use Rattle.tariff.proofs.Faultless.{faultless, read-one}
 use Rattle.tariff.proofs.Within.{parent-there}
 use Rattle.trip.specs.declared.Trip.{Trip}
@@ -23,6 +26,7 @@ use Rattle.trip.proofs.Good.{good, good-times}
 use Rattle.fare.specs.declared.Ride.{Ride}
 use Rattle.fare.specs.Rides.{rideOf}
 use Rattle.book.specs.declared.Window.{Window}
+use Rattle.book.specs.Caps.{capsHere}
 use Rattle.book.specs.Words.{freshBook, tripsOf, pairPlace, secondSum, allSum}
 use Rattle.book.specs.Sound.{sound}
 use Rattle.book.specs.Windows.{tooEarly, windowOf, inWindow}
@@ -36,11 +40,10 @@ use Rattle.book.proofs.PostedLaws.{NotCarried, added, posted-adult, posted-chil
 use Rattle.book.proofs.SoundAgain.{sound-again}
 use Rattle.settle.specs.Record.{recordOf}
 use Rattle.settle.specs.Outcome.{Outcome, refused, accepted, settled, bookAfter}
-use Rattle.promises.specs.Tree.{Tree, chargeIn}
-use Rattle.promises.specs.Charged.{Entry, Charged, none, more, allTotal, secondTotal}
 use Rattle.promises.specs.Runs.{Offer, bookOf, isChild, carries, placeOf, entryOf, ridesWith, ridesAfter, ridesOf, treeOf}
+use Rattle.promises.proofs.Trees.{lies-within}
 use Rattle.promises.proofs.Records.{charge-at}
-use Rattle.promises.proofs.GoodRides.{good-ride, good-class}
+use Rattle.promises.proofs.GoodRides.{good-ride}
 use Rattle.promises.proofs.Answers.{accepted-is}
 
 -- ---- What a rider is charged goes by the sums alone.
@@ -49,12 +52,20 @@ module _ (tariff : List ℕ) (counts : Counts) (read : Read tariff counts) (w : 
     (second-is : (x : ℕ) → x < counts .areas → secondSum w rider x ≡ second x)
     (all-is : (x : ℕ) → x < counts .areas → allSum w rider x ≡ all x) where
   charge-same :
-      (level a amount : ℕ) → a < counts .areas
-      → chargeUp level tariff w rider child class a amount ≡ chargeIn (treeOf tariff counts child) second all level class a amount
-  unfolding chargeUp cappedAt chargeIn
-  charge-same zero a amount h = rw (second-is a h, all-is a h)
-  charge-same (suc level) a amount h =
-      rw (second-is a h, all-is a h) (charge-same level (parentOf tariff a) _ (parent-there (faultless tariff counts read) a h))
+      (a amount : ℕ) → a < counts .areas
+      → chargeUp (levelOf tariff a) tariff w rider child class a amount ≡ chargeIn (treeOf tariff counts child) second all class a amount
+  unfolding chargeUp cappedAt chargeIn foldUp
+  charge-same a = go (levelOf tariff a) a
+    where
+      step : ℕ → ℕ → ℕ
+      step b rest = cappedHere (capsHere (areaAt tariff b) child) class (second b) (all b) rest
+
+      go :
+          (level a amount : ℕ) → a < counts .areas
+          → chargeUp level tariff w rider child class a amount ≡ foldUp (parentOf tariff) step level a amount
+      go zero a amount h = rw (second-is a h, all-is a h)
+      go (suc level) a amount h =
+          rw (second-is a h, all-is a h) (go level (parentOf tariff a) _ (parent-there (faultless tariff counts read) a h))
 
 -- ---- Who is carried.
 
@@ -115,14 +126,14 @@ module _ {tariff : List ℕ} {counts : Counts} {book : List ℕ} {ride : Ride} (
 -- ---- A book and a rider's rides.
 
 -- the one or the other total of a rider's rides within an area
-abbrev totalOf : Bool → Tree → ℕ → List Entry → ℕ
+abbrev totalOf : Bool → Tree → ℕ → List ChargedRide → ℕ
 totalOf true t x es = secondTotal t x es
 totalOf false t x es = allTotal t x es
 
 -- one ride more adds its charge where its class counts and its area lies within
 total-more :
-    (which : Bool) (t : Tree) (x : ℕ) (e : Entry) (es : List Entry)
-    → totalOf which t x (e ∷ es) ≡ totalOf which t x es + cond (counted which (e .class) && t .within (e .area) x) (e .charge) 0
+    (which : Bool) (t : Tree) (x : ℕ) (e : ChargedRide) (es : List ChargedRide)
+    → totalOf which t x (e ∷ es) ≡ totalOf which t x es + cond (counted which (e .class) && within t (e .area) x) (e .charge) 0
 unfolding secondTotal allTotal
 total-more true t x e es = refl
 total-more false t x e es = refl
@@ -137,11 +148,11 @@ fresh-sum true rider x = word-fresh (pairPlace rider x)
 fresh-sum false rider x = word-fresh (pairPlace rider x + 1)
 
 -- the book is sound, the rider's sums in it are the totals of these rides, and each was charged what the caps had left
-pub record Kept (tariff : List ℕ) (counts : Counts) (rider : ℕ) (book : List ℕ) (rides : List Entry) : Type 0 where
+pub record Kept (tariff : List ℕ) (counts : Counts) (rider : ℕ) (book : List ℕ) (rides : List ChargedRide) : Type 0 where
   pub sound-book : sound book (counts .areas) ≡ true
   pub sums :
       (which : Bool) (x : ℕ) → x < counts .areas → sumOf which book rider x ≡ totalOf which (treeOf tariff counts (isChild rider)) x rides
-  pub charged : Charged (treeOf tariff counts (isChild rider)) rides
+  pub charged : ChargedInTurn (treeOf tariff counts (isChild rider)) rides
 
 -- a fresh book has no rides
 kept-fresh : (tariff : List ℕ) (counts : Counts) (rider : ℕ) → Kept tariff counts rider freshBook []
@@ -154,7 +165,7 @@ kept-fresh tariff counts rider =
 
 -- the words that count have the rides of the open window, or none
 kept-window :
-    {tariff : List ℕ} {counts : Counts} {rider : ℕ} {book : List ℕ} {rides : List Entry} (current : Bool)
+    {tariff : List ℕ} {counts : Counts} {rider : ℕ} {book : List ℕ} {rides : List ChargedRide} (current : Bool)
     → Kept tariff counts rider book rides → Kept tariff counts rider (inWindow current book) (cond current rides [])
 kept-window true k = k
 kept-window {tariff} {counts} {rider} false k = kept-fresh tariff counts rider
@@ -168,7 +179,7 @@ one-more :
 unfolding windowOf
 one-more book checkin checkout few current = omega (arith, rw current at few)
 
-module _ {tariff : List ℕ} {counts : Counts} {rider : ℕ} {book : List ℕ} {rides : List Entry} (read : Read tariff counts) (known : rider < 21)
+module _ {tariff : List ℕ} {counts : Counts} {rider : ℕ} {book : List ℕ} {rides : List ChargedRide} (read : Read tariff counts) (known : rider < 21)
     (k : Kept tariff counts rider book rides) (bytes : List ℕ) (trip : Trip) (is : readTrip bytes (counts .stops) ≡ Good trip)
     (on-time : tooEarly book (trip .checkin .0) ≡ false) (few : windowOf book (trip .checkin .0) (trip .checkout .0) .trips ≤ 256) where
   abbrev window : Window
@@ -181,7 +192,7 @@ module _ {tariff : List ℕ} {counts : Counts} {rider : ℕ} {book : List ℕ} {
   abbrev w : List ℕ
   w = inWindow (window .current) book
 
-  abbrev before : List Entry
+  abbrev before : List ChargedRide
   before = cond (window .current) rides []
 
   abbrev new : List ℕ
@@ -233,12 +244,12 @@ module _ {tariff : List ℕ} {counts : Counts} {rider : ℕ} {book : List ℕ} {
         sound-book = new-sound;
         sums = λ which x h.
             c .sums which x (omega (arith, faultless tariff counts read .few-areas))
-            ∙ rw (words .sums which x h, ← written) (sym (total-more which (treeOf tariff counts (isChild rider)) x _ before));
+            ∙ rw (words .sums which x h, ← written, lies-within tariff counts read (isChild rider) (ride .area) x (ok .area)) (sym (total-more which (treeOf tariff counts (isChild rider)) x _ before));
         charged =
-            more (words .charged) (ok .area) (good-class bytes (counts .stops) trip is)
+            more (words .charged) (ok .area)
             (written ∙ c .charge
             ∙ charge-same tariff counts read w rider (isChild rider) (trip .class) _ _ (words .sums true) (words .sums false)
-            (levelOf tariff (ride .area)) (ride .area) _ (ok .area));
+            (ride .area) _ (ok .area));
       }
 
   -- So the new book is kept with the rider's rides after the trip.
@@ -258,7 +269,7 @@ module _ {tariff : List ℕ} {counts : Counts} {rider : ℕ} {book : List ℕ} {
 
 -- After every outcome the book is kept with the rider's rides.
 kept-after :
-    {tariff : List ℕ} {counts : Counts} {rider : ℕ} {book : List ℕ} {rides : List Entry} → Read tariff counts → rider < 21
+    {tariff : List ℕ} {counts : Counts} {rider : ℕ} {book : List ℕ} {rides : List ChargedRide} → Read tariff counts → rider < 21
     → Kept tariff counts rider book rides → (bytes : List ℕ) (room : ℕ) (outcome : Outcome) → settled tariff book bytes room ≡ outcome
     → Kept tariff counts rider (bookAfter outcome book) (ridesAfter tariff counts rider book bytes outcome rides)
 unfolding ridesAfter

@@ -33,7 +33,8 @@ use Rattle.fare.specs.Distance.{apart, kmFrom, kmOf}
 use Rattle.fare.specs.Rides.{rideOf}
 use Rattle.fare.specs.Prices.{step1, step2, step3, step4, tripCap, priceOf}
 use Rattle.book.specs.Words.{bookSize, freshBook, word, putWord, pairPlace, secondSum, allSum}
-use Rattle.book.specs.Caps.{secondCap, allCap, leftOf, cappedHere}
+use Rattle.caps.specs.Limits.{leftOf, cappedHere}
+use Rattle.book.specs.Caps.{secondCap, allCap}
 use Rattle.book.specs.Charging.{cappedAt, chargeUp, riderCharge, riderCharges, bicycleCharges, chargesOf}
 use Rattle.book.specs.Posting.{addHere, addUp, addList, coverBicycles, opened, posted}
 use Rattle.promises.specs.Cases.{

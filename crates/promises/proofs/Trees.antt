@@ -1,24 +1,26 @@
 -- The areas of a faultless tariff, with an adult's or a child's caps, are a tree: each below its parent up to the state, and each
 -- second-class cap no larger than the all-classes one, since raising never lowers an amount and reducing keeps the order.
 -- Assumes nothing.
-use Prim.Native.Nat.{ℕ, _+_, _≤_}
+use Prim.Native.Nat.{ℕ, _+_, _≤_, _<_}
 use native.Mathlib.Nat.{le-trans, mul-le-mul-right}
 use native.Mathlib.Omega.{arith}
+use mathlib.Core.Path.{_≡_, refl, sym}
 use mathlib.Core.Bool.{Bool, true, false}
 use mathlib.Core.List.{List}
 use Rattle.units.specs.declared.Cap.{Cap}
 use Rattle.units.specs.declared.Cap.the-variants.{NoCap, UpTo}
 use Rattle.units.specs.Rounding.{hundredthsOf, raisedBy}
 use Rattle.units.proofs.Rounding.{hundredths-least, hundredths-not-below}
+use Rattle.caps.specs.Limits.{CapOrder, neither, both}
+use Rattle.caps.specs.Tree.{foldUp, among, IsTree, within}
+use Rattle.caps.proofs.Climb.{within-past}
 use Rattle.tariff.specs.declared.Area.{Area}
 use Rattle.tariff.specs.declared.Counts.{Counts}
-use Rattle.tariff.specs.Areas.{areaAt, Read}
+use Rattle.tariff.specs.Areas.{areaAt, liesWithin, Read}
 use Rattle.tariff.proofs.Faultless.{faultless}
 use Rattle.tariff.proofs.Within.{above-of, parent-there}
 use Rattle.fare.specs.Prices.{step4}
 use Rattle.book.specs.Caps.{secondCap, allCap}
-use Rattle.book.proofs.Chains.{within-top, within-above}
-use Rattle.promises.specs.Tree.{IsTree, CapOrder, neither, both}
 use Rattle.promises.specs.Runs.{treeOf}
 
 -- hundredths keep the order of amounts
@@ -52,11 +54,19 @@ is-tree tariff counts read child =
     let t = faultless tariff counts read in
     record {
       state = t .some;
+      state-parent = above-of t 0 (t .some) .state-parent refl;
       few-levels = λ a h. above-of t a h .level;
       parent-there = parent-there t;
       parent-level = λ a h low. omega (arith, above-of t a h .level-up);
       top-level = λ a h. above-of t a h .state-only;
-      within-top = λ a x h. within-top t a x h;
       caps-order = λ a h. caps-in-order (areaAt tariff a) _;
-      within-above = λ a x h low. within-above t a x h;
     }
+
+-- An area lies within what it lies within in the tree: three areas are enough for all levels.
+pub lies-within :
+    (tariff : List ℕ) (counts : Counts) → Read tariff counts → (child : Bool) (a x : ℕ) → a < counts .areas
+    → liesWithin tariff a x ≡ within (treeOf tariff counts child) a x
+unfolding liesWithin among foldUp
+lies-within tariff counts read child a x h =
+    let tree = is-tree tariff counts read child in
+    within-past tree a x 2 h (tree .few-levels a h)

@@ -1,5 +1,3 @@
-pub mod Tree
-pub mod Charged
 pub mod Conditions
 pub mod Runs
 pub mod Moved

@@ -6,9 +6,11 @@ use mathlib.Core.List.{List, [], _∷_}
 use mathlib.Core.Bool.{Bool, cond}
 use lib.Dec.{leb, ltb}
 use Rattle.wire.specs.Number.{getLe}
+use Rattle.caps.specs.Tree.{Tree}
+use Rattle.caps.specs.Rides.{ChargedRide}
 use Rattle.tariff.specs.declared.Counts.{Counts}
 use Rattle.tariff.specs.Rules.{levelOf}
-use Rattle.tariff.specs.Areas.{areaAt, parentOf, liesWithin}
+use Rattle.tariff.specs.Areas.{areaAt, parentOf}
 use Rattle.trip.specs.declared.Trip.{Trip}
 use Rattle.trip.specs.declared.Party.{Party}
 use Rattle.trip.specs.declared.Offered.the-variants.{Good, BadRecord, BadParty, UnknownStop, BadStamp, BadOrder}
@@ -19,8 +21,6 @@ use Rattle.book.specs.Words.{freshBook}
 use Rattle.book.specs.Windows.{belongs}
 use Rattle.book.specs.Caps.{capsHere}
 use Rattle.settle.specs.Outcome.{Outcome, refused, accepted, settled, bookAfter}
-use Rattle.promises.specs.Tree.{Tree}
-use Rattle.promises.specs.Charged.{Entry}
 
 -- a trip offered: its bytes, and the room for its record
 pub record Offer : Type 0 where
@@ -45,7 +45,7 @@ abbrev pub placeOf : Party → ℕ → ℕ
 placeOf party rider = cond (isChild rider) (1 + party .adults + (rider - 11)) rider
 
 -- a rider's ride: its area, class and price, and the 4-byte number at the rider's place in the written record
-unfoldable pub entryOf : List ℕ → Counts → ℕ → List ℕ → Trip → List ℕ → Entry
+unfoldable pub entryOf : List ℕ → Counts → ℕ → List ℕ → Trip → List ℕ → ChargedRide
 entryOf tariff counts rider bytes trip entry =
     let ride = rideOf tariff (counts .areas) bytes trip in
     record {
@@ -56,13 +56,13 @@ entryOf tariff counts rider bytes trip entry =
     }
 
 -- the rider's rides so far, with an accepted trip: one more where it carries the rider; and none from before where it opens a window
-unfoldable pub ridesWith : List ℕ → Counts → ℕ → List ℕ → List ℕ → Trip → List ℕ → List Entry → List Entry
+unfoldable pub ridesWith : List ℕ → Counts → ℕ → List ℕ → List ℕ → Trip → List ℕ → List ChargedRide → List ChargedRide
 ridesWith tariff counts rider book bytes trip entry before =
     let kept = cond (belongs book (trip .checkout .0)) before [] in
     cond (carries (trip .party) rider) (entryOf tariff counts rider bytes trip entry ∷ kept) kept
 
 -- the rider's rides so far, with an outcome: a refusal leaves them
-unfoldable pub ridesAfter : List ℕ → Counts → ℕ → List ℕ → List ℕ → Outcome → List Entry → List Entry
+unfoldable pub ridesAfter : List ℕ → Counts → ℕ → List ℕ → List ℕ → Outcome → List ChargedRide → List ChargedRide
 ridesAfter tariff counts rider book bytes outcome before =
     elim outcome [
       | refused number place ↦ before
@@ -78,7 +78,7 @@ ridesAfter tariff counts rider book bytes outcome before =
     ]
 
 -- a rider's rides in the window that is open at the run's end, the latest first
-unfoldable pub ridesOf : List ℕ → Counts → ℕ → List Offer → List Entry
+unfoldable pub ridesOf : List ℕ → Counts → ℕ → List Offer → List ChargedRide
 ridesOf tariff counts rider [] = []
 ridesOf tariff counts rider (o ∷ run) =
     ridesAfter tariff counts rider (bookOf tariff run) (o .bytes) (settled tariff (bookOf tariff run) (o .bytes) (o .room))
@@ -91,6 +91,5 @@ treeOf tariff counts child =
       size = counts .areas;
       parent = parentOf tariff;
       level = levelOf tariff;
-      within = liesWithin tariff;
       caps = λ area. capsHere (areaAt tariff area) child;
     }

@@ -1,12 +1,12 @@
--- `book::limits::left_of` meets its contract: over a sum that the cap has passed, the difference is 0.
+-- `caps::left_of` meets its contract: over a sum that the cap has passed, the difference is 0.
 -- Assumes nothing.
 use Prim.Native.Nat.{_-_}
 use native.Mathlib.Omega.{arith}
 use mathlib.Core.Path.{_≡_}
 use borrow.Author.Needs.{needs}
-use Rattle.book.specs.Caps.{leftOf}
-use Rattle.book.proofs.limits.left_of.Statement.{statement}
-use Rattle.book.proofs.limits.left_of.Tie as tie
+use Rattle.caps.specs.Limits.{leftOf}
+use Rattle.caps.proofs.left_of.Statement.{statement}
+use Rattle.caps.proofs.left_of.Tie as tie
 
 enum-told : tie.Need-enum-told
 enum-told c = search needs

@@ -9,9 +9,9 @@ use mathlib.Core.Bool.{Bool, true, false, cond, _||_, and-eq-true-iff}
 use mathlib.Core.List.{List, [], _∷_}
 use borrow.Author.Tests.{ltb-true, eqb-true, eq-eqb, ne-eqb, lt-ltb, le-ltb}
 use lib.Dec.{eqb, ltb}
-use Rattle.promises.specs.Tree.{Tree, IsTree}
-use Rattle.promises.specs.Charged.{Entry, Charged, none, more, allTotal, childOf, overChildren}
-use Rattle.promises.proofs.Chain.{upwards, not-within-child}
+use Rattle.caps.specs.Tree.{Tree, IsTree, within}
+use Rattle.caps.specs.Rides.{ChargedRide, ChargedInTurn, none, more, allTotal, childOf, overChildren}
+use Rattle.caps.proofs.Climb.{upwards, within-top, within-above, not-within-child}
 
 -- what the test of lying right below says
 pub child-is : (t : Tree) (y x : ℕ) → childOf t y x ≡ true → (0 < t .level y) × (t .parent y ≡ x)
@@ -75,26 +75,26 @@ module _ {t : Tree} (tree : IsTree t) where
   -- an amount at each area that a lies within is an amount at a and at each area that its parent lies within
   at-chain :
       (a c x : ℕ) → a < t .size → 0 < t .level a
-      → cond (t .within a x) c 0 ≡ cond (eqb a x) c 0 + cond (t .within (t .parent a) x) c 0
-  at-chain a c x h low = rw (tree .within-above a x h low) (go (eqb a x) refl (t .within (t .parent a) x) refl)
+      → cond (within t a x) c 0 ≡ cond (eqb a x) c 0 + cond (within t (t .parent a) x) c 0
+  at-chain a c x h low = rw (within-above tree a x h low) (go (eqb a x) refl (within t (t .parent a) x) refl)
     where
       go :
-          (b : Bool) → eqb a x ≡ b → (w : Bool) → t .within (t .parent a) x ≡ w
+          (b : Bool) → eqb a x ≡ b → (w : Bool) → within t (t .parent a) x ≡ w
           → cond (b || w) c 0 ≡ cond b c 0 + cond w c 0
       go true e true above =
-          absurd (not-within-child tree a h low (subst (λ y. t .within (t .parent a) y ≡ true) (sym (eqb-true a x e)) above))
+          absurd (not-within-child tree a h low (subst (λ y. within t (t .parent a) y ≡ true) (sym (eqb-true a x e)) above))
       go true e false above = omega arith
       go false e w above = sym (zero-add (cond w c 0))
 
   -- a ride within an area is its own, or within exactly one of the areas right below it
   one-below :
       (c a : ℕ) → a < t .size → (x : ℕ)
-      → cond (t .within a x) c 0 ≡ cond (eqb a x) c 0 + overChildren t x (λ y. cond (t .within a y) c 0) (t .size)
+      → cond (within t a x) c 0 ≡ cond (eqb a x) c 0 + overChildren t x (λ y. cond (within t a y) c 0) (t .size)
   one-below c =
       upwards tree (λ a. (x : ℕ) → amount a x ≡ own a x + overChildren t x (amount a) (t .size))
       (λ a h top x.
       let no-child : cond (childOf t a x) c 0 ≡ 0 = rw (le-ltb 0 (t .level a) (omega arith)) in
-      let alone : (y : ℕ) → amount a y ≡ own a y = λ y. rw (tree .within-top a y h top) in
+      let alone : (y : ℕ) → amount a y ≡ own a y = λ y. rw (within-top tree a y top) in
       omega (arith, no-child, alone x, over-same t x alone, over-one t x a c (t .size) h))
       λ a h low above x.
       let child : cond (childOf t a x) c 0 ≡ own (t .parent a) x = rw (lt-ltb 0 (t .level a) low) in
@@ -113,23 +113,23 @@ module _ {t : Tree} (tree : IsTree t) where
       own a y = cond (eqb a y) c 0
 
       amount : ℕ → ℕ → ℕ
-      amount a y = cond (t .within a y) c 0
+      amount a y = cond (within t a y) c 0
 
 -- the charges of an area's own rides
-unfoldable pub ownCharges : ℕ → List Entry → ℕ
+unfoldable pub ownCharges : ℕ → List ChargedRide → ℕ
 ownCharges x [] = 0
 ownCharges x (e ∷ es) = ownCharges x es + cond (eqb (e .area) x) (e .charge) 0
 
 -- An area's total is what its own rides were charged and the totals of the areas right below it.
 pub total-in-parts :
-    {t : Tree} → IsTree t → {es : List Entry} → Charged t es → (x : ℕ)
+    {t : Tree} → IsTree t → {es : List ChargedRide} → ChargedInTurn t es → (x : ℕ)
     → allTotal t x es ≡ ownCharges x es + overChildren t x (λ y. allTotal t y es) (t .size)
 unfolding allTotal ownCharges
 total-in-parts {t} tree none x = omega (arith, over-nothing t x (λ y. 0) (t .size) (λ y h b. refl))
-total-in-parts {t} tree (more {e} {es} r there class is) x =
+total-in-parts {t} tree (more {e} {es} r there is) x =
     omega (
       arith,
       total-in-parts tree r x,
       one-below tree (e .charge) (e .area) there x,
-      over-add t x (λ y. allTotal t y es) (λ y. cond (t .within (e .area) y) (e .charge) 0) (t .size),
+      over-add t x (λ y. allTotal t y es) (λ y. cond (within t (e .area) y) (e .charge) 0) (t .size),
     )

@@ -14,17 +14,16 @@ use borrow.Author.Tests.{eqb-true, eq-eqb}
 use lib.Dec.{eqb}
 use Rattle.units.specs.Caps.{cappedBy}
 use Rattle.units.proofs.Caps.{capped-most}
-use Rattle.promises.specs.Tree.{Tree, IsTree}
-use Rattle.promises.specs.Charged.{
-  Entry,
-  Charged,
+use Rattle.caps.specs.Tree.{Tree, IsTree, within}
+use Rattle.caps.specs.Limits.{AtMost, Full}
+use Rattle.caps.specs.Rides.{
+  ChargedRide,
+  ChargedInTurn,
   none,
   more,
   allTotal,
   secondTotal,
   charges,
-  AtMost,
-  Full,
   CapFull,
   all-full,
   second-full,
@@ -36,21 +35,21 @@ use Rattle.promises.specs.Charged.{
   totalsAlone,
   oneClass,
 }
-use Rattle.promises.proofs.Cut.{stays-full, smaller-full, full-or-not, fits-capped, full-capped, capped-mono}
-use Rattle.promises.proofs.Chain.{top-alone, within-cases, state-level}
-use Rattle.promises.proofs.Window.{no-more-than-price, no-cap-passed, cut-leaves-full, state-total}
-use Rattle.promises.proofs.Children.{child-is, over-mono, over-nothing, ownCharges, total-in-parts}
+use Rattle.caps.proofs.Cut.{stays-full, smaller-full, full-or-not, fits-capped, full-capped, capped-mono}
+use Rattle.caps.proofs.Climb.{top-alone, within-cases, state-level}
+use Rattle.caps.proofs.Window.{no-more-than-price, no-cap-passed, cut-leaves-full, state-total}
+use Rattle.caps.proofs.Children.{child-is, over-mono, over-nothing, ownCharges, total-in-parts}
 
 -- the latest ride and the rides before it are of the one class
 one-class-parts :
-    (class : ℕ) (e : Entry) (es : List Entry) → oneClass class (e ∷ es) ≡ true → (e .class ≡ class) × (oneClass class es ≡ true)
+    (class : ℕ) (e : ChargedRide) (es : List ChargedRide) → oneClass class (e ∷ es) ≡ true → (e .class ≡ class) × (oneClass class es ≡ true)
 unfolding oneClass
 one-class-parts class e es one =
     let (same, before) = and-eq-true-iff (eqb (e .class) class) (oneClass class es) .0 one in
     (eqb-true (e .class) class same, before)
 
 -- where all rides are of class 2 the two totals are one
-second-is-all : (t : Tree) (class x : ℕ) (es : List Entry) → class ≡ 2 → oneClass class es ≡ true → secondTotal t x es ≡ allTotal t x es
+second-is-all : (t : Tree) (class x : ℕ) (es : List ChargedRide) → class ≡ 2 → oneClass class es ≡ true → secondTotal t x es ≡ allTotal t x es
 unfolding secondTotal allTotal
 second-is-all t class x [] two one = refl
 second-is-all t class x (e ∷ es) two one =
@@ -62,7 +61,7 @@ module _ {t : Tree} (tree : IsTree t) (class : ℕ) where
 
   -- it is not passed
   class-kept :
-      {es : List Entry} → Charged t es → oneClass class es ≡ true → (x : ℕ) → x < t .size
+      {es : List ChargedRide} → ChargedInTurn t es → oneClass class es ≡ true → (x : ℕ) → x < t .size
       → AtMost (allTotal t x es) (capOf t class x)
   class-kept {es} r one x h = go (eqb class 2) refl
     where
@@ -72,8 +71,8 @@ module _ {t : Tree} (tree : IsTree t) (class : ℕ) where
 
   -- where one of a ride's caps is full, the one that counts there is full
   class-full :
-      {e : Entry} {es : List Entry} → Charged t (e ∷ es) → oneClass class (e ∷ es) ≡ true → CapFull t e (e ∷ es)
-      → (x : ℕ) × (x < t .size) × (t .within (e .area) x ≡ true) × Full (allTotal t x (e ∷ es)) (capOf t class x)
+      {e : ChargedRide} {es : List ChargedRide} → ChargedInTurn t (e ∷ es) → oneClass class (e ∷ es) ≡ true → CapFull t e (e ∷ es)
+      → (x : ℕ) × (x < t .size) × (within t (e .area) x ≡ true) × Full (allTotal t x (e ∷ es)) (capOf t class x)
   class-full {e} {es} r one (all-full x h w f) = (x, h, w, go (eqb class 2) refl)
     where
       go : (two : Bool) → eqb class 2 ≡ two → Full (allTotal t x (e ∷ es)) (cond two (t .caps x .second) (t .caps x .all))
@@ -89,40 +88,40 @@ module _ {t : Tree} (tree : IsTree t) (class : ℕ) where
   -- ---- Own rides.
 
   -- no cap of an area, nor of one above, is full
-  Open : List Entry → ℕ → Type 0
-  Open es x = (z : ℕ) → z < t .size → t .within x z ≡ true → Full (allTotal t z es) (capOf t class z) → ⊥
+  Open : List ChargedRide → ℕ → Type 0
+  Open es x = (z : ℕ) → z < t .size → within t x z ≡ true → Full (allTotal t z es) (capOf t class z) → ⊥
 
   -- what is open now was open one ride before
   open-before :
-      {e : Entry} {es : List Entry} → Charged t (e ∷ es) → oneClass class (e ∷ es) ≡ true → (x : ℕ) → Open (e ∷ es) x → Open es x
+      {e : ChargedRide} {es : List ChargedRide} → ChargedInTurn t (e ∷ es) → oneClass class (e ∷ es) ≡ true → (x : ℕ) → Open (e ∷ es) x → Open es x
   unfolding Open allTotal
   open-before r one x now z h w f = now z h w (stays-full (capOf t class z) (omega arith) (class-kept r one z h) f)
 
   -- own rides are charged no more than their prices
-  own-most : {es : List Entry} → Charged t es → (x : ℕ) → ownCharges x es ≤ ownPrices x es
+  own-most : {es : List ChargedRide} → ChargedInTurn t es → (x : ℕ) → ownCharges x es ≤ ownPrices x es
   unfolding ownCharges ownPrices
   own-most none x = le-refl 0
-  own-most (more {e} {es} r there known is) x = omega (arith, own-most r x, part (eqb (e .area) x))
+  own-most (more {e} {es} r there is) x = omega (arith, own-most r x, part (eqb (e .area) x))
     where
       part : (b : Bool) → cond b (e .charge) 0 ≤ cond b (e .price) 0
-      part true = no-more-than-price tree (more r there known is)
+      part true = no-more-than-price tree (more r there is)
       part false = le-refl 0
 
   -- and no less, where no cap is full
-  own-whole : {es : List Entry} → Charged t es → oneClass class es ≡ true → (x : ℕ) → Open es x → ownPrices x es ≤ ownCharges x es
+  own-whole : {es : List ChargedRide} → ChargedInTurn t es → oneClass class es ≡ true → (x : ℕ) → Open es x → ownPrices x es ≤ ownCharges x es
   unfolding ownCharges ownPrices Open
   own-whole none one x now = le-refl 0
-  own-whole (more {e} {es} r there known is) one x now =
+  own-whole (more {e} {es} r there is) one x now =
       omega (
         arith,
-        own-whole r (one-class-parts class e es one .1) x (open-before (more r there known is) one x now),
+        own-whole r (one-class-parts class e es one .1) x (open-before (more r there is) one x now),
         part (eqb (e .area) x) refl,
       )
     where
       uncut : e .area ≡ x → e .charge < e .price → ⊥
       uncut same below =
-          let (z, h, w, full) = class-full (more r there known is) one (cut-leaves-full tree (more r there known is) below) in
-          now z h (subst (λ a. t .within a z ≡ true) same w) full
+          let (z, h, w, full) = class-full (more r there is) one (cut-leaves-full tree (more r there is) below) in
+          now z h (subst (λ a. within t a z ≡ true) same w) full
 
       part : (b : Bool) → eqb (e .area) x ≡ b → cond b (e .price) 0 ≤ cond b (e .charge) 0
       part true same = omega (arith, uncut (eqb-true (e .area) x same))
@@ -144,29 +143,29 @@ module _ {t : Tree} (tree : IsTree t) (class : ℕ) where
       absurd (omega (arith, tree .few-levels y h, rw up at (tree .parent-level y h low)))
 
   -- no cap strictly above an area is full
-  OpenAbove : List Entry → ℕ → Type 0
-  OpenAbove es x = (z : ℕ) → z < t .size → t .within x z ≡ true → (x ≡ z → ⊥) → Full (allTotal t z es) (capOf t class z) → ⊥
+  OpenAbove : List ChargedRide → ℕ → Type 0
+  OpenAbove es x = (z : ℕ) → z < t .size → within t x z ≡ true → (x ≡ z → ⊥) → Full (allTotal t z es) (capOf t class z) → ⊥
 
   -- so it is above an area right below an open one
-  open-child : (es : List Entry) (x y : ℕ) → y < t .size → childOf t y x ≡ true → Open es x → OpenAbove es y
+  open-child : (es : List ChargedRide) (x y : ℕ) → y < t .size → childOf t y x ≡ true → Open es x → OpenAbove es y
   unfolding Open OpenAbove
   open-child es x y h child now z k w other f =
       ⊎-elim other (λ above. now z k (rw (child-is t y x child .1) at (above .1)) f) (within-cases tree y z h w)
 
   -- and above the state
-  open-state : (es : List Entry) → OpenAbove es 0
+  open-state : (es : List ChargedRide) → OpenAbove es 0
   unfolding OpenAbove
-  open-state es z k w other f = other (top-alone tree 0 z (tree .state) (state-level tree) w)
+  open-state es z k w other f = other (top-alone tree 0 z (state-level tree) w)
 
   -- an area with no full cap above it is open too, or its own cap is full and no capped amount is larger than its total
   reached :
-      (es : List Entry) (x amount : ℕ) → OpenAbove es x → (Open es x → amount ≤ allTotal t x es)
+      (es : List ChargedRide) (x amount : ℕ) → OpenAbove es x → (Open es x → amount ≤ allTotal t x es)
       → cappedBy (capOf t class x) amount ≤ allTotal t x es
   unfolding Open OpenAbove
   reached es x amount above whole = go (full-or-not (capOf t class x) (allTotal t x es))
     where
       now :
-          (Full (allTotal t x es) (capOf t class x) → ⊥) → (z : ℕ) → Dec (x ≡ z) → z < t .size → t .within x z ≡ true
+          (Full (allTotal t x es) (capOf t class x) → ⊥) → (z : ℕ) → Dec (x ≡ z) → z < t .size → within t x z ≡ true
           → Full (allTotal t z es) (capOf t class z) → ⊥
       now unfilled z (yes same) k w f = unfilled (rw same f)
       now unfilled z (no other) k w f = above z k w other f
@@ -177,7 +176,7 @@ module _ {t : Tree} (tree : IsTree t) (class : ℕ) where
 
   -- each total reaches what totals alone give, where no cap above is full
   lower :
-      {es : List Entry} → Charged t es → oneClass class es ≡ true → (depth x : ℕ) → x < t .size → t .level x + depth ≡ 2
+      {es : List ChargedRide} → ChargedInTurn t es → oneClass class es ≡ true → (depth x : ℕ) → x < t .size → t .level x + depth ≡ 2
       → OpenAbove es x → resultOf t class es depth x ≤ allTotal t x es
   unfolding resultOf
   lower {es} r one zero x h level above =
@@ -194,7 +193,7 @@ module _ {t : Tree} (tree : IsTree t) (class : ℕ) where
 
   -- no total exceeds it
   upper :
-      {es : List Entry} → Charged t es → oneClass class es ≡ true → (depth x : ℕ) → x < t .size → t .level x + depth ≡ 2
+      {es : List ChargedRide} → ChargedInTurn t es → oneClass class es ≡ true → (depth x : ℕ) → x < t .size → t .level x + depth ≡ 2
       → allTotal t x es ≤ resultOf t class es depth x
   unfolding resultOf
   upper {es} r one zero x h level =
@@ -213,7 +212,7 @@ module _ {t : Tree} (tree : IsTree t) (class : ℕ) where
       (class-kept r one x h)
 
   -- Where all of a rider's rides in a window are of one class, the charges add up to what totals alone give.
-  pub one-class-total : {es : List Entry} → Charged t es → oneClass class es ≡ true → charges es ≡ totalsAlone t class es
+  pub one-class-total : {es : List ChargedRide} → ChargedInTurn t es → oneClass class es ≡ true → charges es ≡ totalsAlone t class es
   one-class-total {es} r one =
       let level : t .level 0 + 2 ≡ 2 = omega (arith, state-level tree) in
       omega (arith, state-total tree r, upper r one 2 0 (tree .state) level, lower r one 2 0 (tree .state) level (open-state es))
@@ -222,7 +221,7 @@ module _ {t : Tree} (tree : IsTree t) (class : ℕ) where
 
   -- what totals alone give goes by the prices of each area's own rides
   result-mono :
-      (es fs : List Entry) → ((x : ℕ) → x < t .size → ownPrices x es ≤ ownPrices x fs) → (depth x : ℕ) → x < t .size
+      (es fs : List ChargedRide) → ((x : ℕ) → x < t .size → ownPrices x es ≤ ownPrices x fs) → (depth x : ℕ) → x < t .size
       → resultOf t class es depth x ≤ resultOf t class fs depth x
   unfolding resultOf
   result-mono es fs prices zero x h = capped-mono (capOf t class x) (prices x h)
@@ -237,7 +236,7 @@ module _ {t : Tree} (tree : IsTree t) (class : ℕ) where
 
   -- Two windows of one class with the same prices in each area are charged the same in all, whatever the order of their rides.
   pub order-free :
-      {es fs : List Entry} → Charged t es → Charged t fs → oneClass class es ≡ true → oneClass class fs ≡ true
+      {es fs : List ChargedRide} → ChargedInTurn t es → ChargedInTurn t fs → oneClass class es ≡ true → oneClass class fs ≡ true
       → ((x : ℕ) → x < t .size → ownPrices x es ≡ ownPrices x fs) → charges es ≡ charges fs
   order-free {es} {fs} r s one two same =
       omega (

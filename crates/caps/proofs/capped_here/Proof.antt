@@ -1,11 +1,11 @@
--- `book::limits::capped_here` meets its contract: the all-classes cap first, then in class 2 the second-class cap on what that leaves.
+-- `caps::capped_here` meets its contract: the all-classes cap first, then in class 2 the second-class cap on what that leaves.
 -- Assumes nothing.
 use native.Mathlib.Omega.{arith}
 use borrow.Author.Tests.{eq-eqb, ne-eqb}
 use borrow.Author.Needs.{needs}
-use Rattle.book.specs.Caps.{cappedHere}
-use Rattle.book.proofs.limits.capped_here.Statement.{statement}
-use Rattle.book.proofs.limits.capped_here.Tie as tie
+use Rattle.caps.specs.Limits.{cappedHere}
+use Rattle.caps.proofs.capped_here.Statement.{statement}
+use Rattle.caps.proofs.capped_here.Tie as tie
 
 left-of-requires : tie.Need-left-of-requires
 left-of-requires c κs = search needs

@@ -1,0 +1,6 @@
+pub mod OneClass
+pub mod Window
+pub mod Children
+pub mod Charge
+pub mod Climb
+pub mod Cut
