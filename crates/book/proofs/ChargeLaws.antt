@@ -31,55 +31,55 @@ use Rattle.book.specs.Charging.{Rideable, cappedAt, chargeUp, chargeBy, 
 use Rattle.book.proofs.WordLaws.{word-fresh}
 use Rattle.book.proofs.SoundLaws.{SoundBook, sound-has}
 
-module _ (t w : List ℕ) (rider : ℕ) (child : Bool) (class : ℕ) where
-  pub capped-at-most : (a amount : ℕ) → cappedAt t w rider child class a amount ≤ amount
+module _ (t : List ℕ) (counts : Counts) (w : List ℕ) (rider : ℕ) (child : Bool) (class : ℕ) where
+  pub capped-at-most : (a amount : ℕ) → cappedAt t counts w rider child class a amount ≤ amount
   unfolding cappedAt
-  capped-at-most a amount = here-most (capsHere (areaAt t a) child) class _ _ amount
+  capped-at-most a amount = here-most (capsHere (areaAt t counts a) child) class _ _ amount
 
   -- an area that stands in a chain again
   capped-again :
       (a b amount : ℕ) → b ≡ a
-      → cappedAt t w rider child class b (cappedAt t w rider child class a amount) ≡ cappedAt t w rider child class a amount
+      → cappedAt t counts w rider child class b (cappedAt t counts w rider child class a amount) ≡ cappedAt t counts w rider child class a amount
   unfolding cappedAt
-  capped-again a b amount e = rw e (here-again (capsHere (areaAt t a) child) class _ _ amount)
+  capped-again a b amount e = rw e (here-again (capsHere (areaAt t counts a) child) class _ _ amount)
 
   -- No charge is above the price.
-  pub charge-most : (level a amount : ℕ) → chargeUp level t w rider child class a amount ≤ amount
+  pub charge-most : (level a amount : ℕ) → chargeUp level t counts w rider child class a amount ≤ amount
   unfolding chargeUp
   charge-most zero a amount = capped-at-most a amount
   charge-most (suc level) a amount =
-      le-trans (charge-most level (parentOf t a) (cappedAt t w rider child class a amount)) (capped-at-most a amount)
+      le-trans (charge-most level (parentOf t counts a) (cappedAt t counts w rider child class a amount)) (capped-at-most a amount)
 
   -- A charge by the chain of an area is the one by the area and every area above it: in a region's chain the state stands twice, and in
   -- its own three times.
   pub charge-by :
-      {areas stops : ℕ} → FaultlessTariff t areas stops → (a : ℕ) → a < areas → (amount : ℕ)
-      → chargeBy (chainOf t a child) w rider class amount ≡ chargeUp (levelOf t a) t w rider child class a amount
+      FaultlessTariff t counts → (a : ℕ) → a < counts .areas → (amount : ℕ)
+      → chargeBy (chainOf t counts a child) w rider class amount ≡ chargeUp (levelOf t counts a) t counts w rider child class a amount
   unfolding chargeBy cappedAt chargeUp
-  charge-by f a there amount = go (levelOf t a) refl
+  charge-by f a there amount = go (levelOf t counts a) refl
     where
       up : ℕ
-      up = parentOf t a
+      up = parentOf t counts a
 
       here : ℕ
-      here = cappedAt t w rider child class a amount
+      here = cappedAt t counts w rider child class a amount
 
-      go : (level : ℕ) → levelOf t a ≡ level → chargeBy (chainOf t a child) w rider class amount ≡ chargeUp level t w rider child class a amount
+      go : (level : ℕ) → levelOf t counts a ≡ level → chargeBy (chainOf t counts a child) w rider class amount ≡ chargeUp level t counts w rider child class a amount
       go zero e =
           let none = above-of f a there .state-only e in
           let own : up ≡ a = omega (arith, above-of f a there .state-parent none) in
-          let top : parentOf t up ≡ a = omega (arith, parent-top f a there) in
-          rw (capped-again a up amount own) (capped-again a (parentOf t up) amount top)
+          let top : parentOf t counts up ≡ a = omega (arith, parent-top f a there) in
+          rw (capped-again a up amount own) (capped-again a (parentOf t counts up) amount top)
       go (suc zero) e =
           let over = above-of f a there in
           let none = above-of f up (parent-there f a there) .state-only (omega arith) in
-          capped-again up (parentOf t up) here (omega (arith, parent-top f a there))
+          capped-again up (parentOf t counts up) here (omega (arith, parent-top f a there))
       go (suc (suc zero)) e = refl
       go (suc (suc (suc level))) e = absurd (omega (arith, above-of f a there .level))
 
 -- A bicycle's new covering area is one of the tariff's.
 pub cover-there :
-    {t : List ℕ} {areas stops : ℕ} → FaultlessTariff t areas stops → (a old : ℕ) → a < areas → old ≤ areas → newCover t a old < areas
+    {t : List ℕ} {counts : Counts} → FaultlessTariff t counts → (a old : ℕ) → a < counts .areas → old ≤ counts .areas → newCover t counts a old < counts .areas
 unfolding newCover
 cover-there f a old here known =
     elim (ℕ-discrete old 0) [
@@ -89,19 +89,19 @@ cover-there f a old here known =
 
 -- A bicycle in a ride of area a: its new covering area and its charge.
 module _ (t : List ℕ) (counts : Counts) (a : ℕ) (read : Read t counts) (here : a < counts .areas) where
-  pub cover-first : (old : ℕ) → old ≡ 0 → NewCover t (counts .areas) a old a
+  pub cover-first : (old : ℕ) → old ≡ 0 → NewCover t counts a old a
   unfolding newCover
   cover-first old none = record { value = rw (eq-eqb old 0 none); there = here }
 
   pub cover-more :
-      (old r : ℕ) → (old ≡ 0 → ⊥) → Smallest t (counts .areas) a (old - 1) r → NewCover t (counts .areas) a old r
+      (old r : ℕ) → (old ≡ 0 → ⊥) → Smallest t counts a (old - 1) r → NewCover t counts a old r
   unfolding newCover
   cover-more old r used s = record { value = rw (ne-eqb old 0 used, s .value); there = s .there }
 
   -- the new covering area contains the old one, so its flat is at least what is paid
   pub paid-most :
-      {old new r paid : ℕ} → 0 < old → old ≤ counts .areas → NewCover t (counts .areas) a old new → FlatOf t new r
-      → FlatOf t (old - 1) paid → paid ≤ r
+      {old new r paid : ℕ} → 0 < old → old ≤ counts .areas → NewCover t counts a old new → FlatOf t counts new r
+      → FlatOf t counts (old - 1) paid → paid ≤ r
   unfolding newCover
   paid-most {old} {new} {r} {paid} used known cover flat before =
       let f = faultless t counts read in
@@ -110,14 +110,14 @@ module _ (t : List ℕ) (counts : Counts) (a : ℕ) (read : Read t counts) (here
       rw (before .value, flat .value, cover .value, ne-eqb old 0 (λ none. omega arith)) least
 
   -- the contract of `charge_bicycle`, from the flats of the two covering areas
-  pub bicycle-first : {old new r : ℕ} → old ≤ 0 → NewCover t (counts .areas) a old new → FlatOf t new r → BicycleCharge t a old r
+  pub bicycle-first : {old new r : ℕ} → old ≤ 0 → NewCover t counts a old new → FlatOf t counts new r → BicycleCharge t counts a old r
   unfolding bicycleCharge
   bicycle-first {old} {new} {r} none cover flat =
       record { value = rw (eq-eqb old 0 (omega arith), ← cover .value, sub-zero) (flat .value); range = flat .range }
 
   pub bicycle-more :
-      {old new r paid : ℕ} → 0 < old → NewCover t (counts .areas) a old new → FlatOf t new r → FlatOf t (old - 1) paid
-      → BicycleCharge t a old (r - paid)
+      {old new r paid : ℕ} → 0 < old → NewCover t counts a old new → FlatOf t counts new r → FlatOf t counts (old - 1) paid
+      → BicycleCharge t counts a old (r - paid)
   unfolding bicycleCharge
   bicycle-more {old} {new} {r} {paid} used cover flat before =
       record {
@@ -125,12 +125,12 @@ module _ (t : List ℕ) (counts : Counts) (a : ℕ) (read : Read t counts) (here
         range = omega (arith, flat .range);
       }
 
-  pub bicycle-most : (old : ℕ) → old ≤ counts .areas → bicycleCharge t a old ≤ 60000
+  pub bicycle-most : (old : ℕ) → old ≤ counts .areas → bicycleCharge t counts a old ≤ 60000
   unfolding bicycleCharge
   bicycle-most old known =
       let f = faultless t counts read in
-      let new = newCover t a old in
-      omega (arith, f .area new (cover-there f a old here known) .flat, area-flat t new)
+      let new = newCover t counts a old in
+      omega (arith, f .area new (cover-there f a old here known) .flat, area-flat t counts new)
 
 -- A list made one value after another.
 unfoldable pub listed : (ℕ → ℕ) → ℕ → List ℕ
@@ -193,23 +193,23 @@ module _ {f : ℕ → ℕ} {before amounts : List ℕ} {from n i : ℕ} (filled 
   filled-all all = let same : n ≡ i = omega (arith, filled .some) in rw same (filled .so-far)
 
 -- The charges of riders one after another are such a list, and so are those of bicycles.
-module _ (t w : List ℕ) (ride : Ride) where
-  pub riders-listed : (child : Bool) (first n : ℕ) → listed (λ i. riderCharge t w ride child (first + i)) n ≡ riderCharges t w ride child first n
+module _ (t : List ℕ) (counts : Counts) (w : List ℕ) (ride : Ride) where
+  pub riders-listed : (child : Bool) (first n : ℕ) → listed (λ i. riderCharge t counts w ride child (first + i)) n ≡ riderCharges t counts w ride child first n
   unfolding listed riderCharges
   riders-listed child first zero = refl
   riders-listed child first (suc n) = rw (riders-listed child first n)
 
   -- and so are those by the chain of the ride's area
   pub riders-by-chain :
-      {areas stops : ℕ} → FaultlessTariff t areas stops → ride .area < areas → (child : Bool) (first : ℕ) {area : Area} {chain : Chain} {fare : ℕ}
-      → area ≡ areaAt t (ride .area) → chain ≡ chainOf t (ride .area) child → fare ≡ priceOf area ride child → (n : ℕ)
-      → listed (λ i. chargeBy chain w (first + i) (ride .class) fare) n ≡ riderCharges t w ride child first n
+      FaultlessTariff t counts → ride .area < counts .areas → (child : Bool) (first : ℕ) {area : Area} {chain : Chain} {fare : ℕ}
+      → area ≡ areaAt t counts (ride .area) → chain ≡ chainOf t counts (ride .area) child → fare ≡ priceOf area ride child → (n : ℕ)
+      → listed (λ i. chargeBy chain w (first + i) (ride .class) fare) n ≡ riderCharges t counts w ride child first n
   unfolding listed riderCharge riderCharges
   riders-by-chain f there child first e e′ e″ zero = refl
   riders-by-chain f there child first e e′ e″ (suc n) =
-      rw (riders-by-chain f there child first e e′ e″ n, e″, e, e′, charge-by t w (first + n) child _ f (ride .area) there)
+      rw (riders-by-chain f there child first e e′ e″ n, e″, e, e′, charge-by t counts w (first + n) child _ f (ride .area) there)
 
-  pub bicycles-listed : (n : ℕ) → listed (λ i. bicycleCharge t (ride .area) (coverWord w i)) n ≡ bicycleCharges t w ride n
+  pub bicycles-listed : (n : ℕ) → listed (λ i. bicycleCharge t counts (ride .area) (coverWord w i)) n ≡ bicycleCharges t counts w ride n
   unfolding listed bicycleCharges
   bicycles-listed zero = refl
   bicycles-listed (suc n) = rw (bicycles-listed n)
@@ -221,20 +221,20 @@ cover-known true s k few = s .covers k few
 cover-known false s k few = omega (arith, word-fresh (1347 + k))
 
 -- Among the charges of riders each stands at its place.
-module _ (t w : List ℕ) (ride : Ride) (child : Bool) (first count : ℕ) where
-  pub riders-length : length (riderCharges t w ride child first count) ≡ count
-  riders-length = rw (← riders-listed t w ride child first count) (listed-length _ count)
+module _ (t : List ℕ) (counts : Counts) (w : List ℕ) (ride : Ride) (child : Bool) (first count : ℕ) where
+  pub riders-length : length (riderCharges t counts w ride child first count) ≡ count
+  riders-length = rw (← riders-listed t counts w ride child first count) (listed-length _ count)
 
-  pub rider-at : (i : ℕ) → i < count → getD (riderCharges t w ride child first count) i 0 ≡ riderCharge t w ride child (first + i)
-  rider-at i h = rw (← riders-listed t w ride child first count) (listed-at _ count i h)
+  pub rider-at : (i : ℕ) → i < count → getD (riderCharges t counts w ride child first count) i 0 ≡ riderCharge t counts w ride child (first + i)
+  rider-at i h = rw (← riders-listed t counts w ride child first count) (listed-at _ count i h)
 
 -- and so does each bicycle among the bicycles
-module _ (t w : List ℕ) (ride : Ride) (count : ℕ) where
-  pub bicycles-length : length (bicycleCharges t w ride count) ≡ count
-  bicycles-length = rw (← bicycles-listed t w ride count) (listed-length _ count)
+module _ (t : List ℕ) (counts : Counts) (w : List ℕ) (ride : Ride) (count : ℕ) where
+  pub bicycles-length : length (bicycleCharges t counts w ride count) ≡ count
+  bicycles-length = rw (← bicycles-listed t counts w ride count) (listed-length _ count)
 
-  pub bicycle-at : (i : ℕ) → i < count → getD (bicycleCharges t w ride count) i 0 ≡ bicycleCharge t (ride .area) (coverWord w i)
-  bicycle-at i h = rw (← bicycles-listed t w ride count) (listed-at _ count i h)
+  pub bicycle-at : (i : ℕ) → i < count → getD (bicycleCharges t counts w ride count) i 0 ≡ bicycleCharge t counts (ride .area) (coverWord w i)
+  bicycle-at i h = rw (← bicycles-listed t counts w ride count) (listed-at _ count i h)
 
 -- three lists joined, of which the first has n values and the second m
 module _ (xs ys zs : List ℕ) (n m : ℕ) (e : length xs ≡ n) (e′ : length ys ≡ m) where
@@ -263,70 +263,70 @@ module _ (xs ys zs : List ℕ) (n m : ℕ) (e : length xs ≡ n) (e′ : length 
       ∙ ap (sets l 0) (append-assoc xs ys zs))
 
 -- The charges of a party: account holder and adults from 0 on, children from 1 + adults, bicycles from 1 + adults + children.
-module _ (t w : List ℕ) (ride : Ride) where
+module _ (t : List ℕ) (counts : Counts) (w : List ℕ) (ride : Ride) where
   abbrev older : List ℕ
-  older = riderCharges t w ride false 0 (1 + ride .party .adults)
+  older = riderCharges t counts w ride false 0 (1 + ride .party .adults)
 
   abbrev children : List ℕ
-  children = riderCharges t w ride true 11 (ride .party .children)
+  children = riderCharges t counts w ride true 11 (ride .party .children)
 
   abbrev bicycles : List ℕ
-  bicycles = bicycleCharges t w ride (ride .party .bicycles)
+  bicycles = bicycleCharges t counts w ride (ride .party .bicycles)
 
   -- the three parts, each stored behind the one before
   pub charges-stored :
       (l : List ℕ) {l₁ l₂ l₃ : List ℕ} → l₁ ≡ sets l 0 older → l₂ ≡ sets l₁ (1 + ride .party .adults) children
-      → l₃ ≡ sets l₂ (1 + ride .party .adults + ride .party .children) bicycles → l₃ ≡ sets l 0 (chargesOf t w ride)
+      → l₃ ≡ sets l₂ (1 + ride .party .adults + ride .party .children) bicycles → l₃ ≡ sets l 0 (chargesOf t counts w ride)
   unfolding chargesOf
-  charges-stored = stored-three older children bicycles _ _ (riders-length t w ride false 0 _) (riders-length t w ride true 11 _)
+  charges-stored = stored-three older children bicycles _ _ (riders-length t counts w ride false 0 _) (riders-length t counts w ride true 11 _)
 
-  pub charges-length : length (chargesOf t w ride) ≡ 1 + ride .party .adults + ride .party .children + ride .party .bicycles
+  pub charges-length : length (chargesOf t counts w ride) ≡ 1 + ride .party .adults + ride .party .children + ride .party .bicycles
   unfolding chargesOf
   charges-length = simp (length-append, riders-length, bicycles-length) (omega arith)
 
-  pub adult-stands : (i : ℕ) → i < 1 + ride .party .adults → getD (chargesOf t w ride) i 0 ≡ riderCharge t w ride false i
+  pub adult-stands : (i : ℕ) → i < 1 + ride .party .adults → getD (chargesOf t counts w ride) i 0 ≡ riderCharge t counts w ride false i
   unfolding chargesOf
   adult-stands i h =
-      at-first older children bicycles _ _ (riders-length t w ride false 0 _) (riders-length t w ride true 11 _) i h
-      ∙ rider-at t w ride false 0 _ i h ∙ ap (riderCharge t w ride false) (zero-add i)
+      at-first older children bicycles _ _ (riders-length t counts w ride false 0 _) (riders-length t counts w ride true 11 _) i h
+      ∙ rider-at t counts w ride false 0 _ i h ∙ ap (riderCharge t counts w ride false) (zero-add i)
 
   pub child-stands :
-      (i : ℕ) → i < ride .party .children → getD (chargesOf t w ride) (1 + ride .party .adults + i) 0 ≡ riderCharge t w ride true (11 + i)
+      (i : ℕ) → i < ride .party .children → getD (chargesOf t counts w ride) (1 + ride .party .adults + i) 0 ≡ riderCharge t counts w ride true (11 + i)
   unfolding chargesOf
   child-stands i h =
-      at-second older children bicycles _ _ (riders-length t w ride false 0 _) (riders-length t w ride true 11 _) i h
-      ∙ rider-at t w ride true 11 _ i h
+      at-second older children bicycles _ _ (riders-length t counts w ride false 0 _) (riders-length t counts w ride true 11 _) i h
+      ∙ rider-at t counts w ride true 11 _ i h
 
   pub bicycle-stands :
       (i : ℕ) → i < ride .party .bicycles
-      → getD (chargesOf t w ride) (1 + ride .party .adults + ride .party .children + i) 0 ≡ bicycleCharge t (ride .area) (coverWord w i)
+      → getD (chargesOf t counts w ride) (1 + ride .party .adults + ride .party .children + i) 0 ≡ bicycleCharge t counts (ride .area) (coverWord w i)
   unfolding chargesOf
   bicycle-stands i h =
-      at-third older children bicycles _ _ (riders-length t w ride false 0 _) (riders-length t w ride true 11 _) i
-      ∙ bicycle-at t w ride _ i h
+      at-third older children bicycles _ _ (riders-length t counts w ride false 0 _) (riders-length t counts w ride true 11 _) i
+      ∙ bicycle-at t counts w ride _ i h
 
 -- A ride of a faultless tariff can be priced, and no price is above 3,790,000 cents: so no charge is.
 module _ {t : List ℕ} {counts : Counts} {b : List ℕ} {ride : Ride} (r : Rideable t counts b ride) where
-  pub priceable : Priceable (areaAt t (ride .area)) ride
+  pub priceable : Priceable (areaAt t counts (ride .area)) ride
   priceable = record { ranges = faultless t counts (r .read) .area (ride .area) (r .area); minutes = r .minutes; km = r .km }
 
-  pub rider-charge-most : (w : List ℕ) (child : Bool) (rider : ℕ) → riderCharge t w ride child rider ≤ 3790000
+  pub rider-charge-most : (w : List ℕ) (child : Bool) (rider : ℕ) → riderCharge t counts w ride child rider ≤ 3790000
   unfolding riderCharge
   rider-charge-most w child rider =
-      le-trans (charge-most t w rider child (ride .class) (levelOf t (ride .area)) (ride .area) _)
-      (price-most (areaAt t (ride .area)) ride child priceable)
+      le-trans (charge-most t counts w rider child (ride .class) (levelOf t counts (ride .area)) (ride .area) _)
+      (price-most (areaAt t counts (ride .area)) ride child priceable)
 
-  pub charges-most : (current : Bool) (i : ℕ) → getD (chargesOf t (inWindow current b) ride) i 0 ≤ 3790000
+  pub charges-most : (current : Bool) (i : ℕ) → getD (chargesOf t counts (inWindow current b) ride) i 0 ≤ 3790000
   unfolding chargesOf
   charges-most current =
       let w = inWindow current b in
-      let riders : (child : Bool) (first n i : ℕ) → getD (riderCharges t w ride child first n) i 0 ≤ 3790000 =
+      let riders : (child : Bool) (first n i : ℕ) → getD (riderCharges t counts w ride child first n) i 0 ≤ 3790000 =
       λ child first n.
-      rw (← riders-listed t w ride child first n) (listed-most _ n 3790000 (λ i _. rider-charge-most w child (first + i)))
+      rw (← riders-listed t counts w ride child first n) (listed-most _ n 3790000 (λ i _. rider-charge-most w child (first + i)))
       in
-      joined-most (older t w ride) _ 3790000 (riders false 0 _)
-      (joined-most (children t w ride) _ 3790000 (riders true 11 _)
-      (rw (← bicycles-listed t w ride _)
+      joined-most (older t counts w ride) _ 3790000 (riders false 0 _)
+      (joined-most (children t counts w ride) _ 3790000 (riders true 11 _)
+      (rw (← bicycles-listed t counts w ride _)
       (listed-most _ _ 3790000
       (λ i h.
       let known = cover-known current (sound-has b (counts .areas) (r .sound-book)) i (omega (arith, r .bicycles)) in
@@ -334,7 +334,7 @@ module _ {t : List ℕ} {counts : Counts} {b : List ℕ} {ride : Ride} (r : Ride
 
 -- The amounts that start with a party's charges are those charges.
 pub amount-at :
-    {t w : List ℕ} {ride : Ride} {amounts : List ℕ} → Charged t w ride amounts → (i : ℕ) → i < length (chargesOf t w ride)
-    → getD amounts i 0 ≡ getD (chargesOf t w ride) i 0
-amount-at {t} {w} {ride} {amounts} made i h =
-    sym (getD-take (length (chargesOf t w ride)) amounts i 0 h) ∙ ap (λ (l : List ℕ). getD l i 0) (made .value)
+    {t : List ℕ} {counts : Counts} {w : List ℕ} {ride : Ride} {amounts : List ℕ} → Charged t counts w ride amounts → (i : ℕ) → i < length (chargesOf t counts w ride)
+    → getD amounts i 0 ≡ getD (chargesOf t counts w ride) i 0
+amount-at {t} {counts} {w} {ride} {amounts} made i h =
+    sym (getD-take (length (chargesOf t counts w ride)) amounts i 0 h) ∙ ap (λ (l : List ℕ). getD l i 0) (made .value)

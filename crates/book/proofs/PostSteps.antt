@@ -23,25 +23,25 @@ use Rattle.book.proofs.PostTurns.{room-same}
 
 -- Only the charges from the place on, as many as there are riders, matter.
 pub list-same :
-    (t : List ℕ) (ride : Ride) (first count : ℕ) (l l′ : List ℕ) (from : ℕ) (b : List ℕ)
+    (t : List ℕ) (counts : Counts) (ride : Ride) (first count : ℕ) (l l′ : List ℕ) (from : ℕ) (b : List ℕ)
     → ((i : ℕ) → i < count → getD l (from + i) 0 ≡ getD l′ (from + i) 0)
-    → addList t ride first count l from b ≡ addList t ride first count l′ from b
+    → addList t counts ride first count l from b ≡ addList t counts ride first count l′ from b
 unfolding addList
-list-same t ride first zero l l′ from b same = refl
-list-same t ride first (suc count) l l′ from b same =
-    rw (list-same t ride first count l l′ from b (λ i h. same i (omega arith)), same count (omega arith))
+list-same t counts ride first zero l l′ from b same = refl
+list-same t counts ride first (suc count) l l′ from b same =
+    rw (list-same t counts ride first count l l′ from b (λ i h. same i (omega arith)), same count (omega arith))
 
 module _ {t : List ℕ} {counts : Counts} {b : List ℕ} {window : Window} {ride : Ride} {amounts : List ℕ}
     (p : Postable t counts b window ride amounts) (checkout : ℕ) where
-  right : FaultlessTariff t (counts .areas) (counts .stops)
+  right : FaultlessTariff t counts
   right = faultless t counts (p .rideable .read)
 
   window-words : Counting (wordsIn window b) (counts .areas) (cond (window .current) (tripsOf b) 0)
   window-words = counting (window .current) (sound-has b (counts .areas) (p .rideable .sound-book)) (p .few)
 
   -- the amounts are the party's charges
-  amounts-are : (i : ℕ) → i < 1 + ride .party .adults + ride .party .children → getD amounts i 0 ≡ getD (chargesIn t b window ride) i 0
-  amounts-are i h = amount-at (p .charged) i (omega (arith, charges-length t (wordsIn window b) ride))
+  amounts-are : (i : ℕ) → i < 1 + ride .party .adults + ride .party .children → getD amounts i 0 ≡ getD (chargesIn t counts b window ride) i 0
+  amounts-are i h = amount-at (p .charged) i (omega (arith, charges-length t counts (wordsIn window b) ride))
 
   amounts-most : (i : ℕ) → i < 1 + ride .party .adults + ride .party .children → getD amounts i 0 ≤ 3790000
   amounts-most i h = rw (amounts-are i h) (charges-most (p .rideable) (window .current) i)
@@ -72,7 +72,7 @@ module _ {t : List ℕ} {counts : Counts} {b : List ℕ} {window : Window} {ride
         }
 
     -- After the second: the adults' charges are added, and the words behind theirs are as they were.
-    module _ {b₂ : List ℕ} (e₂ : b₂ ≡ addList t ride 0 (1 + ride .party .adults) amounts 0 b₁)
+    module _ {b₂ : List ℕ} (e₂ : b₂ ≡ addList t counts ride 0 (1 + ride .party .adults) amounts 0 b₁)
         (kept₂ : length b₂ ≡ length b₁) where
       word₂ : (j : ℕ) → 3 + 64 * 11 ≤ j → word b₂ j ≡ word b₁ j
       word₂ j h =
@@ -95,7 +95,7 @@ module _ {t : List ℕ} {counts : Counts} {b : List ℕ} {window : Window} {ride
 
       -- After the third: the children's are added, and the bicycles' words are as they were.
       module _ {b₃ : List ℕ}
-          (e₃ : b₃ ≡ addList t ride 11 (ride .party .children) amounts (1 + ride .party .adults) b₂)
+          (e₃ : b₃ ≡ addList t counts ride 11 (ride .party .children) amounts (1 + ride .party .adults) b₂)
           (kept₃ : length b₃ ≡ length b₂) where
         word₃ : (j : ℕ) → 1347 ≤ j → word b₃ j ≡ word (wordsIn window b) j
         word₃ j h =
@@ -115,15 +115,15 @@ module _ {t : List ℕ} {counts : Counts} {b : List ℕ} {window : Window} {ride
             }
 
         -- After the last: the book is what the ride leaves.
-        pub all-posted : {b₄ : List ℕ} → b₄ ≡ coverBicycles t ride (ride .party .bicycles) b₃ → b₄ ≡ posted t b window checkout ride
+        pub all-posted : {b₄ : List ℕ} → b₄ ≡ coverBicycles t counts ride (ride .party .bicycles) b₃ → b₄ ≡ posted t counts b window checkout ride
         unfolding posted
         all-posted e₄ =
-            let l = chargesIn t b window ride in
+            let l = chargesIn t counts b window ride in
             let adults = 1 + ride .party .adults in
-            let adults-same : b₂ ≡ addList t ride 0 adults l 0 b₁ =
-            e₂ ∙ list-same t ride 0 adults amounts l 0 b₁ (λ i h. amounts-are (0 + i) (omega arith))
+            let adults-same : b₂ ≡ addList t counts ride 0 adults l 0 b₁ =
+            e₂ ∙ list-same t counts ride 0 adults amounts l 0 b₁ (λ i h. amounts-are (0 + i) (omega arith))
             in
-            let children-same : b₃ ≡ addList t ride 11 (ride .party .children) l adults b₂ =
-            e₃ ∙ list-same t ride 11 (ride .party .children) amounts l adults b₂ (λ i h. amounts-are (adults + i) (omega arith))
+            let children-same : b₃ ≡ addList t counts ride 11 (ride .party .children) l adults b₂ =
+            e₃ ∙ list-same t counts ride 11 (ride .party .children) amounts l adults b₂ (λ i h. amounts-are (adults + i) (omega arith))
             in
             e₄ ∙ rw (children-same, adults-same, e₁)

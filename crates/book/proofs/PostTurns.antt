@@ -11,6 +11,7 @@ use borrow.Author.Tests.{eq-eqb, ne-eqb, eqb-true, not-true, not-false}
 use lib.ListN.{length, getD, drop, replicate}
 use lib.Seq.{drop-length}
 use lib.Dec.{eqb}
+use Rattle.tariff.specs.declared.Counts.{Counts}
 use Rattle.tariff.specs.Rules.{levelOf}
 use Rattle.tariff.specs.Areas.{parentOf, FaultlessTariff}
 use Rattle.tariff.proofs.Tests.{both-left}
@@ -112,41 +113,41 @@ room-same b b′ rider same room area h =
     room-here-same b b′ rider area (same _ (omega arith) (omega arith)) (same _ (omega arith) (omega arith)) (room area h)
 
 -- While a charge goes up: what is still to be added from here on makes the whole, and the areas to come have room.
-pub record Climbing (t b₀ b : List ℕ) (areas rider class at amount up above : ℕ) : Type 0 where
+pub record Climbing (t : List ℕ) (counts : Counts) (b₀ b : List ℕ) (rider class at amount up above : ℕ) : Type 0 where
   pub size : length b ≡ bookSize
-  pub there : up < areas
-  pub level : above ≡ levelOf t up
+  pub there : up < counts .areas
+  pub level : above ≡ levelOf t counts up
   pub room : (area : ℕ) → area ≤ up → RoomHere b rider area
-  pub rest : addUp above t b rider class up amount ≡ addUp (levelOf t at) t b₀ rider class at amount
+  pub rest : addUp above t counts b rider class up amount ≡ addUp (levelOf t counts at) t counts b₀ rider class at amount
 
 -- the first step of the way up
 up-step :
-    (t b : List ℕ) (rider class area amount n : ℕ) → 0 < n
-    → addUp (n - 1) t (addHere b rider class area amount) rider class (parentOf t area) amount
-    ≡ addUp n t b rider class area amount
+    (t : List ℕ) (counts : Counts) (b : List ℕ) (rider class area amount n : ℕ) → 0 < n
+    → addUp (n - 1) t counts (addHere b rider class area amount) rider class (parentOf t counts area) amount
+    ≡ addUp n t counts b rider class area amount
 unfolding addUp
-up-step t b rider class area amount zero some = absurd (omega arith)
-up-step t b rider class area amount (suc n) some =
+up-step t counts b rider class area amount zero some = absurd (omega arith)
+up-step t counts b rider class area amount (suc n) some =
     let e : suc n - 1 ≡ n = omega arith in
-    ap (λ (k : ℕ). addUp k t (addHere b rider class area amount) rider class (parentOf t area) amount) e
+    ap (λ (k : ℕ). addUp k t counts (addHere b rider class area amount) rider class (parentOf t counts area) amount) e
 
-module _ {t : List ℕ} {areas stops : ℕ} (f : FaultlessTariff t areas stops) where
+module _ {t : List ℕ} {counts : Counts} (f : FaultlessTariff t counts) where
   pub climb-start :
-      {b : List ℕ} {rider class at amount above : ℕ} → length b ≡ bookSize → at < areas → Room b rider → above ≡ levelOf t at
-      → Climbing t b b areas rider class at amount at above
+      {b : List ℕ} {rider class at amount above : ℕ} → length b ≡ bookSize → at < counts .areas → Room b rider → above ≡ levelOf t counts at
+      → Climbing t counts b b rider class at amount at above
   climb-start {b} {rider} {class} {at} {amount} size there room level =
       record {
         size = size;
         there = there;
         level = level;
         room = λ area h. room area (omega (arith, f .few-areas));
-        rest = ap (λ (n : ℕ). addUp n t b rider class at amount) level;
+        rest = ap (λ (n : ℕ). addUp n t counts b rider class at amount) level;
       }
 
   pub climb-turn :
-      {b₀ b b′ : List ℕ} {rider class at amount up up′ above : ℕ} → Climbing t b₀ b areas rider class at amount up above
-      → 0 < above → b′ ≡ addHere b rider class up amount → up′ ≡ parentOf t up
-      → Climbing t b₀ b′ areas rider class at amount up′ (above - 1)
+      {b₀ b b′ : List ℕ} {rider class at amount up up′ above : ℕ} → Climbing t counts b₀ b rider class at amount up above
+      → 0 < above → b′ ≡ addHere b rider class up amount → up′ ≡ parentOf t counts up
+      → Climbing t counts b₀ b′ rider class at amount up′ (above - 1)
   climb-turn {b = b} {rider = rider} {class} {at} {amount} {up} {above = above} s some added next =
       rw (added, next)
       (record {
@@ -158,75 +159,75 @@ module _ {t : List ℕ} {areas stops : ℕ} (f : FaultlessTariff t areas stops) 
             room-here-same b (addHere b rider class up amount) rider area
             (here-other b rider class up amount _ (λ e. omega arith) (λ e. omega arith))
             (here-other b rider class up amount _ (λ e. omega arith) (λ e. omega arith)) (s .room area (omega arith));
-        rest = up-step t b rider class up amount above some ∙ s .rest;
+        rest = up-step t counts b rider class up amount above some ∙ s .rest;
       })
 
 pub climb-end :
-    {t b₀ b b′ : List ℕ} {areas rider class at amount up above : ℕ} → Climbing t b₀ b areas rider class at amount up above → above ≤ 0
-    → b′ ≡ addHere b rider class up amount → b′ ≡ addUp (levelOf t at) t b₀ rider class at amount
+    {t : List ℕ} {counts : Counts} {b₀ b b′ : List ℕ} {rider class at amount up above : ℕ} → Climbing t counts b₀ b rider class at amount up above → above ≤ 0
+    → b′ ≡ addHere b rider class up amount → b′ ≡ addUp (levelOf t counts at) t counts b₀ rider class at amount
 unfolding addUp
 climb-end {above = zero} s none added = added ∙ s .rest
 climb-end {above = suc above} s none added = absurd (omega arith)
 
 -- After the first i riders: their charges are added, and the riders to come have room. A ride counts by its class and area alone.
-pub record RidersAdded (t b₀ b amounts : List ℕ) (first count from class at i : ℕ) : Type 0 where
+pub record RidersAdded (t : List ℕ) (counts : Counts) (b₀ b amounts : List ℕ) (first count from class at i : ℕ) : Type 0 where
   pub size : length b ≡ bookSize
   pub within : i ≤ count
   pub room : (k : ℕ) → i ≤ k → k < count → Room b (first + k)
-  pub done : (ride : Ride) → ride .class ≡ class → ride .area ≡ at → b ≡ addList t ride first i amounts from b₀
+  pub done : (ride : Ride) → ride .class ≡ class → ride .area ≡ at → b ≡ addList t counts ride first i amounts from b₀
 
 pub riders-start :
-    {t b amounts : List ℕ} {first count from class at : ℕ} → length b ≡ bookSize → ((k : ℕ) → k < count → Room b (first + k))
-    → RidersAdded t b b amounts first count from class at 0
+    {t : List ℕ} {counts : Counts} {b amounts : List ℕ} {first count from class at : ℕ} → length b ≡ bookSize → ((k : ℕ) → k < count → Room b (first + k))
+    → RidersAdded t counts b b amounts first count from class at 0
 unfolding addList
 riders-start size room =
     record { size = size; within = omega arith; room = λ k low high. room k high; done = λ ride e e′. refl }
 
 pub riders-turn :
-    {t : List ℕ} {areas stops : ℕ} → FaultlessTariff t areas stops → {b₀ b b′ amounts : List ℕ} {first count from class at i : ℕ}
-    → RidersAdded t b₀ b amounts first count from class at i → i < count → at < areas → first + count ≤ 21
-    → b′ ≡ addUp (levelOf t at) t b (first + i) class at (getD amounts (from + i) 0)
-    → RidersAdded t b₀ b′ amounts first count from class at (i + 1)
+    {t : List ℕ} {counts : Counts} → FaultlessTariff t counts → {b₀ b b′ amounts : List ℕ} {first count from class at i : ℕ}
+    → RidersAdded t counts b₀ b amounts first count from class at i → i < count → at < counts .areas → first + count ≤ 21
+    → b′ ≡ addUp (levelOf t counts at) t counts b (first + i) class at (getD amounts (from + i) 0)
+    → RidersAdded t counts b₀ b′ amounts first count from class at (i + 1)
 unfolding addList
-riders-turn {t} f {b = b} {amounts = amounts} {first} {count} {from} {class} {at} {i} s more there few added =
+riders-turn {t} {counts} f {b = b} {amounts = amounts} {first} {count} {from} {class} {at} {i} s more there few added =
     let amount = getD amounts (from + i) 0 in
     record {
-      size = ap length added ∙ up-size f (first + i) class amount (omega arith) (levelOf t at) b at ∙ s .size;
+      size = ap length added ∙ up-size f (first + i) class amount (omega arith) (levelOf t counts at) b at ∙ s .size;
       within = omega arith;
       room = λ k low high.
           rw added
           (room-same b _ (first + k)
-          (λ j least most. up-other f (first + i) class amount (omega arith) (levelOf t at) b at there j (inr (omega arith)))
+          (λ j least most. up-other f (first + i) class amount (omega arith) (levelOf t counts at) b at there j (inr (omega arith)))
           (s .room k (omega arith) high));
       done = λ ride e e′. added ∙ rw (add-one i, ← s .done ride e e′, e, e′);
     }
 
 pub riders-end :
-    {t b₀ b amounts : List ℕ} (ride : Ride) {first count from i : ℕ}
-    → RidersAdded t b₀ b amounts first count from (ride .class) (ride .area) i → count ≤ i
-    → b ≡ addList t ride first count amounts from b₀
-riders-end {t} {b₀} {amounts = amounts} ride {first} {count} {from} {i} s last =
+    {t : List ℕ} {counts : Counts} {b₀ b amounts : List ℕ} (ride : Ride) {first count from i : ℕ}
+    → RidersAdded t counts b₀ b amounts first count from (ride .class) (ride .area) i → count ≤ i
+    → b ≡ addList t counts ride first count amounts from b₀
+riders-end {t} {counts} {b₀} {amounts = amounts} ride {first} {count} {from} {i} s last =
     let e : i ≡ count = omega (arith, s .within) in
-    s .done ride refl refl ∙ ap (λ (n : ℕ). addList t ride first n amounts from b₀) e
+    s .done ride refl refl ∙ ap (λ (n : ℕ). addList t counts ride first n amounts from b₀) e
 
 -- After the first i bicycles: their covering areas are written, and those to come are as they were.
-pub record BicyclesCovered (t b₀ b : List ℕ) (areas count at i : ℕ) : Type 0 where
+pub record BicyclesCovered (t : List ℕ) (counts : Counts) (b₀ b : List ℕ) (count at i : ℕ) : Type 0 where
   pub size : length b ≡ bookSize
   pub within : i ≤ count
-  pub covers : (k : ℕ) → i ≤ k → k < count → coverWord b k ≤ areas
-  pub done : (ride : Ride) → ride .area ≡ at → b ≡ coverBicycles t ride i b₀
+  pub covers : (k : ℕ) → i ≤ k → k < count → coverWord b k ≤ counts .areas
+  pub done : (ride : Ride) → ride .area ≡ at → b ≡ coverBicycles t counts ride i b₀
 
 pub bicycles-start :
-    {t b : List ℕ} {areas count at : ℕ} → length b ≡ bookSize → ((k : ℕ) → k < count → coverWord b k ≤ areas)
-    → BicyclesCovered t b b areas count at 0
+    {t : List ℕ} {counts : Counts} {b : List ℕ} {count at : ℕ} → length b ≡ bookSize → ((k : ℕ) → k < count → coverWord b k ≤ counts .areas)
+    → BicyclesCovered t counts b b count at 0
 unfolding coverBicycles
 bicycles-start size covers =
     record { size = size; within = omega arith; covers = λ k low high. covers k high; done = λ ride e. refl }
 
 pub bicycles-turn :
-    {t b₀ b b′ : List ℕ} {areas count at i place old new : ℕ} → BicyclesCovered t b₀ b areas count at i → i < count
-    → place ≡ coverPlace i → old ≡ word b place → new ≡ newCover t at old → b′ ≡ putWord b place (1 + new)
-    → BicyclesCovered t b₀ b′ areas count at (i + 1)
+    {t : List ℕ} {counts : Counts} {b₀ b b′ : List ℕ} {count at i place old new : ℕ} → BicyclesCovered t counts b₀ b count at i → i < count
+    → place ≡ coverPlace i → old ≡ word b place → new ≡ newCover t counts at old → b′ ≡ putWord b place (1 + new)
+    → BicyclesCovered t counts b₀ b′ count at (i + 1)
 unfolding coverBicycles
 bicycles-turn {b = b} {i = i} {place} {new = new} s more is read cover put =
     record {
@@ -238,8 +239,8 @@ bicycles-turn {b = b} {i = i} {place} {new = new} s more is read cover put =
     }
 
 pub bicycles-end :
-    {t b₀ b : List ℕ} (ride : Ride) {areas count i : ℕ} → BicyclesCovered t b₀ b areas count (ride .area) i → count ≤ i
-    → b ≡ coverBicycles t ride count b₀
-bicycles-end {t} {b₀} ride {count = count} {i} s last =
+    {t : List ℕ} {counts : Counts} {b₀ b : List ℕ} (ride : Ride) {count i : ℕ} → BicyclesCovered t counts b₀ b count (ride .area) i → count ≤ i
+    → b ≡ coverBicycles t counts ride count b₀
+bicycles-end {t} {counts} {b₀} ride {count = count} {i} s last =
     let e : i ≡ count = omega (arith, s .within) in
-    s .done ride refl ∙ ap (λ (n : ℕ). coverBicycles t ride n b₀) e
+    s .done ride refl ∙ ap (λ (n : ℕ). coverBicycles t counts ride n b₀) e

@@ -29,39 +29,39 @@ use Rattle.book.proofs.SumLaws.{sumOf, counted, Fits, sum-by-words, lis
 
 -- ---- The bicycles.
 
-module _ (tariff : List ℕ) (ride : Ride) where
+module _ (tariff : List ℕ) (counts : Counts) (ride : Ride) where
   -- Covering bicycles leaves the book as long as it was.
-  pub cover-size : (n : ℕ) (b : List ℕ) → length (coverBicycles tariff ride n b) ≡ length b
+  pub cover-size : (n : ℕ) (b : List ℕ) → length (coverBicycles tariff counts ride n b) ≡ length b
   unfolding coverBicycles
   cover-size zero b = refl
   cover-size (suc n) b = size-put _ _ _ ∙ cover-size n b
 
   -- Every word but those bicycles' stays.
-  pub cover-other : (n : ℕ) (b : List ℕ) (j : ℕ) → (j < 1347) ⊎ (1347 + n ≤ j) → word (coverBicycles tariff ride n b) j ≡ word b j
+  pub cover-other : (n : ℕ) (b : List ℕ) (j : ℕ) → (j < 1347) ⊎ (1347 + n ≤ j) → word (coverBicycles tariff counts ride n b) j ≡ word b j
   unfolding coverBicycles
   cover-other zero b j out = refl
   cover-other (suc n) b j out =
       word-put-other _ _ _ _ (λ e. ⊎-elim (λ h. omega arith) (λ h. omega arith) out)
       ∙ cover-other n b j (⊎-elim inl (λ h. inr (omega arith)) out)
 
-module _ {tariff : List ℕ} {areas stops : ℕ} (t : FaultlessTariff tariff areas stops) (ride : Ride) (there : ride .area < areas) where
+module _ {tariff : List ℕ} {counts : Counts} (t : FaultlessTariff tariff counts) (ride : Ride) (there : ride .area < counts .areas) where
   -- Each of the bicycles has its new covering area.
   pub cover-new :
-      (n : ℕ) (b : List ℕ) → length b ≡ bookSize → n ≤ 10 → ((i : ℕ) → i < n → coverWord b i ≤ areas) → (k : ℕ) → k < n
-      → coverWord (coverBicycles tariff ride n b) k ≡ 1 + newCover tariff (ride .area) (coverWord b k)
+      (n : ℕ) (b : List ℕ) → length b ≡ bookSize → n ≤ 10 → ((i : ℕ) → i < n → coverWord b i ≤ counts .areas) → (k : ℕ) → k < n
+      → coverWord (coverBicycles tariff counts ride n b) k ≡ 1 + newCover tariff counts (ride .area) (coverWord b k)
   unfolding coverBicycles
   cover-new zero b size few covers k h = absurd (omega arith)
   cover-new (suc n) b size few covers k h =
-      let before = coverBicycles tariff ride n b in
+      let before = coverBicycles tariff counts ride n b in
       let some = t .few-areas in
-      let kept : coverWord before n ≡ coverWord b n = cover-other tariff ride n b (coverPlace n) (inr (omega arith)) in
+      let kept : coverWord before n ≡ coverWord b n = cover-other tariff counts ride n b (coverPlace n) (inr (omega arith)) in
       let one = cover-there t (ride .area) (coverWord before n) there (omega (arith, covers n (omega arith))) in
       elim (ℕ-discrete k n) [
         | yes is ↦
             rw is
-            (word-put-same before (coverPlace n) (1 + newCover tariff (ride .area) (coverWord before n)) (cover-size tariff ride n b ∙ size)
+            (word-put-same before (coverPlace n) (1 + newCover tariff counts (ride .area) (coverWord before n)) (cover-size tariff counts ride n b ∙ size)
             (omega arith) (omega arith)
-            ∙ ap (λ (old : ℕ). 1 + newCover tariff (ride .area) old) kept)
+            ∙ ap (λ (old : ℕ). 1 + newCover tariff counts (ride .area) old) kept)
         | no ne ↦
             word-put-other _ _ _ _ (λ e. ne (omega arith))
             ∙ cover-new n b size (omega arith) (λ i hi. covers i (omega arith)) k (omega arith)
@@ -166,12 +166,12 @@ counting-room {w} {areas} {before} c rider amount hr range x hx = fits
 abbrev pub wordsIn : Window → List ℕ → List ℕ
 wordsIn window book = inWindow (window .current) book
 
-abbrev pub chargesIn : List ℕ → List ℕ → Window → Ride → List ℕ
-chargesIn tariff book window ride = chargesOf tariff (wordsIn window book) ride
+abbrev pub chargesIn : List ℕ → Counts → List ℕ → Window → Ride → List ℕ
+chargesIn tariff counts book window ride = chargesOf tariff counts (wordsIn window book) ride
 
 -- what a charge adds to one of a rider's two sums in an area: itself where its class counts and the ride's area lies within, else 0
-abbrev pub added : Bool → List ℕ → Ride → ℕ → ℕ → ℕ
-added which tariff ride area amount = cond (counted which (ride .class) && liesWithin tariff (ride .area) area) amount 0
+abbrev pub added : Bool → List ℕ → Counts → Ride → ℕ → ℕ → ℕ
+added which tariff counts ride area amount = cond (counted which (ride .class) && liesWithin tariff counts (ride .area) area) amount 0
 
 -- a rider's charge among those of a party: 0 for a rider who is not carried
 unfoldable pub ownCharge : Ride → List ℕ → ℕ → ℕ
@@ -232,29 +232,29 @@ module _ (ride : Ride) (charges : List ℕ) where
 -- In a ride no rider's own charge is more than 3,790,000.
 pub own-range :
     {tariff : List ℕ} {counts : Counts} {book : List ℕ} {ride : Ride} → Rideable tariff counts book ride → (window : Window) (rider : ℕ)
-    → ownCharge ride (chargesIn tariff book window ride) rider ≤ 3790000
+    → ownCharge ride (chargesIn tariff counts book window ride) rider ≤ 3790000
 own-range {tariff} {counts} {book} {ride} ok window =
-    own-most ride (chargesIn tariff book window ride) 3790000 (ok .adults) (charges-most ok (window .current))
+    own-most ride (chargesIn tariff counts book window ride) 3790000 (ok .adults) (charges-most ok (window .current))
 
 -- the book with the window's words put and the adults' charges added, and with the children's too
-abbrev adultsIn : List ℕ → List ℕ → Window → ℕ → Ride → List ℕ
-adultsIn tariff book window checkout ride =
-    addList tariff ride 0 (1 + ride .party .adults) (chargesIn tariff book window ride) 0 (opened window checkout (wordsIn window book))
+abbrev adultsIn : List ℕ → Counts → List ℕ → Window → ℕ → Ride → List ℕ
+adultsIn tariff counts book window checkout ride =
+    addList tariff counts ride 0 (1 + ride .party .adults) (chargesIn tariff counts book window ride) 0 (opened window checkout (wordsIn window book))
 
-abbrev ridersIn : List ℕ → List ℕ → Window → ℕ → Ride → List ℕ
-ridersIn tariff book window checkout ride =
-    addList tariff ride 11 (ride .party .children) (chargesIn tariff book window ride) (1 + ride .party .adults)
-    (adultsIn tariff book window checkout ride)
+abbrev ridersIn : List ℕ → Counts → List ℕ → Window → ℕ → Ride → List ℕ
+ridersIn tariff counts book window checkout ride =
+    addList tariff counts ride 11 (ride .party .children) (chargesIn tariff counts book window ride) (1 + ride .party .adults)
+    (adultsIn tariff counts book window checkout ride)
 
 posted-is :
-    (tariff book : List ℕ) (window : Window) (checkout : ℕ) (ride : Ride)
-    → posted tariff book window checkout ride ≡ coverBicycles tariff ride (ride .party .bicycles) (ridersIn tariff book window checkout ride)
+    (tariff : List ℕ) (counts : Counts) (book : List ℕ) (window : Window) (checkout : ℕ) (ride : Ride)
+    → posted tariff counts book window checkout ride ≡ coverBicycles tariff counts ride (ride .party .bicycles) (ridersIn tariff counts book window checkout ride)
 unfolding posted
-posted-is tariff book window checkout ride = refl
+posted-is tariff counts book window checkout ride = refl
 
 module _ {tariff : List ℕ} {counts : Counts} {book : List ℕ} {ride : Ride} (ok : Rideable tariff counts book ride) (window : Window)
     (checkout : ℕ) (room : window .current ≡ true → tripsOf book ≤ 255) where
-  t : FaultlessTariff tariff (counts .areas) (counts .stops)
+  t : FaultlessTariff tariff counts
   t = faultless tariff counts (ok .read)
 
   c : Counting (wordsIn window book) (counts .areas) (cond (window .current) (tripsOf book) 0)
@@ -263,74 +263,74 @@ module _ {tariff : List ℕ} {counts : Counts} {book : List ℕ} {ride : Ride} (
   opened-sized : length (opened window checkout (wordsIn window book)) ≡ bookSize
   opened-sized = opened-size window checkout (wordsIn window book) ∙ c .size
 
-  adults-size : length (adultsIn tariff book window checkout ride) ≡ bookSize
+  adults-size : length (adultsIn tariff counts book window checkout ride) ≡ bookSize
   adults-size =
-      list-size t ride (ok .area) 0 (chargesIn tariff book window ride) 0 (1 + ride .party .adults)
+      list-size t ride (ok .area) 0 (chargesIn tariff counts book window ride) 0 (1 + ride .party .adults)
       (opened window checkout (wordsIn window book)) (omega (arith, ok .adults))
       ∙ opened-sized
 
-  riders-size : length (ridersIn tariff book window checkout ride) ≡ bookSize
+  riders-size : length (ridersIn tariff counts book window checkout ride) ≡ bookSize
   riders-size =
-      list-size t ride (ok .area) 11 (chargesIn tariff book window ride) (1 + ride .party .adults) (ride .party .children)
-      (adultsIn tariff book window checkout ride) (omega (arith, ok .children))
+      list-size t ride (ok .area) 11 (chargesIn tariff counts book window ride) (1 + ride .party .adults) (ride .party .children)
+      (adultsIn tariff counts book window checkout ride) (omega (arith, ok .children))
       ∙ adults-size
 
   -- The book keeps its length.
-  pub posted-size : length (posted tariff book window checkout ride) ≡ bookSize
-  posted-size = rw posted-is (cover-size tariff ride (ride .party .bicycles) (ridersIn tariff book window checkout ride) ∙ riders-size)
+  pub posted-size : length (posted tariff counts book window checkout ride) ≡ bookSize
+  posted-size = rw posted-is (cover-size tariff counts ride (ride .party .bicycles) (ridersIn tariff counts book window checkout ride) ∙ riders-size)
 
   -- a word outside every rider's
   riders-other :
       (j : ℕ) → (j < 3) ⊎ (1347 ≤ j)
-      → word (ridersIn tariff book window checkout ride) j ≡ word (opened window checkout (wordsIn window book)) j
+      → word (ridersIn tariff counts book window checkout ride) j ≡ word (opened window checkout (wordsIn window book)) j
   riders-other j out =
-      list-other t ride (ok .area) 11 (chargesIn tariff book window ride) (1 + ride .party .adults) (ride .party .children)
-      (adultsIn tariff book window checkout ride) (omega (arith, ok .children)) j
+      list-other t ride (ok .area) 11 (chargesIn tariff counts book window ride) (1 + ride .party .adults) (ride .party .children)
+      (adultsIn tariff counts book window checkout ride) (omega (arith, ok .children)) j
       (⊎-elim (λ h. inl (omega arith)) (λ h. inr (omega (arith, ok .children))) out)
-      ∙ list-other t ride (ok .area) 0 (chargesIn tariff book window ride) 0 (1 + ride .party .adults)
+      ∙ list-other t ride (ok .area) 0 (chargesIn tariff counts book window ride) 0 (1 + ride .party .adults)
       (opened window checkout (wordsIn window book)) (omega (arith, ok .adults)) j
       (⊎-elim (λ h. inl (omega arith)) (λ h. inr (omega (arith, ok .adults))) out)
 
   head-word :
-      (j : ℕ) → j < 3 → word (posted tariff book window checkout ride) j ≡ word (opened window checkout (wordsIn window book)) j
+      (j : ℕ) → j < 3 → word (posted tariff counts book window checkout ride) j ≡ word (opened window checkout (wordsIn window book)) j
   head-word j h =
       rw posted-is
-      (cover-other tariff ride (ride .party .bicycles) (ridersIn tariff book window checkout ride) j (inl (omega arith))
+      (cover-other tariff counts ride (ride .party .bicycles) (ridersIn tariff counts book window checkout ride) j (inl (omega arith))
       ∙ riders-other j (inl h))
 
   -- Word 0 is the window's trips, word 1 its opening, word 2 the check-out.
-  pub posted-trips : window .trips < 2 ^ 32 → tripsOf (posted tariff book window checkout ride) ≡ window .trips
+  pub posted-trips : window .trips < 2 ^ 32 → tripsOf (posted tariff counts book window checkout ride) ≡ window .trips
   posted-trips small = head-word 0 (omega arith) ∙ opened-trips window checkout (wordsIn window book) (c .size) small
 
-  pub posted-opening : window .opening .0 < 2 ^ 32 → openingOf (posted tariff book window checkout ride) ≡ window .opening .0
+  pub posted-opening : window .opening .0 < 2 ^ 32 → openingOf (posted tariff counts book window checkout ride) ≡ window .opening .0
   posted-opening small = head-word 1 (omega arith) ∙ opened-opening window checkout (wordsIn window book) (c .size) small
 
-  pub posted-out : checkout < 2 ^ 32 → lastOutOf (posted tariff book window checkout ride) ≡ checkout
+  pub posted-out : checkout < 2 ^ 32 → lastOutOf (posted tariff counts book window checkout ride) ≡ checkout
   posted-out small = head-word 2 (omega arith) ∙ opened-out window checkout (wordsIn window book) (c .size) small
 
-  riders-cover : (k : ℕ) → coverWord (ridersIn tariff book window checkout ride) k ≡ coverWord (wordsIn window book) k
+  riders-cover : (k : ℕ) → coverWord (ridersIn tariff counts book window checkout ride) k ≡ coverWord (wordsIn window book) k
   riders-cover k =
       riders-other (coverPlace k) (inr (omega arith)) ∙ opened-other window checkout (wordsIn window book) (coverPlace k) (omega arith)
 
   -- Each bicycle carried has its new covering area, and the others keep theirs.
   pub posted-cover :
       (k : ℕ) → k < ride .party .bicycles
-      → coverWord (posted tariff book window checkout ride) k ≡ 1 + newCover tariff (ride .area) (coverWord (wordsIn window book) k)
+      → coverWord (posted tariff counts book window checkout ride) k ≡ 1 + newCover tariff counts (ride .area) (coverWord (wordsIn window book) k)
   posted-cover k h =
       rw posted-is
-      (cover-new t ride (ok .area) (ride .party .bicycles) (ridersIn tariff book window checkout ride) riders-size (ok .bicycles)
+      (cover-new t ride (ok .area) (ride .party .bicycles) (ridersIn tariff counts book window checkout ride) riders-size (ok .bicycles)
       (λ i hi. rw (riders-cover i) (c .covers i (omega (arith, ok .bicycles)))) k h
-      ∙ ap (λ (old : ℕ). 1 + newCover tariff (ride .area) old) (riders-cover k))
+      ∙ ap (λ (old : ℕ). 1 + newCover tariff counts (ride .area) old) (riders-cover k))
 
   pub posted-uncovered :
-      (k : ℕ) → ride .party .bicycles ≤ k → coverWord (posted tariff book window checkout ride) k ≡ coverWord (wordsIn window book) k
+      (k : ℕ) → ride .party .bicycles ≤ k → coverWord (posted tariff counts book window checkout ride) k ≡ coverWord (wordsIn window book) k
   posted-uncovered k h =
       rw posted-is
-      (cover-other tariff ride (ride .party .bicycles) (ridersIn tariff book window checkout ride) (coverPlace k) (inr (omega arith))
+      (cover-other tariff counts ride (ride .party .bicycles) (ridersIn tariff counts book window checkout ride) (coverPlace k) (inr (omega arith))
       ∙ riders-cover k)
 
   -- So each bicycle's covering area is one of the tariff's.
-  pub posted-covers : (k : ℕ) → k < 10 → coverWord (posted tariff book window checkout ride) k ≤ counts .areas
+  pub posted-covers : (k : ℕ) → k < 10 → coverWord (posted tariff counts book window checkout ride) k ≤ counts .areas
   posted-covers k h =
       elim (decLt k (ride .party .bicycles)) [
         | yes on ↦
@@ -341,33 +341,33 @@ module _ {tariff : List ℕ} {counts : Counts} {book : List ℕ} {ride : Ride} (
   -- the bicycles change no sum
   posted-riders :
       (which : Bool) (rider x : ℕ) → rider < 21 → x < 32
-      → sumOf which (posted tariff book window checkout ride) rider x ≡ sumOf which (ridersIn tariff book window checkout ride) rider x
+      → sumOf which (posted tariff counts book window checkout ride) rider x ≡ sumOf which (ridersIn tariff counts book window checkout ride) rider x
   posted-riders which rider x hr hx =
       rw posted-is
       (sum-by-words which _ _ rider x
-      (λ j low high. cover-other tariff ride (ride .party .bicycles) (ridersIn tariff book window checkout ride) j (inl (omega arith))) hx)
+      (λ j low high. cover-other tariff counts ride (ride .party .bicycles) (ridersIn tariff counts book window checkout ride) j (inl (omega arith))) hx)
 
   -- the children's charges change no other rider's
   riders-adults :
       (which : Bool) (rider x : ℕ) → (rider < 11) ⊎ (11 + ride .party .children ≤ rider) → x < 32
-      → sumOf which (ridersIn tariff book window checkout ride) rider x ≡ sumOf which (adultsIn tariff book window checkout ride) rider x
+      → sumOf which (ridersIn tariff counts book window checkout ride) rider x ≡ sumOf which (adultsIn tariff counts book window checkout ride) rider x
   riders-adults which rider x out hx =
-      list-riders t ride (ok .area) 11 (chargesIn tariff book window ride) (1 + ride .party .adults) which (ride .party .children)
-      (adultsIn tariff book window checkout ride) (omega (arith, ok .children)) rider x out hx
+      list-riders t ride (ok .area) 11 (chargesIn tariff counts book window ride) (1 + ride .party .adults) which (ride .party .children)
+      (adultsIn tariff counts book window checkout ride) (omega (arith, ok .children)) rider x out hx
 
   -- and the adults' none past theirs
   adults-riders :
       (which : Bool) (rider x : ℕ) → 1 + ride .party .adults ≤ rider → x < 32
-      → sumOf which (adultsIn tariff book window checkout ride) rider x ≡ sumOf which (wordsIn window book) rider x
+      → sumOf which (adultsIn tariff counts book window checkout ride) rider x ≡ sumOf which (wordsIn window book) rider x
   adults-riders which rider x past hx =
-      list-riders t ride (ok .area) 0 (chargesIn tariff book window ride) 0 which (1 + ride .party .adults)
+      list-riders t ride (ok .area) 0 (chargesIn tariff counts book window ride) 0 which (1 + ride .party .adults)
       (opened window checkout (wordsIn window book)) (omega (arith, ok .adults)) rider x (inr (omega arith)) hx
       ∙ opened-sum window checkout (wordsIn window book) which rider x hx
 
   -- The sums of a rider who is not carried are those of the words that count.
   pub posted-none :
       (which : Bool) (rider x : ℕ) → rider < 21 → NotCarried ride rider → x < 32
-      → sumOf which (posted tariff book window checkout ride) rider x ≡ sumOf which (wordsIn window book) rider x
+      → sumOf which (posted tariff counts book window checkout ride) rider x ≡ sumOf which (wordsIn window book) rider x
   posted-none which rider x hr out hx =
       posted-riders which rider x hr hx
       ∙ riders-adults which rider x (⊎-elim (λ h. inl (h .1)) inr out) hx
@@ -376,52 +376,52 @@ module _ {tariff : List ℕ} {counts : Counts} {book : List ℕ} {ride : Ride} (
   -- The account holder's and each adult's sums are those with the rider's charge added.
   pub posted-adult :
       (which : Bool) (rider x : ℕ) → rider < 1 + ride .party .adults → x < 32
-      → sumOf which (posted tariff book window checkout ride) rider x
-      ≡ sumOf which (wordsIn window book) rider x + added which tariff ride x (getD (chargesIn tariff book window ride) rider 0)
+      → sumOf which (posted tariff counts book window checkout ride) rider x
+      ≡ sumOf which (wordsIn window book) rider x + added which tariff counts ride x (getD (chargesIn tariff counts book window ride) rider 0)
   posted-adult which rider x h hx =
       posted-riders which rider x (omega (arith, ok .adults)) hx ∙ riders-adults which rider x (inl (omega (arith, ok .adults))) hx
       ∙ rw (zero-add rider) at
-      (list-sum t ride (ok .area) 0 (chargesIn tariff book window ride) 0 which (1 + ride .party .adults)
+      (list-sum t ride (ok .area) 0 (chargesIn tariff counts book window ride) 0 which (1 + ride .party .adults)
       (opened window checkout (wordsIn window book)) opened-sized (omega (arith, ok .adults))
       (λ i hi y hy which′.
       rw (zero-add i, opened-sum window checkout (wordsIn window book) which′ i y hy)
-      (counting-room c i (getD (chargesIn tariff book window ride) i 0) (omega (arith, ok .adults)) (charges-most ok (window .current) i) y hy which′))
+      (counting-room c i (getD (chargesIn tariff counts book window ride) i 0) (omega (arith, ok .adults)) (charges-most ok (window .current) i) y hy which′))
       rider h x hx)
-      ∙ ap (_+ added which tariff ride x (getD (chargesIn tariff book window ride) rider 0))
+      ∙ ap (_+ added which tariff counts ride x (getD (chargesIn tariff counts book window ride) rider 0))
       (opened-sum window checkout (wordsIn window book) which rider x hx)
 
   -- So are each child's.
   pub posted-child :
       (which : Bool) (i x : ℕ) → i < ride .party .children → x < 32
-      → sumOf which (posted tariff book window checkout ride) (11 + i) x
+      → sumOf which (posted tariff counts book window checkout ride) (11 + i) x
       ≡ sumOf which (wordsIn window book) (11 + i) x
-      + added which tariff ride x (getD (chargesIn tariff book window ride) (1 + ride .party .adults + i) 0)
+      + added which tariff counts ride x (getD (chargesIn tariff counts book window ride) (1 + ride .party .adults + i) 0)
   posted-child which i x h hx =
       posted-riders which (11 + i) x (omega (arith, ok .children)) hx
-      ∙ list-sum t ride (ok .area) 11 (chargesIn tariff book window ride) (1 + ride .party .adults) which (ride .party .children)
-      (adultsIn tariff book window checkout ride) adults-size (omega (arith, ok .children))
+      ∙ list-sum t ride (ok .area) 11 (chargesIn tariff counts book window ride) (1 + ride .party .adults) which (ride .party .children)
+      (adultsIn tariff counts book window checkout ride) adults-size (omega (arith, ok .children))
       (λ k hk y hy which′.
       rw (adults-riders which′ (11 + k) y (omega (arith, ok .adults)) hy)
-      (counting-room c (11 + k) (getD (chargesIn tariff book window ride) (1 + ride .party .adults + k) 0) (omega (arith, ok .children))
+      (counting-room c (11 + k) (getD (chargesIn tariff counts book window ride) (1 + ride .party .adults + k) 0) (omega (arith, ok .children))
       (charges-most ok (window .current) (1 + ride .party .adults + k)) y hy which′))
       i h x hx
-      ∙ ap (_+ added which tariff ride x (getD (chargesIn tariff book window ride) (1 + ride .party .adults + i) 0))
+      ∙ ap (_+ added which tariff counts ride x (getD (chargesIn tariff counts book window ride) (1 + ride .party .adults + i) 0))
       (adults-riders which (11 + i) x (omega (arith, ok .adults)) hx)
 
   -- Every rider's sums grow by the rider's own charge in each area that the ride's area lies within, and in no other.
   pub posted-sum :
       (which : Bool) (rider x : ℕ) → rider < 21 → x < 32
-      → sumOf which (posted tariff book window checkout ride) rider x
-      ≡ sumOf which (wordsIn window book) rider x + added which tariff ride x (ownCharge ride (chargesIn tariff book window ride) rider)
+      → sumOf which (posted tariff counts book window checkout ride) rider x
+      ≡ sumOf which (wordsIn window book) rider x + added which tariff counts ride x (ownCharge ride (chargesIn tariff counts book window ride) rider)
   posted-sum which rider x hr hx =
       rider-cases
       {P = λ r.
-      sumOf which (posted tariff book window checkout ride) r x
-      ≡ sumOf which (wordsIn window book) r x + added which tariff ride x (ownCharge ride (chargesIn tariff book window ride) r)} ride rider
-      (λ r h. rw (own-adult ride (chargesIn tariff book window ride) r (ok .adults) h) (posted-adult which r x h hx))
-      (λ i h. rw (own-child ride (chargesIn tariff book window ride) i h) (posted-child which i x h hx))
-      (λ out. rw (own-none ride (chargesIn tariff book window ride) rider out)
-      (posted-none which rider x hr out hx ∙ nothing (counted which (ride .class) && liesWithin tariff (ride .area) x) _))
+      sumOf which (posted tariff counts book window checkout ride) r x
+      ≡ sumOf which (wordsIn window book) r x + added which tariff counts ride x (ownCharge ride (chargesIn tariff counts book window ride) r)} ride rider
+      (λ r h. rw (own-adult ride (chargesIn tariff counts book window ride) r (ok .adults) h) (posted-adult which r x h hx))
+      (λ i h. rw (own-child ride (chargesIn tariff counts book window ride) i h) (posted-child which i x h hx))
+      (λ out. rw (own-none ride (chargesIn tariff counts book window ride) rider out)
+      (posted-none which rider x hr out hx ∙ nothing (counted which (ride .class) && liesWithin tariff counts (ride .area) x) _))
     where
       nothing : (s : Bool) (n : ℕ) → n ≡ n + cond s 0 0
       nothing true n = sym (add-zero n)
@@ -430,6 +430,6 @@ module _ {tariff : List ℕ} {counts : Counts} {book : List ℕ} {ride : Ride} (
   -- In the state each rider's sum of all classes grows by the rider's charge: every area lies within it.
   pub state-sum :
       (rider : ℕ) → rider < 21
-      → allSum (posted tariff book window checkout ride) rider 0
-      ≡ allSum (wordsIn window book) rider 0 + ownCharge ride (chargesIn tariff book window ride) rider
+      → allSum (posted tariff counts book window checkout ride) rider 0
+      ≡ allSum (wordsIn window book) rider 0 + ownCharge ride (chargesIn tariff counts book window ride) rider
   state-sum rider hr = rw (within-state t (ride .area) (ok .area)) at (posted-sum false rider 0 hr (omega arith))

@@ -98,11 +98,11 @@ module _ {tariff : List ℕ} {counts : Counts} {book : List ℕ} {ride : Ride} (
     {checkout : ℕ} (right : WindowRight book window checkout) where
   -- Each rider's sums in an area are right for one trip more.
   pub posted-pair :
-      (rider area : ℕ) → rider < 21 → area < 32 → PairSound (posted tariff book window checkout ride) (window .trips * 3790000) rider area
+      (rider area : ℕ) → rider < 21 → area < 32 → PairSound (posted tariff counts book window checkout ride) (window .trips * 3790000) rider area
   posted-pair rider area hr ha =
       let room = window-room right in
-      let own = ownCharge ride (chargesIn tariff book window ride) rider in
-      let inside = liesWithin tariff (ride .area) area in
+      let own = ownCharge ride (chargesIn tariff counts book window ride) rider in
+      let inside = liesWithin tariff counts (ride .area) area in
       let before = counting (window .current) (sound-has book (counts .areas) (ok .sound-book)) room .pairs rider area hr ha in
       let second = posted-sum ok window checkout room true rider area hr ha in
       let all = posted-sum ok window checkout room false rider area hr ha in
@@ -113,14 +113,14 @@ module _ {tariff : List ℕ} {counts : Counts} {book : List ℕ} {ride : Ride} (
       (omega arith, omega arith)
 
   -- A sound book is sound again.
-  pub posted-sound : sound (posted tariff book window checkout ride) (counts .areas) ≡ true
+  pub posted-sound : sound (posted tariff counts book window checkout ride) (counts .areas) ≡ true
   posted-sound =
       let room = window-room right in
       let head = right .head in
       let trips = posted-trips ok window checkout room (omega arith) in
       let opening = posted-opening ok window checkout room (omega arith) in
       let out = posted-out ok window checkout room (omega arith) in
-      sound-back (posted tariff book window checkout ride) (counts .areas) (posted-size ok window checkout room)
+      sound-back (posted tariff counts book window checkout ride) (counts .areas) (posted-size ok window checkout room)
       (rw (trips, opening, out) (head-back _ _ _ head))
       (λ rider area hr ha. rw trips (posted-pair rider area hr ha)) (posted-covers ok window checkout room)
 
@@ -129,6 +129,6 @@ pub sound-again :
     {tariff : List ℕ} {counts : Counts} {book : List ℕ} {ride : Ride} → Rideable tariff counts book ride
     → {window : Window} {checkin checkout : ℕ} → window ≡ windowOf book checkin checkout → window .trips ≤ 256 → checkin ≤ checkout
     → checkout ≤ checkin + 1440 → checkout ≤ lastMinute → tooEarly book checkin ≡ false
-    → sound (posted tariff book window checkout ride) (counts .areas) ≡ true
+    → sound (posted tariff counts book window checkout ride) (counts .areas) ≡ true
 sound-again {counts = counts} {book = book} ok {window = window} is few order day last early =
     posted-sound ok (window-right (sound-has book (counts .areas) (ok .sound-book)) order day last early window is few)

@@ -11,6 +11,7 @@ use mathlib.Core.List.{List}
 use borrow.Author.Tests.{eq-eqb, ne-eqb, eqb-true}
 use lib.ListN.{length, getD}
 use lib.Dec.{eqb}
+use Rattle.tariff.specs.declared.Counts.{Counts}
 use Rattle.tariff.specs.Rules.{levelOf}
 use Rattle.tariff.specs.Areas.{parentOf, liesWithin, FaultlessTariff}
 use Rattle.tariff.proofs.Within.{above-of, parent-there}
@@ -104,14 +105,14 @@ one-hit true true v n c never = rw (never refl) (add-zero _)
 one-hit true false v n c never = ap (_+ cond v c 0) (add-zero n)
 one-hit false s v n c never = add-zero _
 
-module _ {tariff : List ℕ} {areas stops : ℕ} (t : FaultlessTariff tariff areas stops) (r class c : ℕ) (hr : r < 21) where
-  pub up-size : (l : ℕ) (b : List ℕ) (a : ℕ) → length (addUp l tariff b r class a c) ≡ length b
+module _ {tariff : List ℕ} {counts : Counts} (t : FaultlessTariff tariff counts) (r class c : ℕ) (hr : r < 21) where
+  pub up-size : (l : ℕ) (b : List ℕ) (a : ℕ) → length (addUp l tariff counts b r class a c) ≡ length b
   unfolding addUp
   up-size zero b a = here-size b r class a c
-  up-size (suc l) b a = up-size l (addHere b r class a c) (parentOf tariff a) ∙ here-size b r class a c
+  up-size (suc l) b a = up-size l (addHere b r class a c) (parentOf tariff counts a) ∙ here-size b r class a c
 
   -- a word outside the rider's own is not one of the two in any area
-  off : (b : List ℕ) (a : ℕ) → a < areas → (j : ℕ) → (j < 3 + 64 * r) ⊎ (67 + 64 * r ≤ j) → word (addHere b r class a c) j ≡ word b j
+  off : (b : List ℕ) (a : ℕ) → a < counts .areas → (j : ℕ) → (j < 3 + 64 * r) ⊎ (67 + 64 * r ≤ j) → word (addHere b r class a c) j ≡ word b j
   off b a there j out =
       let few = t .few-areas in
       here-other b r class a c j (λ e. ⊎-elim (λ h. omega arith) (λ h. omega arith) out)
@@ -119,18 +120,18 @@ module _ {tariff : List ℕ} {areas stops : ℕ} (t : FaultlessTariff tariff are
 
   -- Every word outside the rider's own stays.
   pub up-other :
-      (l : ℕ) (b : List ℕ) (a : ℕ) → a < areas → (j : ℕ) → (j < 3 + 64 * r) ⊎ (67 + 64 * r ≤ j)
-      → word (addUp l tariff b r class a c) j ≡ word b j
+      (l : ℕ) (b : List ℕ) (a : ℕ) → a < counts .areas → (j : ℕ) → (j < 3 + 64 * r) ⊎ (67 + 64 * r ≤ j)
+      → word (addUp l tariff counts b r class a c) j ≡ word b j
   unfolding addUp
   up-other zero b a there j out = off b a there j out
   up-other (suc l) b a there j out =
-      up-other l (addHere b r class a c) (parentOf tariff a) (parent-there t a there) j out ∙ off b a there j out
+      up-other l (addHere b r class a c) (parentOf tariff counts a) (parent-there t a there) j out ∙ off b a there j out
 
   -- The rider's sums grow by the charge in each area that the ride's area lies within, and in no other.
   pub up-sum :
-      (which : Bool) (l : ℕ) (b : List ℕ) (a : ℕ) → length b ≡ bookSize → a < areas → levelOf tariff a ≡ l
+      (which : Bool) (l : ℕ) (b : List ℕ) (a : ℕ) → length b ≡ bookSize → a < counts .areas → levelOf tariff counts a ≡ l
       → ((x : ℕ) → x ≤ a → Fits b r c x) → (x : ℕ) → x < 32
-      → sumOf which (addUp l tariff b r class a c) r x ≡ sumOf which b r x + cond (counted which class && liesWithin tariff a x) c 0
+      → sumOf which (addUp l tariff counts b r class a c) r x ≡ sumOf which b r x + cond (counted which class && liesWithin tariff counts a x) c 0
   unfolding addUp
   up-sum which zero b a size there level fits x hx =
       let few = t .few-areas in
@@ -138,7 +139,7 @@ module _ {tariff : List ℕ} {areas stops : ℕ} (t : FaultlessTariff tariff are
   up-sum which (suc l) b a size there level fits x hx =
       let few = t .few-areas in
       let above = above-of t a there in
-      let up = parentOf tariff a in
+      let up = parentOf tariff counts a in
       let b′ = addHere b r class a c in
       let earlier = above .earlier (below-state t a x there (omega arith)) in
       let fits′ : (y : ℕ) → y ≤ up → Fits b′ r c y =
@@ -147,8 +148,8 @@ module _ {tariff : List ℕ} {areas stops : ℕ} (t : FaultlessTariff tariff are
       (fits y (omega arith) which′)
       in
       up-sum which l b′ up (here-size b r class a c ∙ size) (parent-there t a there) (omega (arith, above .level-up)) fits′ x hx
-      ∙ ap (_+ cond (counted which class && liesWithin tariff up x) c 0) (here-sum which b r class a c size hr (omega arith) (fits a (omega arith)) x hx)
-      ∙ one-hit (counted which class) (eqb a x) (liesWithin tariff up x) (sumOf which b r x) c
+      ∙ ap (_+ cond (counted which class && liesWithin tariff counts up x) c 0) (here-sum which b r class a c size hr (omega arith) (fits a (omega arith)) x hx)
+      ∙ one-hit (counted which class) (eqb a x) (liesWithin tariff counts up x) (sumOf which b r x) c
       (λ is. above-other t a x there (omega arith) (eqb-true a x is))
       ∙ rw (within-above t a x there)
 
@@ -161,9 +162,9 @@ pub sum-by-words :
 sum-by-words true b b′ rider x same hx = same (pairPlace rider x) (omega arith) (omega arith)
 sum-by-words false b b′ rider x same hx = same (pairPlace rider x + 1) (omega arith) (omega arith)
 
-module _ {tariff : List ℕ} {areas stops : ℕ} (t : FaultlessTariff tariff areas stops) (ride : Ride) (there : ride .area < areas)
+module _ {tariff : List ℕ} {counts : Counts} (t : FaultlessTariff tariff counts) (ride : Ride) (there : ride .area < counts .areas)
     (first : ℕ) (charges : List ℕ) (from : ℕ) where
-  pub list-size : (n : ℕ) (b : List ℕ) → first + n ≤ 21 → length (addList tariff ride first n charges from b) ≡ length b
+  pub list-size : (n : ℕ) (b : List ℕ) → first + n ≤ 21 → length (addList tariff counts ride first n charges from b) ≡ length b
   unfolding addList
   list-size zero b few = refl
   list-size (suc n) b few = up-size t (first + n) _ _ (omega arith) _ _ _ ∙ list-size n b (omega arith)
@@ -171,7 +172,7 @@ module _ {tariff : List ℕ} {areas stops : ℕ} (t : FaultlessTariff tariff are
   -- Every word outside the riders' own stays.
   pub list-other :
       (n : ℕ) (b : List ℕ) → first + n ≤ 21 → (j : ℕ) → (j < 3 + 64 * first) ⊎ (3 + 64 * (first + n) ≤ j)
-      → word (addList tariff ride first n charges from b) j ≡ word b j
+      → word (addList tariff counts ride first n charges from b) j ≡ word b j
   unfolding addList
   list-other zero b few j out = refl
   list-other (suc n) b few j out =
@@ -181,7 +182,7 @@ module _ {tariff : List ℕ} {areas stops : ℕ} (t : FaultlessTariff tariff are
   -- Sums of other riders stay.
   pub list-riders :
       (which : Bool) (n : ℕ) (b : List ℕ) → first + n ≤ 21 → (rider x : ℕ) → (rider < first) ⊎ (first + n ≤ rider) → x < 32
-      → sumOf which (addList tariff ride first n charges from b) rider x ≡ sumOf which b rider x
+      → sumOf which (addList tariff counts ride first n charges from b) rider x ≡ sumOf which b rider x
   list-riders which n b few rider x out hx =
       sum-by-words which _ _ rider x
       (λ j low high. list-other n b few j (⊎-elim (λ h. inl (omega arith)) (λ h. inr (omega arith)) out)) hx
@@ -190,13 +191,13 @@ module _ {tariff : List ℕ} {areas stops : ℕ} (t : FaultlessTariff tariff are
   pub list-sum :
       (which : Bool) (n : ℕ) (b : List ℕ) → length b ≡ bookSize → first + n ≤ 21
       → ((i : ℕ) → i < n → (x : ℕ) → x < 32 → Fits b (first + i) (getD charges (from + i) 0) x) → (i : ℕ) → i < n → (x : ℕ) → x < 32
-      → sumOf which (addList tariff ride first n charges from b) (first + i) x
-      ≡ sumOf which b (first + i) x + cond (counted which (ride .class) && liesWithin tariff (ride .area) x) (getD charges (from + i) 0) 0
+      → sumOf which (addList tariff counts ride first n charges from b) (first + i) x
+      ≡ sumOf which b (first + i) x + cond (counted which (ride .class) && liesWithin tariff counts (ride .area) x) (getD charges (from + i) 0) 0
   unfolding addList
   list-sum which zero b size few fits i h x hx = absurd (omega arith)
   list-sum which (suc n) b size few fits i h x hx =
       let some = t .few-areas in
-      let before = addList tariff ride first n charges from b in
+      let before = addList tariff counts ride first n charges from b in
       let c = getD charges (from + n) 0 in
       let class = ride .class in
       let a = ride .area in
@@ -208,11 +209,11 @@ module _ {tariff : List ℕ} {areas stops : ℕ} (t : FaultlessTariff tariff are
       elim (ℕ-discrete i n) [
         | yes is ↦
             rw is
-            (up-sum t (first + n) class c (omega arith) which (levelOf tariff a) before a sized there refl fits′ x hx
-            ∙ ap (_+ cond (counted which class && liesWithin tariff a x) c 0)
+            (up-sum t (first + n) class c (omega arith) which (levelOf tariff counts a) before a sized there refl fits′ x hx
+            ∙ ap (_+ cond (counted which class && liesWithin tariff counts a x) c 0)
             (list-riders which n b (omega arith) (first + n) x (inr (omega arith)) hx))
         | no ne ↦
             sum-by-words which _ before (first + i) x
-            (λ j low high. up-other t (first + n) class c (omega arith) (levelOf tariff a) before a there j (inl (omega arith))) hx
+            (λ j low high. up-other t (first + n) class c (omega arith) (levelOf tariff counts a) before a there j (inl (omega arith))) hx
             ∙ list-sum which n b size (omega arith) (λ k hk. fits k (omega arith)) i (omega arith) x hx
       ]

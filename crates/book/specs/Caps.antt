@@ -7,6 +7,7 @@ use Rattle.units.specs.Rounding.{raisedBy}
 use Rattle.units.specs.declared.Cap.{Cap}
 use Rattle.units.specs.declared.Cap.the-variants.{NoCap, UpTo}
 use Rattle.tariff.specs.declared.Area.{Area}
+use Rattle.tariff.specs.declared.Counts.{Counts}
 use Rattle.tariff.specs.Areas.{areaAt, parentOf}
 use Rattle.fare.specs.Prices.{step4}
 use Rattle.caps.specs.declared.Caps.{Caps}
@@ -36,17 +37,17 @@ pub record Places (chain : Chain) : Type 0 where
   pub top : chain .top .area < 32
 
 -- an area of a chain, with its caps
-abbrev pub linkOf : List ℕ → ℕ → Bool → Link
-linkOf tariff area child = record { area = area; caps = capsHere (areaAt tariff area) child }
+abbrev pub linkOf : List ℕ → Counts → ℕ → Bool → Link
+linkOf tariff counts area child = record { area = area; caps = capsHere (areaAt tariff counts area) child }
 
 -- an area, the one above it and the one above that; the state is its own parent
-abbrev pub chainOf : List ℕ → ℕ → Bool → Chain
-chainOf tariff area child = record {
-  own = linkOf tariff area child;
-  above = linkOf tariff (parentOf tariff area) child;
-  top = linkOf tariff (parentOf tariff (parentOf tariff area)) child;
+abbrev pub chainOf : List ℕ → Counts → ℕ → Bool → Chain
+chainOf tariff counts area child = record {
+  own = linkOf tariff counts area child;
+  above = linkOf tariff counts (parentOf tariff counts area) child;
+  top = linkOf tariff counts (parentOf tariff counts (parentOf tariff counts area)) child;
 }
 
-pub record ChainOf (tariff : List ℕ) (area : ℕ) (child : Bool) (r : Chain) : Type 0 where
-  pub value : r ≡ chainOf tariff area child
+pub record ChainOf (tariff : List ℕ) (counts : Counts) (area : ℕ) (child : Bool) (r : Chain) : Type 0 where
+  pub value : r ≡ chainOf tariff counts area child
   pub places : Places r

@@ -30,15 +30,15 @@ pub record Rideable (tariff : List ℕ) (counts : Counts) (book : List ℕ) (rid
   pub bicycles : ride .party .bicycles ≤ 10
 
 -- the smallest of an amount and what the caps of one area have left for a rider
-unfoldable pub cappedAt : List ℕ → List ℕ → ℕ → Bool → ℕ → ℕ → ℕ → ℕ
-cappedAt tariff w rider child class area amount =
-    cappedHere (capsHere (areaAt tariff area) child) class (secondSum w rider area) (allSum w rider area) amount
+unfoldable pub cappedAt : List ℕ → Counts → List ℕ → ℕ → Bool → ℕ → ℕ → ℕ → ℕ
+cappedAt tariff counts w rider child class area amount =
+    cappedHere (capsHere (areaAt tariff counts area) child) class (secondSum w rider area) (allSum w rider area) amount
 
 -- the same of an area and of every area above it, of which there are `level`
-unfoldable pub chargeUp : ℕ → List ℕ → List ℕ → ℕ → Bool → ℕ → ℕ → ℕ → ℕ
-chargeUp zero tariff w rider child class area amount = cappedAt tariff w rider child class area amount
-chargeUp (suc level) tariff w rider child class area amount =
-    chargeUp level tariff w rider child class (parentOf tariff area) (cappedAt tariff w rider child class area amount)
+unfoldable pub chargeUp : ℕ → List ℕ → Counts → List ℕ → ℕ → Bool → ℕ → ℕ → ℕ → ℕ
+chargeUp zero tariff counts w rider child class area amount = cappedAt tariff counts w rider child class area amount
+chargeUp (suc level) tariff counts w rider child class area amount =
+    chargeUp level tariff counts w rider child class (parentOf tariff counts area) (cappedAt tariff counts w rider child class area amount)
 
 -- the smallest of an amount and what the caps of one area of a chain have left for a rider
 abbrev pub cappedAtLink : Link → List ℕ → ℕ → ℕ → ℕ → ℕ
@@ -55,46 +55,46 @@ pub record ChargeBy (chain : Chain) (w : List ℕ) (rider class price r : ℕ) :
   pub value : r ≡ chargeBy chain w rider class price
   pub range : r ≤ price
 
-unfoldable pub riderCharge : List ℕ → List ℕ → Ride → Bool → ℕ → ℕ
-riderCharge tariff w ride child rider =
-    chargeUp (levelOf tariff (ride .area)) tariff w rider child (ride .class) (ride .area)
-    (priceOf (areaAt tariff (ride .area)) ride child)
+unfoldable pub riderCharge : List ℕ → Counts → List ℕ → Ride → Bool → ℕ → ℕ
+riderCharge tariff counts w ride child rider =
+    chargeUp (levelOf tariff counts (ride .area)) tariff counts w rider child (ride .class) (ride .area)
+    (priceOf (areaAt tariff counts (ride .area)) ride child)
 
 -- the charges of `count` riders from `first` on
-unfoldable pub riderCharges : List ℕ → List ℕ → Ride → Bool → ℕ → ℕ → List ℕ
-riderCharges tariff w ride child first zero = []
-riderCharges tariff w ride child first (suc count) =
-    riderCharges tariff w ride child first count ++ (riderCharge tariff w ride child (first + count) ∷ [])
+unfoldable pub riderCharges : List ℕ → Counts → List ℕ → Ride → Bool → ℕ → ℕ → List ℕ
+riderCharges tariff counts w ride child first zero = []
+riderCharges tariff counts w ride child first (suc count) =
+    riderCharges tariff counts w ride child first count ++ (riderCharge tariff counts w ride child (first + count) ∷ [])
 
 -- a bicycle's new covering area: the smallest containing the trip's area and its old covering area, if any
-unfoldable pub newCover : List ℕ → ℕ → ℕ → ℕ
-newCover tariff area old = cond (eqb old 0) area (smallestOf tariff area (old - 1))
+unfoldable pub newCover : List ℕ → Counts → ℕ → ℕ → ℕ
+newCover tariff counts area old = cond (eqb old 0) area (smallestOf tariff counts area (old - 1))
 
-pub record NewCover (tariff : List ℕ) (areas area old r : ℕ) : Type 0 where
-  pub value : r ≡ newCover tariff area old
-  pub there : r < areas
+pub record NewCover (tariff : List ℕ) (counts : Counts) (area old r : ℕ) : Type 0 where
+  pub value : r ≡ newCover tariff counts area old
+  pub there : r < counts .areas
 
 -- the new covering area's flat less the old one's (0 if unused)
-unfoldable pub bicycleCharge : List ℕ → ℕ → ℕ → ℕ
-bicycleCharge tariff area old = flatOf tariff (newCover tariff area old) - cond (eqb old 0) 0 (flatOf tariff (old - 1))
+unfoldable pub bicycleCharge : List ℕ → Counts → ℕ → ℕ → ℕ
+bicycleCharge tariff counts area old = flatOf tariff counts (newCover tariff counts area old) - cond (eqb old 0) 0 (flatOf tariff counts (old - 1))
 
-pub record BicycleCharge (tariff : List ℕ) (area old r : ℕ) : Type 0 where
-  pub value : r ≡ bicycleCharge tariff area old
+pub record BicycleCharge (tariff : List ℕ) (counts : Counts) (area old r : ℕ) : Type 0 where
+  pub value : r ≡ bicycleCharge tariff counts area old
   pub range : r ≤ 60000
 
 -- the charges of the first `count` bicycles
-unfoldable pub bicycleCharges : List ℕ → List ℕ → Ride → ℕ → List ℕ
-bicycleCharges tariff w ride zero = []
-bicycleCharges tariff w ride (suc count) =
-    bicycleCharges tariff w ride count ++ (bicycleCharge tariff (ride .area) (coverWord w count) ∷ [])
+unfoldable pub bicycleCharges : List ℕ → Counts → List ℕ → Ride → ℕ → List ℕ
+bicycleCharges tariff counts w ride zero = []
+bicycleCharges tariff counts w ride (suc count) =
+    bicycleCharges tariff counts w ride count ++ (bicycleCharge tariff counts (ride .area) (coverWord w count) ∷ [])
 
 -- account holder, adults, children, bicycles
-unfoldable pub chargesOf : List ℕ → List ℕ → Ride → List ℕ
-chargesOf tariff w ride =
-    riderCharges tariff w ride false 0 (1 + ride .party .adults)
-    ++ (riderCharges tariff w ride true 11 (ride .party .children) ++ bicycleCharges tariff w ride (ride .party .bicycles))
+unfoldable pub chargesOf : List ℕ → Counts → List ℕ → Ride → List ℕ
+chargesOf tariff counts w ride =
+    riderCharges tariff counts w ride false 0 (1 + ride .party .adults)
+    ++ (riderCharges tariff counts w ride true 11 (ride .party .children) ++ bicycleCharges tariff counts w ride (ride .party .bicycles))
 
 -- a list that starts with these charges
-pub record Charged (tariff w : List ℕ) (ride : Ride) (amounts : List ℕ) : Type 0 where
+pub record Charged (tariff : List ℕ) (counts : Counts) (w : List ℕ) (ride : Ride) (amounts : List ℕ) : Type 0 where
   pub size : length amounts ≡ 31
-  pub value : take (length (chargesOf tariff w ride)) amounts ≡ chargesOf tariff w ride
+  pub value : take (length (chargesOf tariff counts w ride)) amounts ≡ chargesOf tariff counts w ride

@@ -21,38 +21,38 @@ addHere book rider class area amount =
     putWord both (pairPlace rider area + 1) (allSum both rider area + amount)
 
 -- to the sums of an area and of every area above it, of which there are `level`
-unfoldable pub addUp : ℕ → List ℕ → List ℕ → ℕ → ℕ → ℕ → ℕ → List ℕ
-addUp zero tariff book rider class area amount = addHere book rider class area amount
-addUp (suc level) tariff book rider class area amount =
-    addUp level tariff (addHere book rider class area amount) rider class (parentOf tariff area) amount
+unfoldable pub addUp : ℕ → List ℕ → Counts → List ℕ → ℕ → ℕ → ℕ → ℕ → List ℕ
+addUp zero tariff counts book rider class area amount = addHere book rider class area amount
+addUp (suc level) tariff counts book rider class area amount =
+    addUp level tariff counts (addHere book rider class area amount) rider class (parentOf tariff counts area) amount
 
 -- a list's charges from a place on, added for `count` riders from `first` on, one after another
-unfoldable pub addList : List ℕ → Ride → ℕ → ℕ → List ℕ → ℕ → List ℕ → List ℕ
-addList tariff ride first zero charges from book = book
-addList tariff ride first (suc count) charges from book =
-    addUp (levelOf tariff (ride .area)) tariff (addList tariff ride first count charges from book) (first + count)
+unfoldable pub addList : List ℕ → Counts → Ride → ℕ → ℕ → List ℕ → ℕ → List ℕ → List ℕ
+addList tariff counts ride first zero charges from book = book
+addList tariff counts ride first (suc count) charges from book =
+    addUp (levelOf tariff counts (ride .area)) tariff counts (addList tariff counts ride first count charges from book) (first + count)
     (ride .class) (ride .area) (getD charges (from + count) 0)
 
 -- the new covering areas of the first `count` bicycles
-unfoldable pub coverBicycles : List ℕ → Ride → ℕ → List ℕ → List ℕ
-coverBicycles tariff ride zero book = book
-coverBicycles tariff ride (suc count) book =
-    let before = coverBicycles tariff ride count book in
-    putWord before (coverPlace count) (1 + newCover tariff (ride .area) (coverWord before count))
+unfoldable pub coverBicycles : List ℕ → Counts → Ride → ℕ → List ℕ → List ℕ
+coverBicycles tariff counts ride zero book = book
+coverBicycles tariff counts ride (suc count) book =
+    let before = coverBicycles tariff counts ride count book in
+    putWord before (coverPlace count) (1 + newCover tariff counts (ride .area) (coverWord before count))
 
 -- the trips in the window, its opening, and the last check-out
 unfoldable pub opened : Window → ℕ → List ℕ → List ℕ
 opened window checkout book = putWord (putWord (putWord book 0 (window .trips)) 1 (window .opening .0)) 2 checkout
 
 -- the book after a ride in a window: the window's words, the riders' sums with their charges, and the bicycles' covering areas
-unfoldable pub posted : List ℕ → List ℕ → Window → ℕ → Ride → List ℕ
-posted tariff book window checkout ride =
+unfoldable pub posted : List ℕ → Counts → List ℕ → Window → ℕ → Ride → List ℕ
+posted tariff counts book window checkout ride =
     let w = inWindow (window .current) book in
-    let charges = chargesOf tariff w ride in
+    let charges = chargesOf tariff counts w ride in
     let adults = 1 + ride .party .adults in
-    coverBicycles tariff ride (ride .party .bicycles)
-    (addList tariff ride 11 (ride .party .children) charges adults
-    (addList tariff ride 0 adults charges 0 (opened window checkout w)))
+    coverBicycles tariff counts ride (ride .party .bicycles)
+    (addList tariff counts ride 11 (ride .party .children) charges adults
+    (addList tariff counts ride 0 adults charges 0 (opened window checkout w)))
 
 -- a book without trips is a fresh one
 abbrev pub FreshOrUsed : List ℕ → Type 0
@@ -88,4 +88,4 @@ pub record Covering (tariff : List ℕ) (counts : Counts) (book : List ℕ) (rid
 pub record Postable (tariff : List ℕ) (counts : Counts) (book : List ℕ) (window : Window) (ride : Ride) (amounts : List ℕ) : Type 0 where
   pub rideable : Rideable tariff counts book ride
   pub few : window .current ≡ true → tripsOf book ≤ 255
-  pub charged : Charged tariff (inWindow (window .current) book) ride amounts
+  pub charged : Charged tariff counts (inWindow (window .current) book) ride amounts

@@ -89,7 +89,7 @@ fn charge_riders(
     from: usize,
 )
     requires { ⌜ Rideable (now tariff) counts (now book) ride × ((first + count ≤ 21) × (from + count ≤ length (now amounts))) ⌝ }
-    ensures { λ _. ⌜ now (amounts .exit) ≡ sets (now (amounts .entry)) from (riderCharges (now (tariff .entry)) (inWindow current (now (book .entry))) ride child first count) ⌝ }
+    ensures { λ _. ⌜ now (amounts .exit) ≡ sets (now (amounts .entry)) from (riderCharges (now (tariff .entry)) counts (inWindow current (now (book .entry))) ride child first count) ⌝ }
 {
     if count == 0 {
         return;
@@ -108,7 +108,7 @@ fn charge_riders(
 // A bicycle's new covering area: the smallest containing the ride's area and its old covering area, if any.
 pub fn new_cover(tariff: &[u8], counts: Counts, at: usize, old: usize) -> usize
     requires { ⌜ Read (now tariff) counts × ((at < counts .areas) × (old ≤ counts .areas)) ⌝ }
-    ensures { λ r. ⌜ NewCover (now (tariff .entry)) (counts .areas) at old r ⌝ }
+    ensures { λ r. ⌜ NewCover (now (tariff .entry)) counts at old r ⌝ }
 {
     if old == 0 {
         at
@@ -120,7 +120,7 @@ pub fn new_cover(tariff: &[u8], counts: Counts, at: usize, old: usize) -> usize
 // A bicycle's charge: the new covering area's flat less the old one's.
 pub fn charge_bicycle(tariff: &[u8], counts: Counts, at: usize, old: usize) -> Charge
     requires { ⌜ Read (now tariff) counts × ((at < counts .areas) × (old ≤ counts .areas)) ⌝ }
-    ensures { λ r. ⌜ BicycleCharge (now (tariff .entry)) at old (r .amount .0) ⌝ }
+    ensures { λ r. ⌜ BicycleCharge (now (tariff .entry)) counts at old (r .amount .0) ⌝ }
 {
     let new = flat(tariff, counts, new_cover(tariff, counts, at, old));
     if 0 < old {
@@ -145,7 +145,7 @@ fn charge_bicycles(
     from: usize,
 )
     requires { ⌜ Rideable (now tariff) counts (now book) ride × ((count ≤ 10) × (from + count ≤ length (now amounts))) ⌝ }
-    ensures { λ _. ⌜ now (amounts .exit) ≡ sets (now (amounts .entry)) from (bicycleCharges (now (tariff .entry)) (inWindow current (now (book .entry))) ride count) ⌝ }
+    ensures { λ _. ⌜ now (amounts .exit) ≡ sets (now (amounts .entry)) from (bicycleCharges (now (tariff .entry)) counts (inWindow current (now (book .entry))) ride count) ⌝ }
 {
     let at = ride.area;
     for i in 0..count {
@@ -166,7 +166,7 @@ pub fn charges_of(
     amounts: &mut [u32],
 ) -> usize
     requires { ⌜ Rideable (now tariff) counts (now book) ride × (length (now amounts) ≡ 31) ⌝ }
-    ensures { λ r. ⌜ (r ≡ length (chargesOf (now (tariff .entry)) (inWindow current (now (book .entry))) ride)) × (now (amounts .exit) ≡ sets (now (amounts .entry)) 0 (chargesOf (now (tariff .entry)) (inWindow current (now (book .entry))) ride)) ⌝ }
+    ensures { λ r. ⌜ (r ≡ length (chargesOf (now (tariff .entry)) counts (inWindow current (now (book .entry))) ride)) × (now (amounts .exit) ≡ sets (now (amounts .entry)) 0 (chargesOf (now (tariff .entry)) counts (inWindow current (now (book .entry))) ride)) ⌝ }
 {
     let party = ride.party;
     let adults = 1 + party.adults as usize;

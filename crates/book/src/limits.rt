@@ -55,7 +55,7 @@ pub fn caps_of(area: Area, child: bool) -> Caps
 
 fn link_of(tariff: &[u8], counts: Counts, at: usize, child: bool) -> Link
     requires { ⌜ Read (now tariff) counts × (at < counts .areas) ⌝ }
-    ensures { λ r. ⌜ r ≡ linkOf (now (tariff .entry)) at child ⌝ }
+    ensures { λ r. ⌜ r ≡ linkOf (now (tariff .entry)) counts at child ⌝ }
 {
     Link {
         area: at,
@@ -66,7 +66,7 @@ fn link_of(tariff: &[u8], counts: Counts, at: usize, child: bool) -> Link
 // The chain of an area, once for all adults or all children of a party.
 pub fn chain_of(tariff: &[u8], counts: Counts, at: usize, child: bool) -> Chain
     requires { ⌜ Read (now tariff) counts × (at < counts .areas) ⌝ }
-    ensures { λ r. ⌜ ChainOf (now (tariff .entry)) at child r ⌝ }
+    ensures { λ r. ⌜ ChainOf (now (tariff .entry)) counts at child r ⌝ }
 {
     let above = parent(tariff, counts, at);
     let top = parent(tariff, counts, above);

@@ -74,7 +74,7 @@ fn add_up(
     amount: u32,
 )
     requires { ⌜ ((length (now book) ≡ bookSize) × (rider < 21)) × ((Read (now tariff) counts × (at < counts .areas)) × ((amount ≤ 3790000) × Room (now book) rider)) ⌝ }
-    ensures { λ _. ⌜ now (book .exit) ≡ addUp (levelOf (now (tariff .entry)) at) (now (tariff .entry)) (now (book .entry)) rider class at amount ⌝ }
+    ensures { λ _. ⌜ now (book .exit) ≡ addUp (levelOf (now (tariff .entry)) counts at) (now (tariff .entry)) counts (now (book .entry)) rider class at amount ⌝ }
 {
     let mut up = at;
     let mut above = level(tariff, counts, at);
@@ -98,7 +98,7 @@ fn add_riders(
     from: usize,
 )
     requires { ⌜ Adding (now tariff) counts (now book) ride first count (now amounts) from ⌝ }
-    ensures { λ _. ⌜ now (book .exit) ≡ addList (now (tariff .entry)) ride first count (now (amounts .entry)) from (now (book .entry)) ⌝ }
+    ensures { λ _. ⌜ now (book .exit) ≡ addList (now (tariff .entry)) counts ride first count (now (amounts .entry)) from (now (book .entry)) ⌝ }
 {
     let class = ride.class;
     let at = ride.area;
@@ -111,7 +111,7 @@ fn add_riders(
 // The new covering areas of the first `count` bicycles.
 fn cover_bicycles(tariff: &[u8], counts: Counts, book: &mut [u8], ride: Ride, count: usize)
     requires { ⌜ Covering (now tariff) counts (now book) ride count ⌝ }
-    ensures { λ _. ⌜ now (book .exit) ≡ coverBicycles (now (tariff .entry)) ride count (now (book .entry)) ⌝ }
+    ensures { λ _. ⌜ now (book .exit) ≡ coverBicycles (now (tariff .entry)) counts ride count (now (book .entry)) ⌝ }
 {
     let at = ride.area;
     for i in 0..count {
@@ -133,7 +133,7 @@ pub fn post(
     amounts: &[u32],
 )
     requires { ⌜ Postable (now tariff) counts (now book) window ride (now amounts) ⌝ }
-    ensures { λ _. ⌜ now (book .exit) ≡ posted (now (tariff .entry)) (now (book .entry)) window (checkout .0) ride ⌝ }
+    ensures { λ _. ⌜ now (book .exit) ≡ posted (now (tariff .entry)) counts (now (book .entry)) window (checkout .0) ride ⌝ }
 {
     let party = ride.party;
     let adults = 1 + party.adults as usize;

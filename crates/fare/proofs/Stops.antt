@@ -23,7 +23,7 @@ use Rattle.fare.specs.Rides.{Riding, InOrder, stopOf, StopOf, areaOfStop
 
 -- Of a trip with n stops, each of which the faultless tariff has:
 module _ {tariff : List ℕ} {counts : Counts} {trip : List ℕ} {n : ℕ} (riding : Riding tariff counts trip n) where
-  right : FaultlessTariff tariff (counts .areas) (counts .stops)
+  right : FaultlessTariff tariff counts
   right = faultless tariff counts (riding .read)
 
   -- the tariff has the stop's number
@@ -32,27 +32,27 @@ module _ {tariff : List ℕ} {counts : Counts} {trip : List ℕ} {n : ℕ} (ridi
   stop-known i h = ltb-true _ _ (each-at n (λ j. ltb (stopNumber trip j) (counts .stops)) (riding .known) i h)
 
   -- so the stop has its ranges
-  pub stop-there : (i : ℕ) → i < n → StopOf tariff (counts .areas) trip i (stopOf tariff (counts .areas) trip i)
+  pub stop-there : (i : ℕ) → i < n → StopOf tariff counts trip i (stopOf tariff counts trip i)
   unfolding stopOf
   stop-there i h = record { value = refl; ranges = right .stop (stopNumber trip i) (stop-known i h) }
 
   -- the area of one stop
-  pub one-stop : (first : ℕ) (s : Stop) → StopOf tariff (counts .areas) trip first s → AreaOfStops tariff (counts .areas) trip first first (s .area)
+  pub one-stop : (first : ℕ) (s : Stop) → StopOf tariff counts trip first s → AreaOfStops tariff counts trip first first (s .area)
   unfolding areaOfStops
   one-stop first s of =
       let none : first - first ≡ 0 = omega arith in
       record {
         value = rw (none, of .value);
         there = of .ranges .area;
-        contains = λ i h h′. let e : i ≡ first = omega arith in rw (e, of .value) (within-refl tariff _);
+        contains = λ i h h′. let e : i ≡ first = omega arith in rw (e, of .value) (within-refl tariff counts _);
         least = λ d all. rw (of .value) (all first (omega arith) (omega arith));
       }
 
   -- the area of one stop more
   pub next-stop :
-      (first last r : ℕ) (s : Stop) (r′ : ℕ) → first ≤ last → last + 1 < n → AreaOfStops tariff (counts .areas) trip first last r
-      → StopOf tariff (counts .areas) trip (last + 1) s → Smallest tariff (counts .areas) r (s .area) r′
-      → AreaOfStops tariff (counts .areas) trip first (last + 1) r′
+      (first last r : ℕ) (s : Stop) (r′ : ℕ) → first ≤ last → last + 1 < n → AreaOfStops tariff counts trip first last r
+      → StopOf tariff counts trip (last + 1) s → Smallest tariff counts r (s .area) r′
+      → AreaOfStops tariff counts trip first (last + 1) r′
   unfolding areaOfStops
   next-stop first last r s r′ order inside so-far of two =
       let more : last + 1 - first ≡ suc (last - first) = omega arith in
@@ -73,7 +73,7 @@ module _ {tariff : List ℕ} {counts : Counts} {trip : List ℕ} {n : ℕ} (ridi
   -- the definition's area of a range of stops
   pub area-of-stops :
       (first more : ℕ) → first + more < n
-      → AreaOfStops tariff (counts .areas) trip first (first + more) (areaOfStops tariff (counts .areas) trip first more)
+      → AreaOfStops tariff counts trip first (first + more) (areaOfStops tariff counts trip first more)
   unfolding areaOfStops
   area-of-stops first zero h = rw add-zero (one-stop first _ (stop-there first (omega arith)))
   area-of-stops first (suc more) h =
@@ -87,10 +87,10 @@ module _ {tariff : List ℕ} {counts : Counts} {trip : List ℕ} {n : ℕ} (ridi
   -- An area that contains each of the stops and lies within every area that contains them all is the smallest.
   pub area-unique :
       (first last r : ℕ) → first ≤ last → last < n
-      → ((i : ℕ) → first ≤ i → i ≤ last → liesWithin tariff (stopOf tariff (counts .areas) trip i .area) r ≡ true)
-      → ((d : ℕ) → ((i : ℕ) → first ≤ i → i ≤ last → liesWithin tariff (stopOf tariff (counts .areas) trip i .area) d ≡ true)
-      → liesWithin tariff r d ≡ true)
-      → r ≡ areaOfStops tariff (counts .areas) trip first (last - first)
+      → ((i : ℕ) → first ≤ i → i ≤ last → liesWithin tariff counts (stopOf tariff counts trip i .area) r ≡ true)
+      → ((d : ℕ) → ((i : ℕ) → first ≤ i → i ≤ last → liesWithin tariff counts (stopOf tariff counts trip i .area) d ≡ true)
+      → liesWithin tariff counts r d ≡ true)
+      → r ≡ areaOfStops tariff counts trip first (last - first)
   area-unique first last r order inside contains least =
       let place : first + (last - first) ≡ last = omega arith in
       let s = rw place at (area-of-stops first (last - first) (omega arith)) in
@@ -106,10 +106,10 @@ times trip order =
 
 -- the contract of `ride_of`, from its area, its first and last stop and their kilometres
 pub ride :
-    (tariff : List ℕ) (areas : ℕ) (bytes : List ℕ) (trip : Trip) (area km : ℕ) (from to : Stop) → InOrder trip
-    → AreaOfStops tariff areas bytes 0 (trip .stops - 1) area → StopOf tariff areas bytes 0 from
-    → StopOf tariff areas bytes (trip .stops - 1) to → LeastKm (apart from to) km
-    → RideOf tariff areas bytes trip
+    (tariff : List ℕ) (counts : Counts) (bytes : List ℕ) (trip : Trip) (area km : ℕ) (from to : Stop) → InOrder trip
+    → AreaOfStops tariff counts bytes 0 (trip .stops - 1) area → StopOf tariff counts bytes 0 from
+    → StopOf tariff counts bytes (trip .stops - 1) to → LeastKm (apart from to) km
+    → RideOf tariff counts bytes trip
     (record {
       area = area;
       km = record { 0 = km };
@@ -119,7 +119,7 @@ pub ride :
       party = trip .party;
     })
 unfolding rideOf
-ride tariff areas bytes trip area km from to order smallest-area first last far =
+ride tariff counts bytes trip area km from to order smallest-area first last far =
     record {
       value = rw (smallest-area .value, sub-zero, far .value, first .value, last .value);
       there = smallest-area .there;

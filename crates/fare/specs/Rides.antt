@@ -28,42 +28,42 @@ pub record InOrder (trip : Trip) : Type 0 where
   pub times : inOrder (trip .checkin .0) (trip .checkout .0) ≡ true
 
 -- the trip's stop i, counted from 0
-unfoldable pub stopOf : List ℕ → ℕ → List ℕ → ℕ → Stop
-stopOf tariff areas trip i = stopAt tariff areas (stopNumber trip i)
+unfoldable pub stopOf : List ℕ → Counts → List ℕ → ℕ → Stop
+stopOf tariff counts trip i = stopAt tariff counts (stopNumber trip i)
 
-pub record StopOf (tariff : List ℕ) (areas : ℕ) (trip : List ℕ) (i : ℕ) (r : Stop) : Type 0 where
-  pub value : r ≡ stopOf tariff areas trip i
-  pub ranges : StopRanges areas r
+pub record StopOf (tariff : List ℕ) (counts : Counts) (trip : List ℕ) (i : ℕ) (r : Stop) : Type 0 where
+  pub value : r ≡ stopOf tariff counts trip i
+  pub ranges : StopRanges (counts .areas) r
 
 -- the smallest area containing the stop `first` and the `more` stops after it
-unfoldable pub areaOfStops : List ℕ → ℕ → List ℕ → ℕ → ℕ → ℕ
-areaOfStops tariff areas trip first zero = stopOf tariff areas trip first .area
-areaOfStops tariff areas trip first (suc more) =
-    smallestOf tariff (areaOfStops tariff areas trip first more) (stopOf tariff areas trip (first + suc more) .area)
+unfoldable pub areaOfStops : List ℕ → Counts → List ℕ → ℕ → ℕ → ℕ
+areaOfStops tariff counts trip first zero = stopOf tariff counts trip first .area
+areaOfStops tariff counts trip first (suc more) =
+    smallestOf tariff counts (areaOfStops tariff counts trip first more) (stopOf tariff counts trip (first + suc more) .area)
 
 -- it contains the area of each of those stops, and lies within every area that contains them all
-pub record AreaOfStops (tariff : List ℕ) (areas : ℕ) (trip : List ℕ) (first last r : ℕ) : Type 0 where
-  pub value : r ≡ areaOfStops tariff areas trip first (last - first)
-  pub there : r < areas
-  pub contains : (i : ℕ) → first ≤ i → i ≤ last → liesWithin tariff (stopOf tariff areas trip i .area) r ≡ true
+pub record AreaOfStops (tariff : List ℕ) (counts : Counts) (trip : List ℕ) (first last r : ℕ) : Type 0 where
+  pub value : r ≡ areaOfStops tariff counts trip first (last - first)
+  pub there : r < counts .areas
+  pub contains : (i : ℕ) → first ≤ i → i ≤ last → liesWithin tariff counts (stopOf tariff counts trip i .area) r ≡ true
   pub least :
-      (d : ℕ) → ((i : ℕ) → first ≤ i → i ≤ last → liesWithin tariff (stopOf tariff areas trip i .area) d ≡ true)
-      → liesWithin tariff r d ≡ true
+      (d : ℕ) → ((i : ℕ) → first ≤ i → i ≤ last → liesWithin tariff counts (stopOf tariff counts trip i .area) d ≡ true)
+      → liesWithin tariff counts r d ≡ true
 
 -- the ride that a trip is
-unfoldable pub rideOf : List ℕ → ℕ → List ℕ → Trip → Ride
-rideOf tariff areas bytes trip =
+unfoldable pub rideOf : List ℕ → Counts → List ℕ → Trip → Ride
+rideOf tariff counts bytes trip =
     record {
-      area = areaOfStops tariff areas bytes 0 (trip .stops - 1);
-      km = record { 0 = kmOf (apart (stopOf tariff areas bytes 0) (stopOf tariff areas bytes (trip .stops - 1))) };
+      area = areaOfStops tariff counts bytes 0 (trip .stops - 1);
+      km = record { 0 = kmOf (apart (stopOf tariff counts bytes 0) (stopOf tariff counts bytes (trip .stops - 1))) };
       minutes = record { 0 = trip .checkout .0 - trip .checkin .0 };
       class = trip .class;
       level = trip .level;
       party = trip .party;
     }
 
-pub record RideOf (tariff : List ℕ) (areas : ℕ) (bytes : List ℕ) (trip : Trip) (r : Ride) : Type 0 where
-  pub value : r ≡ rideOf tariff areas bytes trip
-  pub there : r .area < areas
+pub record RideOf (tariff : List ℕ) (counts : Counts) (bytes : List ℕ) (trip : Trip) (r : Ride) : Type 0 where
+  pub value : r ≡ rideOf tariff counts bytes trip
+  pub there : r .area < counts .areas
   pub km : r .km .0 ≤ 1415
   pub minutes : r .minutes .0 ≤ 1440

@@ -62,7 +62,7 @@ pub fn kilometres(a: Stop, b: Stop) -> Km
 // A stop of the trip, counted from 0, in the tariff.
 fn stop_of(tariff: &[u8], counts: Counts, trip: &[u8], stops: usize, i: usize) -> Stop
     requires { ⌜ Riding (now tariff) counts (now trip) stops × (i < stops) ⌝ }
-    ensures { λ r. ⌜ StopOf (now (tariff .entry)) (counts .areas) (now (trip .entry)) i r ⌝ }
+    ensures { λ r. ⌜ StopOf (now (tariff .entry)) counts (now (trip .entry)) i r ⌝ }
 {
     stop(tariff, counts, stop_number(trip, i))
 }
@@ -77,7 +77,7 @@ pub fn area_of_stops(
     last: usize,
 ) -> usize
     requires { ⌜ Riding (now tariff) counts (now trip) stops × ((first ≤ last) × (last < stops)) ⌝ }
-    ensures { λ r. ⌜ AreaOfStops (now (tariff .entry)) (counts .areas) (now (trip .entry)) first last r ⌝ }
+    ensures { λ r. ⌜ AreaOfStops (now (tariff .entry)) counts (now (trip .entry)) first last r ⌝ }
 {
     let mut area = stop_of(tariff, counts, trip, stops, first).area as usize;
     for i in first..last {
@@ -90,7 +90,7 @@ pub fn area_of_stops(
 // The ride that a trip is: the area of all its stops, the kilometres from its first to its last, and its minutes.
 pub fn ride_of(tariff: &[u8], counts: Counts, bytes: &[u8], trip: Trip) -> Ride
     requires { ⌜ Riding (now tariff) counts (now bytes) (trip .stops) × InOrder trip ⌝ }
-    ensures { λ r. ⌜ RideOf (now (tariff .entry)) (counts .areas) (now (bytes .entry)) trip r ⌝ }
+    ensures { λ r. ⌜ RideOf (now (tariff .entry)) counts (now (bytes .entry)) trip r ⌝ }
 {
     let stops = trip.stops;
     let last = stops - 1;

@@ -13,6 +13,7 @@ use lib.Seq.{getD-set-same, getD-set-other, set-out, getD-append-add}
 use lib.Dec.{eqb}
 use Rattle.wire.specs.Number.{getLe, putLe, bytesOf}
 use Rattle.wire.proofs.Number.{length-put, byte-other, get-same, length-bytes}
+use Rattle.tariff.specs.declared.Counts.{Counts}
 use Rattle.tariff.specs.Rules.{levelOf}
 use Rattle.tariff.specs.Areas.{areaAt, parentOf}
 use Rattle.fare.specs.declared.Ride.{Ride}
@@ -79,42 +80,42 @@ put-between k {from} {to} {b} {b′} same p v v′ low high =
 abbrev pub SameSums : List ℕ → List ℕ → Type 0
 SameSums w w′ = (i : ℕ) → 3 ≤ i → word w′ i ≡ word w i
 
-module _ (tariff w w′ : List ℕ) (same : SameSums w w′) where
+module _ (tariff : List ℕ) (counts : Counts) (w w′ : List ℕ) (same : SameSums w w′) where
   capped-alike :
       (rider : ℕ) (child : Bool) (class area amount : ℕ)
-      → cappedAt tariff w′ rider child class area amount ≡ cappedAt tariff w rider child class area amount
+      → cappedAt tariff counts w′ rider child class area amount ≡ cappedAt tariff counts w rider child class area amount
   unfolding cappedAt
   capped-alike rider child class area amount =
       rw (same (pairPlace rider area) (omega arith), same (pairPlace rider area + 1) (omega arith))
 
   charge-alike :
       (level rider : ℕ) (child : Bool) (class area amount : ℕ)
-      → chargeUp level tariff w′ rider child class area amount ≡ chargeUp level tariff w rider child class area amount
+      → chargeUp level tariff counts w′ rider child class area amount ≡ chargeUp level tariff counts w rider child class area amount
   unfolding chargeUp
   charge-alike zero rider child class area amount = capped-alike rider child class area amount
   charge-alike (suc level) rider child class area amount =
-      charge-alike level rider child class (parentOf tariff area) (cappedAt tariff w′ rider child class area amount)
-      ∙ ap (chargeUp level tariff w rider child class (parentOf tariff area)) (capped-alike rider child class area amount)
+      charge-alike level rider child class (parentOf tariff counts area) (cappedAt tariff counts w′ rider child class area amount)
+      ∙ ap (chargeUp level tariff counts w rider child class (parentOf tariff counts area)) (capped-alike rider child class area amount)
 
   riders-alike :
       (ride : Ride) (child : Bool) (first count : ℕ)
-      → riderCharges tariff w′ ride child first count ≡ riderCharges tariff w ride child first count
+      → riderCharges tariff counts w′ ride child first count ≡ riderCharges tariff counts w ride child first count
   unfolding riderCharges riderCharge
   riders-alike ride child first zero = refl
   riders-alike ride child first (suc count) =
       rw (
         riders-alike ride child first count,
-        charge-alike (levelOf tariff (ride .area)) (first + count) child (ride .class) (ride .area)
-            (priceOf (areaAt tariff (ride .area)) ride child),
+        charge-alike (levelOf tariff counts (ride .area)) (first + count) child (ride .class) (ride .area)
+            (priceOf (areaAt tariff counts (ride .area)) ride child),
       )
 
-  bicycles-alike : (ride : Ride) (count : ℕ) → bicycleCharges tariff w′ ride count ≡ bicycleCharges tariff w ride count
+  bicycles-alike : (ride : Ride) (count : ℕ) → bicycleCharges tariff counts w′ ride count ≡ bicycleCharges tariff counts w ride count
   unfolding bicycleCharges
   bicycles-alike ride zero = refl
   bicycles-alike ride (suc count) = rw (bicycles-alike ride count, same (coverPlace count) (omega arith))
 
   -- A ride's charges go by the sums and covering areas alone.
-  pub charges-alike : (ride : Ride) → chargesOf tariff w′ ride ≡ chargesOf tariff w ride
+  pub charges-alike : (ride : Ride) → chargesOf tariff counts w′ ride ≡ chargesOf tariff counts w ride
   unfolding chargesOf
   charges-alike ride = rw (riders-alike ride false 0 (1 + ride .party .adults), riders-alike ride true 11 (ride .party .children), bicycles-alike ride (ride .party .bicycles))
 
@@ -146,38 +147,38 @@ add-here-alike {b} {b′} same rider class area amount = behind (here-alike (eqb
         rw (sums-alike s (pairPlace rider area + 1) (omega arith))
         (put-alike 4 s (4 * (pairPlace rider area + 1)) (allSum c rider area + amount))
 
-module _ (tariff : List ℕ) where
+module _ (tariff : List ℕ) (counts : Counts) where
   add-up-alike :
       (level : ℕ) {b b′ : List ℕ} → AlikeBut 4 12 b b′ → (rider class area amount : ℕ)
-      → AlikeBut 4 12 (addUp level tariff b rider class area amount) (addUp level tariff b′ rider class area amount)
+      → AlikeBut 4 12 (addUp level tariff counts b rider class area amount) (addUp level tariff counts b′ rider class area amount)
   unfolding addUp
   add-up-alike zero same rider class area amount = add-here-alike same rider class area amount
   add-up-alike (suc level) same rider class area amount =
-      add-up-alike level (add-here-alike same rider class area amount) rider class (parentOf tariff area) amount
+      add-up-alike level (add-here-alike same rider class area amount) rider class (parentOf tariff counts area) amount
 
   add-list-alike :
       (ride : Ride) (first count : ℕ) (charges : List ℕ) (from : ℕ) {b b′ : List ℕ} → AlikeBut 4 12 b b′
-      → AlikeBut 4 12 (addList tariff ride first count charges from b) (addList tariff ride first count charges from b′)
+      → AlikeBut 4 12 (addList tariff counts ride first count charges from b) (addList tariff counts ride first count charges from b′)
   unfolding addList
   add-list-alike ride first zero charges from same = same
   add-list-alike ride first (suc count) charges from same =
-      add-up-alike (levelOf tariff (ride .area)) (add-list-alike ride first count charges from same) (first + count) (ride .class)
+      add-up-alike (levelOf tariff counts (ride .area)) (add-list-alike ride first count charges from same) (first + count) (ride .class)
       (ride .area) (getD charges (from + count) 0)
 
   cover-alike :
       (ride : Ride) (count : ℕ) {b b′ : List ℕ} → AlikeBut 4 12 b b′
-      → AlikeBut 4 12 (coverBicycles tariff ride count b) (coverBicycles tariff ride count b′)
+      → AlikeBut 4 12 (coverBicycles tariff counts ride count b) (coverBicycles tariff counts ride count b′)
   unfolding coverBicycles
   cover-alike ride zero same = same
   cover-alike ride (suc count) {b} {b′} same = behind (cover-alike ride count same)
     where
       behind :
           {c c′ : List ℕ} → AlikeBut 4 12 c c′
-          → AlikeBut 4 12 (putWord c (coverPlace count) (1 + newCover tariff (ride .area) (coverWord c count)))
-          (putWord c′ (coverPlace count) (1 + newCover tariff (ride .area) (coverWord c′ count)))
+          → AlikeBut 4 12 (putWord c (coverPlace count) (1 + newCover tariff counts (ride .area) (coverWord c count)))
+          (putWord c′ (coverPlace count) (1 + newCover tariff counts (ride .area) (coverWord c′ count)))
       behind {c} {c′} s =
           rw (sums-alike s (coverPlace count) (omega arith))
-          (put-alike 4 s (4 * coverPlace count) (1 + newCover tariff (ride .area) (coverWord c count)))
+          (put-alike 4 s (4 * coverPlace count) (1 + newCover tariff counts (ride .area) (coverWord c count)))
 
   -- the window's words put in both, with the same trips
   opened-alike :
@@ -192,11 +193,11 @@ module _ (tariff : List ℕ) where
   -- the book after a ride, by the words that count
   abbrev postedOn : List ℕ → Window → ℕ → Ride → List ℕ
   postedOn w window checkout ride =
-      coverBicycles tariff ride (ride .party .bicycles)
-      (addList tariff ride 11 (ride .party .children) (chargesOf tariff w ride) (1 + ride .party .adults)
-      (addList tariff ride 0 (1 + ride .party .adults) (chargesOf tariff w ride) 0 (opened window checkout w)))
+      coverBicycles tariff counts ride (ride .party .bicycles)
+      (addList tariff counts ride 11 (ride .party .children) (chargesOf tariff counts w ride) (1 + ride .party .adults)
+      (addList tariff counts ride 0 (1 + ride .party .adults) (chargesOf tariff counts w ride) 0 (opened window checkout w)))
 
-  posted-is : (book : List ℕ) (window : Window) (checkout : ℕ) (ride : Ride) → posted tariff book window checkout ride ≡ postedOn (inWindow (window .current) book) window checkout ride
+  posted-is : (book : List ℕ) (window : Window) (checkout : ℕ) (ride : Ride) → posted tariff counts book window checkout ride ≡ postedOn (inWindow (window .current) book) window checkout ride
   unfolding posted
   posted-is book window checkout ride = refl
 
@@ -204,10 +205,10 @@ module _ (tariff : List ℕ) where
       (window window′ : Window) (checkout checkout′ : ℕ) (ride : Ride) (w w′ : List ℕ) → AlikeBut 4 12 w w′ → window′ .trips ≡ window .trips
       → AlikeBut 4 12 (postedOn w window checkout ride) (postedOn w′ window′ checkout′ ride)
   posted-on-alike window window′ checkout checkout′ ride w w′ same trips =
-      rw (charges-alike tariff w w′ (sums-alike same) ride)
+      rw (charges-alike tariff counts w w′ (sums-alike same) ride)
       (cover-alike ride (ride .party .bicycles)
-      (add-list-alike ride 11 (ride .party .children) (chargesOf tariff w ride) (1 + ride .party .adults)
-      (add-list-alike ride 0 (1 + ride .party .adults) (chargesOf tariff w ride) 0 (opened-alike window window′ checkout checkout′ same trips))))
+      (add-list-alike ride 11 (ride .party .children) (chargesOf tariff counts w ride) (1 + ride .party .adults)
+      (add-list-alike ride 0 (1 + ride .party .adults) (chargesOf tariff counts w ride) 0 (opened-alike window window′ checkout checkout′ same trips))))
 
   -- The words that count in a window: both books', or a fresh book's.
   pub words-alike : (current : Bool) {book book′ : List ℕ} → AlikeBut 4 12 book book′ → AlikeBut 4 12 (inWindow current book) (inWindow current book′)
@@ -218,7 +219,7 @@ module _ (tariff : List ℕ) where
   pub posted-alike :
       (window window′ : Window) (checkout checkout′ : ℕ) (ride : Ride) {book book′ : List ℕ} → AlikeBut 4 12 book book′
       → window′ .current ≡ window .current → window′ .trips ≡ window .trips
-      → AlikeBut 4 12 (posted tariff book window checkout ride) (posted tariff book′ window′ checkout′ ride)
+      → AlikeBut 4 12 (posted tariff counts book window checkout ride) (posted tariff counts book′ window′ checkout′ ride)
   posted-alike window window′ checkout checkout′ ride {book} {book′} same current trips =
       rw (posted-is book window checkout ride, posted-is book′ window′ checkout′ ride)
       (posted-on-alike window window′ checkout checkout′ ride (inWindow (window .current) book) (inWindow (window′ .current) book′)

@@ -15,7 +15,7 @@ use Rattle.tariff.specs.Scan.{FaultSays}
 use Rattle.tariff.specs.Scan as scan
 use Rattle.tariff.specs.Areas.{Read}
 use Rattle.tariff.proofs.Faultless.{faultless}
-use Rattle.tariff.proofs.Faults.{fault-exactly, fault-number}
+use Rattle.tariff.proofs.Faults.{fault-exactly, fault-number, fault-most}
 use Rattle.trip.specs.declared.Trip.{Trip}
 use Rattle.trip.specs.declared.Offered.the-variants.{Good}
 use Rattle.trip.specs.Record.{partyAt}
@@ -33,7 +33,7 @@ use Rattle.book.proofs.SoundAgain.{WindowRight, window-right}
 use Rattle.book.proofs.ChargeLaws.{charges-length, adult-stands, child-stands, bicycle-stands, charges-most}
 use Rattle.settle.specs.Record.{recordSize, headBytes, recordOf}
 use Rattle.settle.specs.Outcome.{Outcome, refused, accepted, acceptedTrip, settled, answerOf, Settled}
-use Rattle.settle.proofs.Ways.{sound-way, clear-way, fault-way, accepted-way, fault-most}
+use Rattle.settle.proofs.Ways.{sound-way, clear-way, fault-way, accepted-way}
 use Rattle.promises.specs.Conditions.{checkinOf, checkoutOf, condition, RefusedBy, by-tariff, by-others, AcceptedBy, RecordSays}
 use Rattle.promises.proofs.TripConditions.{good-read}
 use Rattle.promises.proofs.Refusing.{
@@ -64,15 +64,15 @@ right-window {tariff} {book} {bytes} a =
 
 module _ (tariff bytes w : List ℕ) (counts : Counts) (trip : Trip) (opens : ℕ) (entry : List ℕ) (read : Read tariff counts)
     (good : readTrip bytes (counts .stops) ≡ Good trip) (in-range : opens ≤ lastMinute)
-    (most : (i : ℕ) → getD (chargesOf tariff w (rideOf tariff (counts .areas) bytes trip)) i 0 ≤ 3790000)
+    (most : (i : ℕ) → getD (chargesOf tariff counts w (rideOf tariff counts bytes trip)) i 0 ≤ 3790000)
     (is :
     entry
-    ≡ recordOf opens (rideOf tariff (counts .areas) bytes trip) (chargesOf tariff w (rideOf tariff (counts .areas) bytes trip))) where
+    ≡ recordOf opens (rideOf tariff counts bytes trip) (chargesOf tariff counts w (rideOf tariff counts bytes trip))) where
   abbrev ride : Ride
-  ride = rideOf tariff (counts .areas) bytes trip
+  ride = rideOf tariff counts bytes trip
 
   abbrev charges : List ℕ
-  charges = chargesOf tariff w ride
+  charges = chargesOf tariff counts w ride
 
   -- charge i stands at 13 + 4i
   charge-stands : (i : ℕ) → i < length charges → getLe 4 entry (13 + 4 * i) ≡ getD charges i 0
@@ -87,7 +87,7 @@ module _ (tariff bytes w : List ℕ) (counts : Counts) (trip : Trip) (opens : �
   unfolding recordOf headBytes bytesOf getLe
   kind-at = refl
 
-  said : RecordSays tariff bytes w (counts .areas) opens (trip .stops - 1) ride entry
+  said : RecordSays tariff bytes w counts opens (trip .stops - 1) ride entry
   unfolding rideOf
   said =
       let facts = offered.good bytes (counts .stops) trip good in
@@ -104,7 +104,7 @@ module _ (tariff bytes w : List ℕ) (counts : Counts) (trip : Trip) (opens : �
       let to = stop-there riding last there in
       let near = apart-most _ _ (from .ranges) (to .ranges) in
       let small : ride .area < 256 = omega (arith, smallest .there, faultless tariff counts read .few-areas) in
-      let count = charges-length tariff w ride in
+      let count = charges-length tariff counts w ride in
       record {
         size = rw is (omega (arith, record-length opens ride charges));
         long = rw (is, record-length opens ride charges) (omega (arith, long-at (omega arith)));
@@ -114,11 +114,11 @@ module _ (tariff bytes w : List ℕ) (counts : Counts) (trip : Trip) (opens : �
         km = rw (is, km-at opens ride charges (omega (arith, km-range _ near)))
             (record { value = refl; holds = km-holds _ near; least = km-least _ near; range = km-range _ near });
         minutes = rw (is, ← g .from, ← g .to) (minutes-at opens ride charges (omega arith));
-        holder = charge-stands 0 (omega arith) ∙ adult-stands tariff w ride 0 (omega arith);
-        adults = λ i h. charge-stands (1 + i) (omega arith) ∙ adult-stands tariff w ride (1 + i) (omega arith);
-        children = λ i h. charge-stands (1 + ride .party .adults + i) (omega arith) ∙ child-stands tariff w ride i h;
+        holder = charge-stands 0 (omega arith) ∙ adult-stands tariff counts w ride 0 (omega arith);
+        adults = λ i h. charge-stands (1 + i) (omega arith) ∙ adult-stands tariff counts w ride (1 + i) (omega arith);
+        children = λ i h. charge-stands (1 + ride .party .adults + i) (omega arith) ∙ child-stands tariff counts w ride i h;
         bicycles = λ i h.
-            charge-stands (1 + ride .party .adults + ride .party .children + i) (omega arith) ∙ bicycle-stands tariff w ride i h;
+            charge-stands (1 + ride .party .adults + ride .party .children + i) (omega arith) ∙ bicycle-stands tariff counts w ride i h;
       }
 
 -- ---- The answers.
@@ -144,12 +144,12 @@ module _ (tariff book bytes : List ℕ) (room : ℕ) where
   refused-holds : {n place : ℕ} → RefusedBy tariff book bytes room n place → condition tariff book bytes room n
   unfolding condition
   refused-holds (by-others counts read none low high holds before) = holds
-  refused-holds {n} {place} (by-tariff areas stops found says) = faulty says
+  refused-holds {n} {place} (by-tariff soFar found says) = faulty says
     where
-      faulty : FaultSays tariff place areas stops n → condition tariff book bytes room n
-      faulty (scan.one e w) = rw e (record { place = place; areas = areas; stops = stops; passed = found .passed; wrong = w })
-      faulty (scan.two e w) = rw e (record { place = place; areas = areas; stops = stops; passed = found .passed; wrong = w })
-      faulty (scan.three e w) = rw e (record { place = place; areas = areas; stops = stops; passed = found .passed; wrong = w })
+      faulty : FaultSays tariff place soFar n → condition tariff book bytes room n
+      faulty (scan.one e w) = rw e (record { place = place; soFar = soFar; passed = found .passed; wrong = w })
+      faulty (scan.two e w) = rw e (record { place = place; soFar = soFar; passed = found .passed; wrong = w })
+      faulty (scan.three e w) = rw e (record { place = place; soFar = soFar; passed = found .passed; wrong = w })
 
   -- Where none of the twelve conditions holds, the trip is accepted.
   pub accepts :
@@ -186,8 +186,8 @@ module _ (tariff book bytes : List ℕ) (room : ℕ) where
   -- the first and the last, check-out less check-in, and the charges in the order holder, adults, children, bicycles.
   pub record-says :
       {new entry : List ℕ} (a : AcceptedBy tariff book bytes room new entry)
-      → RecordSays tariff bytes (inWindow (a .window .current) book) (a .counts .areas) (a .window .opening .0) (a .trip .stops - 1)
-      (rideOf tariff (a .counts .areas) bytes (a .trip)) entry
+      → RecordSays tariff bytes (inWindow (a .window .current) book) (a .counts) (a .window .opening .0) (a .trip .stops - 1)
+      (rideOf tariff (a .counts) bytes (a .trip)) entry
   record-says {entry = entry} a =
       let counts = a .counts in
       let trip = a .trip in
@@ -244,15 +244,15 @@ module _ (tariff book bytes : List ℕ) (room : ℕ) where
       met :
           (o : Outcome) → Answered tariff book bytes room o → (counts : Counts) → Read tariff counts → place ≡ 0
           → condition tariff book bytes room n → NoneBelow tariff book bytes room n → o ≡ refused n place
-      met (refused m at) (refusing (by-tariff areas stops found says)) counts read none holds before =
-          absurd (no-fault tariff counts read m at areas stops (found .passed) says)
+      met (refused m at) (refusing (by-tariff soFar found says)) counts read none holds before =
+          absurd (no-fault tariff counts read m at soFar (found .passed) says)
       met (refused m at) (refusing (by-others counts′ read′ none′ low high holds′ before′)) counts read none holds before =
           same m at holds before holds′ before′ none none′
       met (accepted new entry) (accepting a) counts read none holds before = absurd (accepted-meets-none a n holds)
 
       back : RefusedBy tariff book bytes room n place → settled tariff book bytes room ≡ refused n place
-      back (by-tariff areas stops found says) =
-          fault-way tariff book bytes room n place (fault-exactly tariff n place .1 (areas, stops, found .passed, says))
+      back (by-tariff soFar found says) =
+          fault-way tariff book bytes room n place (fault-exactly tariff n place .1 (soFar, found .passed, says))
       back (by-others counts read none low high holds before) =
           met (settled tariff book bytes room) (answered tariff book bytes room) counts read none holds before
 
@@ -263,9 +263,9 @@ module _ (tariff book bytes : List ℕ) (room : ℕ) where
     where
       met : RefusedBy tariff book bytes room n place → (1 ≤ n) × (n ≤ 12) × (place ≤ 13928) × (4 ≤ n → place ≡ 0)
       met (by-others counts read none low high holds before) = (omega arith, high, omega arith, λ _. none)
-      met (by-tariff areas stops found says) =
-          let number = fault-number tariff n place areas stops found in
-          let (high, near) = fault-most tariff n place (fault-exactly tariff n place .1 (areas, stops, found .passed, says)) in
+      met (by-tariff soFar found says) =
+          let number = fault-number tariff n place soFar found in
+          let (high, near) = fault-most tariff n place (fault-exactly tariff n place .1 (soFar, found .passed, says)) in
           (⊎-elim (λ is. omega arith) (⊎-elim (λ is. omega arith) (λ is. omega arith)) number, omega arith, near, λ h. absurd (omega arith))
 
   -- ---- What comes back.

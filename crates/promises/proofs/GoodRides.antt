@@ -32,7 +32,7 @@ apart-most from to one other = omega (arith, across _ _ (wide (from .x .0) (to .
 
 pub good-ride :
     (tariff : List ℕ) (counts : Counts) (book bytes : List ℕ) (trip : Trip) → Read tariff counts → sound book (counts .areas) ≡ true
-    → readTrip bytes (counts .stops) ≡ Good trip → Rideable tariff counts book (rideOf tariff (counts .areas) bytes trip)
+    → readTrip bytes (counts .stops) ≡ Good trip → Rideable tariff counts book (rideOf tariff counts bytes trip)
 unfolding rideOf
 good-ride tariff counts book bytes trip read right is =
     let facts = good bytes (counts .stops) trip is in

@@ -77,7 +77,7 @@ module _ (tariff : List ℕ) (room d : ℕ) {book bytes book′ bytes′ : List 
   s = shifted trip moved
 
   refused-too : {n place : ℕ} → RefusedBy tariff book bytes room n place → RefusedBy tariff book′ bytes′ room n place
-  refused-too (by-tariff areas stops found says) = by-tariff areas stops found says
+  refused-too (by-tariff soFar found says) = by-tariff soFar found says
   refused-too {n} (by-others counts read none low high holds before) =
       by-others counts read none low high (conditions-alike s tariff room n holds)
       (λ m h w. before m h (conditions-alike (shifted-back s) tariff room m w))

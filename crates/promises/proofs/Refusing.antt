@@ -73,9 +73,9 @@ module _ (tariff : List ℕ) (counts : Counts) (read : Read tariff counts) where
   unfolding countsOf
   counts-are = rw (read, countsOf)
 
-  pub no-fault : (n place areas stops : ℕ) → Passed tariff place areas stops → FaultSays tariff place areas stops n → ⊥
-  no-fault n place areas stops passed says =
-      let e = fault-exactly tariff n place .1 (areas, stops, passed, says) in
+  pub no-fault : (n place : ℕ) (soFar : Counts) → Passed tariff place soFar → FaultSays tariff place soFar n → ⊥
+  no-fault n place soFar passed says =
+      let e = fault-exactly tariff n place .1 (soFar, passed, says) in
       let z : _≡_ {A = ℕ} 0 1 = cc in
       omega arith
 
@@ -116,9 +116,9 @@ module _ (tariff book bytes : List ℕ) (room : ℕ) where
         (next 2
         (next 1
         (next 0 (below-none _) (λ none. none))
-        (λ w. no-fault tariff counts read 1 (w .place) (w .areas) (w .stops) (w .passed) (scan.one refl (w .wrong))))
-        (λ w. no-fault tariff counts read 2 (w .place) (w .areas) (w .stops) (w .passed) (scan.two refl (w .wrong))))
-        (λ w. no-fault tariff counts read 3 (w .place) (w .areas) (w .stops) (w .passed) (scan.three refl (w .wrong)))
+        (λ w. no-fault tariff counts read 1 (w .place) (w .soFar) (w .passed) (scan.one refl (w .wrong))))
+        (λ w. no-fault tariff counts read 2 (w .place) (w .soFar) (w .passed) (scan.two refl (w .wrong))))
+        (λ w. no-fault tariff counts read 3 (w .place) (w .soFar) (w .passed) (scan.three refl (w .wrong)))
 
     none-of-five : sound book (counts .areas) ≡ true → NoneBelow tariff book bytes room 5
     unfolding condition
@@ -248,7 +248,7 @@ module _ (tariff book bytes : List ℕ) (room : ℕ) where
     where
       go : (r : Reading) → readTariff tariff ≡ r → Answered tariff book bytes room (settled tariff book bytes room)
       go (Fault n place) e =
-          let (areas, stops, found) = first-fault tariff n place e in
+          let (soFar, found) = first-fault tariff n place e in
           rw (fault-way tariff book bytes room n place e)
-          (refusing (by-tariff areas stops found (fault-says tariff n place areas stops found)))
+          (refusing (by-tariff soFar found (fault-says tariff n place soFar found)))
       go (Faultless counts) e = of-book tariff book bytes room counts e (sound book (counts .areas)) refl

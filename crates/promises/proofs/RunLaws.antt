@@ -53,35 +53,35 @@ module _ (tariff : List ℕ) (counts : Counts) (read : Read tariff counts) (w : 
     (all-is : (x : ℕ) → x < counts .areas → allSum w rider x ≡ all x) where
   charge-same :
       (a amount : ℕ) → a < counts .areas
-      → chargeUp (levelOf tariff a) tariff w rider child class a amount ≡ chargeIn (treeOf tariff counts child) second all class a amount
+      → chargeUp (levelOf tariff counts a) tariff counts w rider child class a amount ≡ chargeIn (treeOf tariff counts child) second all class a amount
   unfolding chargeUp cappedAt chargeIn foldUp
-  charge-same a = go (levelOf tariff a) a
+  charge-same a = go (levelOf tariff counts a) a
     where
       step : ℕ → ℕ → ℕ
-      step b rest = cappedHere (capsHere (areaAt tariff b) child) class (second b) (all b) rest
+      step b rest = cappedHere (capsHere (areaAt tariff counts b) child) class (second b) (all b) rest
 
       go :
           (level a amount : ℕ) → a < counts .areas
-          → chargeUp level tariff w rider child class a amount ≡ foldUp (parentOf tariff) step level a amount
+          → chargeUp level tariff counts w rider child class a amount ≡ foldUp (parentOf tariff counts) step level a amount
       go zero a amount h = rw (second-is a h, all-is a h)
       go (suc level) a amount h =
-          rw (second-is a h, all-is a h) (go level (parentOf tariff a) _ (parent-there (faultless tariff counts read) a h))
+          rw (second-is a h, all-is a h) (go level (parentOf tariff counts a) _ (parent-there (faultless tariff counts read) a h))
 
 -- ---- Who is carried.
 
 -- what a ride comes to for one rider: the rider's charge among the party's charges, and the sums that it is added to
-record Carried (tariff : List ℕ) (ride : Ride) (w after : List ℕ) (rider : ℕ) (child : Bool) (place : ℕ) : Type 0 where
+record Carried (tariff : List ℕ) (counts : Counts) (ride : Ride) (w after : List ℕ) (rider : ℕ) (child : Bool) (place : ℕ) : Type 0 where
   there : place < 1 + ride .party .adults + ride .party .children
-  charge : getD (chargesOf tariff w ride) place 0 ≡ riderCharge tariff w ride child rider
+  charge : getD (chargesOf tariff counts w ride) place 0 ≡ riderCharge tariff counts w ride child rider
   sums :
       (which : Bool) (x : ℕ) → x < 32
-      → sumOf which after rider x ≡ sumOf which w rider x + added which tariff ride x (getD (chargesOf tariff w ride) place 0)
+      → sumOf which after rider x ≡ sumOf which w rider x + added which tariff counts ride x (getD (chargesOf tariff counts w ride) place 0)
 
 module _ {tariff : List ℕ} {counts : Counts} {book : List ℕ} {ride : Ride} (ok : Rideable tariff counts book ride) (window : Window) (checkout : ℕ)
     (room : window .current ≡ true → tripsOf book ≤ 255) (rider : ℕ) where
   carried :
       carries (ride .party) rider ≡ true
-      → Carried tariff ride (inWindow (window .current) book) (posted tariff book window checkout ride) rider (isChild rider)
+      → Carried tariff counts ride (inWindow (window .current) book) (posted tariff counts book window checkout ride) rider (isChild rider)
       (placeOf (ride .party) rider)
   carried is = go (isChild rider) refl is
     where
@@ -90,13 +90,13 @@ module _ {tariff : List ℕ} {counts : Counts} {book : List ℕ} {ride : Ride} (
 
       go :
           (child : Bool) → isChild rider ≡ child → cond child (ltb (rider - 11) (ride .party .children)) (leb rider (ride .party .adults)) ≡ true
-          → Carried tariff ride w (posted tariff book window checkout ride) rider child
+          → Carried tariff counts ride w (posted tariff counts book window checkout ride) rider child
           (cond child (1 + ride .party .adults + (rider - 11)) rider)
       go false e on =
           let h : rider < 1 + ride .party .adults = omega (arith, leb-true) in
           record {
             there = omega arith;
-            charge = adult-stands tariff w ride rider h;
+            charge = adult-stands tariff counts w ride rider h;
             sums = λ which x hx. posted-adult ok window checkout room which rider x h hx;
           }
       go true e on =
@@ -104,12 +104,12 @@ module _ {tariff : List ℕ} {counts : Counts} {book : List ℕ} {ride : Ride} (
           let same : 11 + (rider - 11) ≡ rider = omega (arith, ltb-true) in
           record {
             there = omega arith;
-            charge = child-stands tariff w ride (rider - 11) h ∙ ap (riderCharge tariff w ride true) same;
+            charge = child-stands tariff counts w ride (rider - 11) h ∙ ap (riderCharge tariff counts w ride true) same;
             sums = λ which x hx.
                 subst
                 (λ (r : ℕ).
-                sumOf which (posted tariff book window checkout ride) r x
-                ≡ sumOf which w r x + added which tariff ride x (getD (chargesOf tariff w ride) (1 + ride .party .adults + (rider - 11)) 0))
+                sumOf which (posted tariff counts book window checkout ride) r x
+                ≡ sumOf which w r x + added which tariff counts ride x (getD (chargesOf tariff counts w ride) (1 + ride .party .adults + (rider - 11)) 0))
                 same
                 (posted-child ok window checkout room which (rider - 11) x h hx);
           }
@@ -186,7 +186,7 @@ module _ {tariff : List ℕ} {counts : Counts} {rider : ℕ} {book : List ℕ} {
   window = windowOf book (trip .checkin .0) (trip .checkout .0)
 
   abbrev ride : Ride
-  ride = rideOf tariff (counts .areas) bytes trip
+  ride = rideOf tariff counts bytes trip
 
   -- the words that count, and the rides in their window
   abbrev w : List ℕ
@@ -196,10 +196,10 @@ module _ {tariff : List ℕ} {counts : Counts} {rider : ℕ} {book : List ℕ} {
   before = cond (window .current) rides []
 
   abbrev new : List ℕ
-  new = posted tariff book window (trip .checkout .0) ride
+  new = posted tariff counts book window (trip .checkout .0) ride
 
   abbrev entry : List ℕ
-  entry = recordOf (window .opening .0) ride (chargesOf tariff w ride)
+  entry = recordOf (window .opening .0) ride (chargesOf tariff counts w ride)
 
   ok : Rideable tariff counts book ride
   ok = good-ride tariff counts book bytes trip read (k .sound-book) is
@@ -235,9 +235,9 @@ module _ {tariff : List ℕ} {counts : Counts} {rider : ℕ} {book : List ℕ} {
   riding on =
       let c = carried ok window (trip .checkout .0) room rider on in
       let place = placeOf (trip .party) rider in
-      let written : getLe 4 entry (13 + 4 * place) ≡ getD (chargesOf tariff w ride) place 0 =
-      charge-at (window .opening .0) ride (chargesOf tariff w ride) place
-      (omega (arith, c .there, charges-length tariff w ride))
+      let written : getLe 4 entry (13 + 4 * place) ≡ getD (chargesOf tariff counts w ride) place 0 =
+      charge-at (window .opening .0) ride (chargesOf tariff counts w ride) place
+      (omega (arith, c .there, charges-length tariff counts w ride))
       (omega (arith, charges-most ok (window .current) place))
       in
       record {

@@ -16,6 +16,7 @@ use lib.Dec.{leb, eqb}
 use Rattle.wire.specs.Each.{each}
 use Rattle.wire.specs.Frame.{broken, frameAt}
 use Rattle.calendar.specs.Stamps.{isStamp, lastMinute}
+use Rattle.tariff.specs.declared.Counts.{Counts}
 use Rattle.tariff.specs.declared.Stop.{Stop}
 use Rattle.tariff.specs.Areas.{smallestOf}
 use Rattle.tariff.proofs.Faultless.{read-one}
@@ -261,35 +262,35 @@ module _ {c d : ℕ} {book bytes book′ bytes′ : List ℕ} (s : Shifted c d b
 
   -- ---- The ride and the window.
 
-  stop-of-same : (tariff : List ℕ) (areas i : ℕ) → stopOf tariff areas bytes′ i ≡ stopOf tariff areas bytes i
+  stop-of-same : (tariff : List ℕ) (counts : Counts) (i : ℕ) → stopOf tariff counts bytes′ i ≡ stopOf tariff counts bytes i
   unfolding stopOf
-  stop-of-same tariff areas i = rw (stop-same i)
+  stop-of-same tariff counts i = rw (stop-same i)
 
   area-of-same :
-      (tariff : List ℕ) (areas first more : ℕ) → areaOfStops tariff areas bytes′ first more ≡ areaOfStops tariff areas bytes first more
+      (tariff : List ℕ) (counts : Counts) (first more : ℕ) → areaOfStops tariff counts bytes′ first more ≡ areaOfStops tariff counts bytes first more
   unfolding areaOfStops
-  area-of-same tariff areas first zero = ap (λ (p : Stop). p .area) (stop-of-same tariff areas first)
-  area-of-same tariff areas first (suc more) =
-      ap (λ (a : ℕ). smallestOf tariff a (stopOf tariff areas bytes′ (first + suc more) .area)) (area-of-same tariff areas first more)
-      ∙ ap (λ (p : Stop). smallestOf tariff (areaOfStops tariff areas bytes first more) (p .area)) (stop-of-same tariff areas (first + suc more))
+  area-of-same tariff counts first zero = ap (λ (p : Stop). p .area) (stop-of-same tariff counts first)
+  area-of-same tariff counts first (suc more) =
+      ap (λ (a : ℕ). smallestOf tariff counts a (stopOf tariff counts bytes′ (first + suc more) .area)) (area-of-same tariff counts first more)
+      ∙ ap (λ (p : Stop). smallestOf tariff counts (areaOfStops tariff counts bytes first more) (p .area)) (stop-of-same tariff counts (first + suc more))
 
   -- two trips with the same stops, class, level, party and minutes are one ride
   ride-same :
-      (tariff : List ℕ) (areas : ℕ) (trip trip′ : Trip) → trip′ .stops ≡ trip .stops → trip′ .class ≡ trip .class
+      (tariff : List ℕ) (counts : Counts) (trip trip′ : Trip) → trip′ .stops ≡ trip .stops → trip′ .class ≡ trip .class
       → trip′ .level ≡ trip .level → trip′ .party ≡ trip .party
       → trip′ .checkout .0 - trip′ .checkin .0 ≡ trip .checkout .0 - trip .checkin .0
-      → rideOf tariff areas bytes′ trip′ ≡ rideOf tariff areas bytes trip
+      → rideOf tariff counts bytes′ trip′ ≡ rideOf tariff counts bytes trip
   unfolding rideOf
-  ride-same tariff areas trip trip′ stops class level party minutes =
+  ride-same tariff counts trip trip′ stops class level party minutes =
       rw (
         stops,
         class,
         level,
         party,
         minutes,
-        area-of-same tariff areas 0 (trip .stops - 1),
-        stop-of-same tariff areas 0,
-        stop-of-same tariff areas (trip .stops - 1),
+        area-of-same tariff counts 0 (trip .stops - 1),
+        stop-of-same tariff counts 0,
+        stop-of-same tariff counts (trip .stops - 1),
       )
 
   current-same : windowOf book′ (checkinOf bytes′) (checkoutOf bytes′) .current ≡ windowOf book (checkinOf bytes) (checkoutOf bytes) .current
@@ -342,10 +343,10 @@ module _ {tariff : List ℕ} {room d : ℕ} {book bytes book′ bytes′ : List 
   read′ : GoodRead bytes′ (a′ .counts .stops) (a′ .trip)
   read′ = good-read bytes′ (a′ .counts .stops) (a′ .trip) (a′ .good)
 
-  one-ride : rideOf tariff (a′ .counts .areas) bytes′ (a′ .trip) ≡ rideOf tariff (a .counts .areas) bytes (a .trip)
+  one-ride : rideOf tariff (a′ .counts) bytes′ (a′ .trip) ≡ rideOf tariff (a .counts) bytes (a .trip)
   one-ride =
       rw counts-same
-      (ride-same s tariff (a .counts .areas) (a .trip) (a′ .trip) (read′ .stops ∙ count-same s ∙ sym (read .stops))
+      (ride-same s tariff (a .counts) (a .trip) (a′ .trip) (read′ .stops ∙ count-same s ∙ sym (read .stops))
       (read′ .class ∙ class-same s ∙ sym (read .class)) (read′ .level ∙ level-same s ∙ sym (read .level))
       (read′ .party ∙ party-same s ∙ sym (read .party))
       (omega (arith, read .from, read .to, read′ .from, read′ .to, s .checkin, s .checkout)))
@@ -366,20 +367,20 @@ module _ {tariff : List ℕ} {room d : ℕ} {book bytes book′ bytes′ : List 
   later-opening = rw (window-is, window-is′) (sym (add-zero _) ∙ opening-moved s)
 
   same-charges :
-      chargesOf tariff (inWindow (a′ .window .current) book′) (rideOf tariff (a′ .counts .areas) bytes′ (a′ .trip))
-      ≡ chargesOf tariff (inWindow (a .window .current) book) (rideOf tariff (a .counts .areas) bytes (a .trip))
+      chargesOf tariff (a′ .counts) (inWindow (a′ .window .current) book′) (rideOf tariff (a′ .counts) bytes′ (a′ .trip))
+      ≡ chargesOf tariff (a .counts) (inWindow (a .window .current) book) (rideOf tariff (a .counts) bytes (a .trip))
   same-charges =
-      rw (same-current, one-ride)
-      (charges-alike tariff (inWindow (a .window .current) book) (inWindow (a .window .current) book′)
-      (sums-alike (words-alike tariff (a .window .current) (s .others))) (rideOf tariff (a .counts .areas) bytes (a .trip)))
+      rw (same-current, one-ride, counts-same)
+      (charges-alike tariff (a .counts) (inWindow (a .window .current) book) (inWindow (a .window .current) book′)
+      (sums-alike (words-alike tariff (a .counts) (a .window .current) (s .others))) (rideOf tariff (a .counts) bytes (a .trip)))
 
   pub moved-record : MovedRecord d entry entry′
   moved-record =
       record {
         alike =
             rw (a .entry-is, a′ .entry-is, same-charges, one-ride)
-            (record-alike (a .window .opening .0) (a′ .window .opening .0) (rideOf tariff (a .counts .areas) bytes (a .trip))
-            (chargesOf tariff (inWindow (a .window .current) book) (rideOf tariff (a .counts .areas) bytes (a .trip))));
+            (record-alike (a .window .opening .0) (a′ .window .opening .0) (rideOf tariff (a .counts) bytes (a .trip))
+            (chargesOf tariff (a .counts) (inWindow (a .window .current) book) (rideOf tariff (a .counts) bytes (a .trip))));
         opening =
             omega (arith, record-says tariff book bytes room a .opening, record-says tariff book′ bytes′ room a′ .opening, later-opening);
       }
@@ -391,9 +392,9 @@ module _ {tariff : List ℕ} {room d : ℕ} {book bytes book′ bytes′ : List 
       let head = right-window a′ .head in
       record {
         alike =
-            rw (a .new-is, a′ .new-is, one-ride)
-            (posted-alike tariff (a .window) (a′ .window) (a .trip .checkout .0) (a′ .trip .checkout .0)
-            (rideOf tariff (a .counts .areas) bytes (a .trip)) (s .others) same-current same-trips);
+            rw (a .new-is, a′ .new-is, one-ride, counts-same)
+            (posted-alike tariff (a .counts) (a .window) (a′ .window) (a .trip .checkout .0) (a′ .trip .checkout .0)
+            (rideOf tariff (a .counts) bytes (a .trip)) (s .others) same-current same-trips);
         opening = rw (ne-eqb (tripsOf new) 0 (l .used)) (omega (arith, l .opening-is, l′ .opening-is, later-opening));
         last =
             rw (ne-eqb (tripsOf new) 0 (l .used))

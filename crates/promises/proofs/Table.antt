@@ -42,6 +42,7 @@ use Rattle.promises.specs.Cases.{
   areaBytes,
   areasBytes,
   sample,
+  sampleCounts,
   rideIn,
   charged,
   cases,
@@ -95,28 +96,28 @@ word-start {b} {b′} s i h = get-same 4 b′ b (4 * i) (λ j low high. s .same 
 -- ---- The sample.
 
 -- the sample is faultless, so each parent is one of its seven areas
-sample-read : Read sample (record { areas = 7; stops = 0 })
+sample-read : Read sample sampleCounts
 unfolding readTariff readFrom entryAt areaEntry frameAt broken areaFields capsRight placeRight getLe bytesOf sample areasBytes areaBytes sampleArea
 sample-read = refl
 
-parent-of : (a : ℕ) → a < 7 → parentOf sample a < 7
-parent-of = parent-there (faultless sample (record { areas = 7; stops = 0 }) sample-read)
+parent-of : (a : ℕ) → a < 7 → parentOf sample sampleCounts a < 7
+parent-of = parent-there (faultless sample sampleCounts sample-read)
 
 -- the holder's charge in one of the seven areas
 capped-start :
     {b b′ : List ℕ} → SameStart 68 b b′ → (class a amount : ℕ) → a < 7
-    → cappedAt sample b′ 0 false class a amount ≡ cappedAt sample b 0 false class a amount
+    → cappedAt sample sampleCounts b′ 0 false class a amount ≡ cappedAt sample sampleCounts b 0 false class a amount
 unfolding cappedAt
 capped-start s class a amount h = rw (word-start s (pairPlace 0 a) (omega arith), word-start s (pairPlace 0 a + 1) (omega arith))
 
 charge-start :
     (level : ℕ) {b b′ : List ℕ} → SameStart 68 b b′ → (class a amount : ℕ) → a < 7
-    → chargeUp level sample b′ 0 false class a amount ≡ chargeUp level sample b 0 false class a amount
+    → chargeUp level sample sampleCounts b′ 0 false class a amount ≡ chargeUp level sample sampleCounts b 0 false class a amount
 unfolding chargeUp
 charge-start zero s class a amount h = capped-start s class a amount h
 charge-start (suc level) {b} {b′} s class a amount h =
-    charge-start level s class (parentOf sample a) (cappedAt sample b′ 0 false class a amount) (parent-of a h)
-    ∙ ap (chargeUp level sample b 0 false class (parentOf sample a)) (capped-start s class a amount h)
+    charge-start level s class (parentOf sample sampleCounts a) (cappedAt sample sampleCounts b′ 0 false class a amount) (parent-of a h)
+    ∙ ap (chargeUp level sample sampleCounts b 0 false class (parentOf sample sampleCounts a)) (capped-start s class a amount h)
 
 -- and the sums that it is added to
 here-start :
@@ -139,10 +140,10 @@ here-start {b} {b′} s class a amount h = all (second (eqb class 2))
 
 up-start :
     (level : ℕ) {b b′ : List ℕ} → SameStart 68 b b′ → (class a amount : ℕ) → a < 7
-    → SameStart 68 (addUp level sample b 0 class a amount) (addUp level sample b′ 0 class a amount)
+    → SameStart 68 (addUp level sample sampleCounts b 0 class a amount) (addUp level sample sampleCounts b′ 0 class a amount)
 unfolding addUp
 up-start zero s class a amount h = here-start s class a amount h
-up-start (suc level) s class a amount h = up-start level (here-start s class a amount h) class (parentOf sample a) amount (parent-of a h)
+up-start (suc level) s class a amount h = up-start level (here-start s class a amount h) class (parentOf sample sampleCounts a) amount (parent-of a h)
 
 -- ---- The holder's rides.
 
@@ -154,34 +155,34 @@ record Alone (ride : Ride) : Type 0 where
   area : ride .area < 7
 
 module _ (ride : Ride) (alone : Alone ride) (book : List ℕ) where
-  charges-alone : chargesOf sample book ride ≡ riderCharge sample book ride false 0 ∷ []
+  charges-alone : chargesOf sample sampleCounts book ride ≡ riderCharge sample sampleCounts book ride false 0 ∷ []
   unfolding chargesOf riderCharges bicycleCharges
   charges-alone = rw (alone .adults, alone .children, alone .bicycles)
 
   posted-alone :
-      posted sample book oneWindow 0 ride
-      ≡ addUp (levelOf sample (ride .area)) sample (opened oneWindow 0 book) 0 (ride .class) (ride .area) (riderCharge sample book ride false 0)
+      posted sample sampleCounts book oneWindow 0 ride
+      ≡ addUp (levelOf sample sampleCounts (ride .area)) sample sampleCounts (opened oneWindow 0 book) 0 (ride .class) (ride .area) (riderCharge sample sampleCounts book ride false 0)
   unfolding posted addList coverBicycles
   posted-alone = rw (charges-alone, alone .adults, alone .children, alone .bicycles)
 
 module _ (ride : Ride) (alone : Alone ride) {b b′ : List ℕ} (s : SameStart 68 b b′) where
-  rider-start : riderCharge sample b′ ride false 0 ≡ riderCharge sample b ride false 0
+  rider-start : riderCharge sample sampleCounts b′ ride false 0 ≡ riderCharge sample sampleCounts b ride false 0
   unfolding riderCharge
   rider-start =
-      charge-start (levelOf sample (ride .area)) s (ride .class) (ride .area) (priceOf (areaAt sample (ride .area)) ride false)
+      charge-start (levelOf sample sampleCounts (ride .area)) s (ride .class) (ride .area) (priceOf (areaAt sample sampleCounts (ride .area)) ride false)
       (alone .area)
 
-  charges-start : chargesOf sample b′ ride ≡ chargesOf sample b ride
+  charges-start : chargesOf sample sampleCounts b′ ride ≡ chargesOf sample sampleCounts b ride
   charges-start = rw (charges-alone ride alone b, charges-alone ride alone b′, rider-start)
 
   opened-start : SameStart 68 (opened oneWindow 0 b) (opened oneWindow 0 b′)
   unfolding opened
   opened-start = put-start 4 (put-start 4 (put-start 4 s 0 1) 4 0) 8 0
 
-  posted-start : SameStart 68 (posted sample b oneWindow 0 ride) (posted sample b′ oneWindow 0 ride)
+  posted-start : SameStart 68 (posted sample sampleCounts b oneWindow 0 ride) (posted sample sampleCounts b′ oneWindow 0 ride)
   posted-start =
       rw (posted-alone ride alone b, posted-alone ride alone b′, rider-start)
-      (up-start (levelOf sample (ride .area)) opened-start (ride .class) (ride .area) (riderCharge sample b ride false 0) (alone .area))
+      (up-start (levelOf sample sampleCounts (ride .area)) opened-start (ride .class) (ride .area) (riderCharge sample sampleCounts b ride false 0) (alone .area))
 
 -- ---- The cases.
 

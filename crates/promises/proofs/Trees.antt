@@ -59,13 +59,13 @@ is-tree tariff counts read child =
       parent-there = parent-there t;
       parent-level = λ a h low. omega (arith, above-of t a h .level-up);
       top-level = λ a h. above-of t a h .state-only;
-      caps-order = λ a h. caps-in-order (areaAt tariff a) _;
+      caps-order = λ a h. caps-in-order (areaAt tariff counts a) _;
     }
 
 -- An area lies within what it lies within in the tree: three areas are enough for all levels.
 pub lies-within :
     (tariff : List ℕ) (counts : Counts) → Read tariff counts → (child : Bool) (a x : ℕ) → a < counts .areas
-    → liesWithin tariff a x ≡ within (treeOf tariff counts child) a x
+    → liesWithin tariff counts a x ≡ within (treeOf tariff counts child) a x
 unfolding liesWithin among foldUp
 lies-within tariff counts read child a x h =
     let tree = is-tree tariff counts read child in

@@ -5,6 +5,7 @@ use mathlib.Core.Bool.{Bool, true, false, _&&_}
 use lib.Dec.{eqb}
 use Rattle.wire.specs.Number.{bytesOf}
 use Rattle.calendar.specs.declared.Stamp.{Stamp}
+use Rattle.tariff.specs.declared.Counts.{Counts}
 use Rattle.tariff.specs.declared.fields.AreaFields.{AreaFields}
 use Rattle.tariff.specs.declared.Reading.the-variants.{Fault, Faultless}
 use Rattle.tariff.specs.declared.Stop.{Stop}
@@ -69,6 +70,10 @@ sample =
     ∷ sampleArea 2 1 140 27 90 0 0 0 0 0 0 400 300
     ∷ sampleArea 1 0 173 29 240 2 210 340 740 1250 1690 2890 400
     ∷ [])
+
+-- its seven areas; it has no stops
+abbrev pub sampleCounts : Counts
+sampleCounts = record { areas = 7; stops = 0 }
 
 -- ---- What a case is.
 
@@ -152,9 +157,9 @@ sameList (x ∷ xs) (y ∷ ys) = eqb x y && sameList xs ys
 unfoldable pub ridesHold : List ℕ → List Ridden → Bool
 ridesHold book [] = true
 ridesHold book (c ∷ more) =
-    eqb (priceOf (areaAt sample (c .ride .area)) (c .ride) false) (c .price)
-    && sameList (chargesOf sample book (c .ride)) (c .charge ∷ [])
-    && ridesHold (posted sample book oneWindow 0 (c .ride)) more
+    eqb (priceOf (areaAt sample sampleCounts (c .ride .area)) (c .ride) false) (c .price)
+    && sameList (chargesOf sample sampleCounts book (c .ride)) (c .charge ∷ [])
+    && ridesHold (posted sample sampleCounts book oneWindow 0 (c .ride)) more
 
 -- a stop so many metres along the plane's first axis
 abbrev pub stopAtX : ℕ → Stop
@@ -172,12 +177,12 @@ tripBytes from to =
 -- whether a case holds; rides begin with a book
 unfoldable pub holds : List ℕ → Case → Bool
 holds book (areas n) = elim (readTariff sample) [ Faultless counts ↦ eqb (counts .areas) n | Fault number at ↦ false ]
-holds book (price ride child cents) = eqb (priceOf (areaAt sample (ride .area)) ride child) cents
+holds book (price ride child cents) = eqb (priceOf (areaAt sample sampleCounts (ride .area)) ride child) cents
 holds book (rides list) = ridesHold book list
 holds book (distance metres km) = eqb (kmOf (apart (stopAtX 0) (stopAtX metres))) km
 holds book (duration from to minutes) =
     elim (readTrip (tripBytes from to) 2) [
-      | Good trip ↦ eqb (rideOf sample 7 (tripBytes from to) trip .minutes .0) minutes
+      | Good trip ↦ eqb (rideOf sample sampleCounts (tripBytes from to) trip .minutes .0) minutes
       | BadRecord ↦ false
       | BadParty ↦ false
       | UnknownStop ↦ false

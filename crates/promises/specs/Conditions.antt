@@ -63,12 +63,11 @@ checkoutOf trip = minuteNumber (checkoutStamp trip)
 -- ---- The conditions.
 
 -- 1 to 3: in a tariff the first faulty record decides. All before some place is faultless, and what stands there is wrong in a way
-pub record FirstFaulty (tariff : List ℕ) (way : ℕ → ℕ → ℕ → Type 0) : Type 0 where
+pub record FirstFaulty (tariff : List ℕ) (way : ℕ → Counts → Type 0) : Type 0 where
   pub place : ℕ
-  pub areas : ℕ
-  pub stops : ℕ
-  pub passed : Passed tariff place areas stops
-  pub wrong : way place areas stops
+  pub soFar : Counts
+  pub passed : Passed tariff place soFar
+  pub wrong : way place soFar
 
 -- 5: frame broken, record not filling the slice, kind not 3, body under 18 or not 18 + 2n
 pub data NoTrip (trip : List ℕ) : Type 0 where
@@ -112,7 +111,7 @@ pub record TooEarly (book trip : List ℕ) : Type 0 where
 -- the conditions by their numbers; there is no other number
 unfoldable pub condition : List ℕ → List ℕ → List ℕ → ℕ → ℕ → Type 0
 condition tariff book trip room n =
-    cond (eqb n 1) (FirstFaulty tariff (λ place areas stops. BrokenFrame tariff place))
+    cond (eqb n 1) (FirstFaulty tariff (λ place soFar. BrokenFrame tariff place))
     (cond (eqb n 2) (FirstFaulty tariff (OutOfPlace tariff))
     (cond (eqb n 3) (FirstFaulty tariff (WrongValue tariff))
     (cond (eqb n 4) (sound book (countsOf tariff .areas) ≡ false)
@@ -131,7 +130,7 @@ condition tariff book trip room n =
 -- a refusal. 1 to 3: all before its place is faultless, and there is wrong what its number says. 4 to 12: it has no place, the tariff is
 -- faultless, and its condition is the first that holds
 pub data RefusedBy (tariff book trip : List ℕ) (room n place : ℕ) : Type 0 where
-  by-tariff : (areas stops : ℕ) → FirstFault tariff n place areas stops → FaultSays tariff place areas stops n
+  by-tariff : (soFar : Counts) → FirstFault tariff n place soFar → FaultSays tariff place soFar n
       → RefusedBy tariff book trip room n place
   by-others : (counts : Counts) → Read tariff counts → place ≡ 0 → 4 ≤ n → n ≤ 12 → condition tariff book trip room n
       → ((m : ℕ) → m < n → condition tariff book trip room m → ⊥) → RefusedBy tariff book trip room n place
@@ -149,28 +148,28 @@ pub record AcceptedBy (tariff book bytes : List ℕ) (room : ℕ) (new entry : L
   pub window-is : window ≡ windowOf book (trip .checkin .0) (trip .checkout .0)
   pub few : window .trips ≤ 256
   pub fits : recordSize (trip .party) ≤ room
-  pub new-is : new ≡ posted tariff book window (trip .checkout .0) (rideOf tariff (counts .areas) bytes trip)
+  pub new-is : new ≡ posted tariff counts book window (trip .checkout .0) (rideOf tariff counts bytes trip)
   pub entry-is :
       entry
-      ≡ recordOf (window .opening .0) (rideOf tariff (counts .areas) bytes trip)
-      (chargesOf tariff (inWindow (window .current) book) (rideOf tariff (counts .areas) bytes trip))
+      ≡ recordOf (window .opening .0) (rideOf tariff counts bytes trip)
+      (chargesOf tariff counts (inWindow (window .current) book) (rideOf tariff counts bytes trip))
 
 -- what the record of an accepted trip says, read off its bytes: the window's opening minute, the smallest area containing all the trip's
 -- stops, the least kilometres between its first and last stop, check-out less check-in; then the charges, 4 bytes each, in the order
 -- holder, adults, children, bicycles. w stands for the words that count: the book's own in the open window, a fresh book's in the next
-pub record RecordSays (tariff bytes w : List ℕ) (areas opens last : ℕ) (ride : Ride) (entry : List ℕ) : Type 0 where
+pub record RecordSays (tariff bytes w : List ℕ) (counts : Counts) (opens last : ℕ) (ride : Ride) (entry : List ℕ) : Type 0 where
   pub size : length entry ≡ recordSize (ride .party)
   pub long : getLe 2 entry 0 + 2 ≡ length entry
   pub kind : getLe 2 entry 2 ≡ 4
   pub opening : getLe 4 entry 4 ≡ opens
-  pub area : AreaOfStops tariff areas bytes 0 last (getLe 1 entry 8)
-  pub km : LeastKm (apart (stopOf tariff areas bytes 0) (stopOf tariff areas bytes last)) (getLe 2 entry 9)
+  pub area : AreaOfStops tariff counts bytes 0 last (getLe 1 entry 8)
+  pub km : LeastKm (apart (stopOf tariff counts bytes 0) (stopOf tariff counts bytes last)) (getLe 2 entry 9)
   pub minutes : getLe 2 entry 11 ≡ checkoutOf bytes - checkinOf bytes
-  pub holder : getLe 4 entry 13 ≡ riderCharge tariff w ride false 0
-  pub adults : (i : ℕ) → i < ride .party .adults → getLe 4 entry (13 + 4 * (1 + i)) ≡ riderCharge tariff w ride false (1 + i)
+  pub holder : getLe 4 entry 13 ≡ riderCharge tariff counts w ride false 0
+  pub adults : (i : ℕ) → i < ride .party .adults → getLe 4 entry (13 + 4 * (1 + i)) ≡ riderCharge tariff counts w ride false (1 + i)
   pub children :
       (i : ℕ) → i < ride .party .children
-      → getLe 4 entry (13 + 4 * (1 + ride .party .adults + i)) ≡ riderCharge tariff w ride true (11 + i)
+      → getLe 4 entry (13 + 4 * (1 + ride .party .adults + i)) ≡ riderCharge tariff counts w ride true (11 + i)
   pub bicycles :
       (i : ℕ) → i < ride .party .bicycles
-      → getLe 4 entry (13 + 4 * (1 + ride .party .adults + ride .party .children + i)) ≡ bicycleCharge tariff (ride .area) (coverWord w i)
+      → getLe 4 entry (13 + 4 * (1 + ride .party .adults + ride .party .children + i)) ≡ bicycleCharge tariff counts (ride .area) (coverWord w i)

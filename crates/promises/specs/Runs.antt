@@ -47,11 +47,11 @@ placeOf party rider = cond (isChild rider) (1 + party .adults + (rider - 11)) ri
 -- a rider's ride: its area, class and price, and the 4-byte number at the rider's place in the written record
 unfoldable pub entryOf : List ℕ → Counts → ℕ → List ℕ → Trip → List ℕ → ChargedRide
 entryOf tariff counts rider bytes trip entry =
-    let ride = rideOf tariff (counts .areas) bytes trip in
+    let ride = rideOf tariff counts bytes trip in
     record {
       area = ride .area;
       class = trip .class;
-      price = priceOf (areaAt tariff (ride .area)) ride (isChild rider);
+      price = priceOf (areaAt tariff counts (ride .area)) ride (isChild rider);
       charge = getLe 4 entry (13 + 4 * placeOf (trip .party) rider);
     }
 
@@ -89,7 +89,7 @@ abbrev pub treeOf : List ℕ → Counts → Bool → Tree
 treeOf tariff counts child =
     record {
       size = counts .areas;
-      parent = parentOf tariff;
-      level = levelOf tariff;
-      caps = λ area. capsHere (areaAt tariff area) child;
+      parent = parentOf tariff counts;
+      level = levelOf tariff counts;
+      caps = λ area. capsHere (areaAt tariff counts area) child;
     }

@@ -2,5 +2,4 @@ pub mod Sums
 pub mod Starts
 pub mod Outcomes
 pub mod Pieces
-pub mod Prefix
 pub mod WrongKinds

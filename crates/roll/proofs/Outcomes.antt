@@ -42,9 +42,9 @@ charges-fit :
     → Shape (acceptedTrip tariff counts book bytes trip window)
 unfolding acceptedTrip rideOf
 charges-fit tariff counts book bytes trip window fits =
-    let ride = rideOf tariff (counts .areas) bytes trip in
-    let charges = chargesOf tariff (inWindow (window .current) book) ride in
-    let count = charges-length tariff (inWindow (window .current) book) ride in
+    let ride = rideOf tariff counts bytes trip in
+    let charges = chargesOf tariff counts (inWindow (window .current) book) ride in
+    let count = charges-length tariff counts (inWindow (window .current) book) ride in
     charged _ _ (length charges) (length-record (window .opening .0) ride charges) (omega arith)
 
 -- a refusal has a number: 5 to 9 are the trip's own, and the others come after three tests

@@ -26,9 +26,9 @@ use Rattle.settle.specs.Record.{recordOf, Recordable}
 use Rattle.settle.specs.Outcome.{acceptedTrip, SettledSound, AllClear}
 
 -- the ride's party is the trip's
-ride-party : (tariff : List ℕ) (areas : ℕ) (bytes : List ℕ) (trip : Trip) → rideOf tariff areas bytes trip .party ≡ trip .party
+ride-party : (tariff : List ℕ) (counts : Counts) (bytes : List ℕ) (trip : Trip) → rideOf tariff counts bytes trip .party ≡ trip .party
 unfolding rideOf
-ride-party tariff areas bytes trip = refl
+ride-party tariff counts bytes trip = refl
 
 -- what was stored at the start of a list is what it starts with
 starts-with : (l vs : List ℕ) → length vs ≤ length l → take (length vs) (sets l 0 vs) ≡ vs
@@ -56,9 +56,9 @@ module _ (tariff : List ℕ) (counts : Counts) (book bytes : List ℕ) (trip : T
   pub in-order : InOrder trip
   in-order = record { two = ranges .least; most = ranges .most; times = fields .ordered }
 
-  module _ (ride : Ride) (is : RideOf tariff (counts .areas) bytes trip ride) where
+  module _ (ride : Ride) (is : RideOf tariff counts bytes trip ride) where
     party : ride .party ≡ trip .party
-    party = ap (λ (r : Ride). r .party) (is .value) ∙ ride-party tariff (counts .areas) bytes trip
+    party = ap (λ (r : Ride). r .party) (is .value) ∙ ride-party tariff counts bytes trip
 
     pub rideable : Rideable tariff counts book ride
     rideable =
@@ -75,11 +75,11 @@ module _ (tariff : List ℕ) (counts : Counts) (book bytes : List ℕ) (trip : T
 
     -- one charge for each of the party
     abbrev charges : List ℕ
-    charges = chargesOf tariff (inWindow (window .current) book) ride
+    charges = chargesOf tariff counts (inWindow (window .current) book) ride
 
     charge-count : length charges ≡ 1 + trip .party .adults + trip .party .children + trip .party .bicycles
     charge-count =
-        charges-length tariff (inWindow (window .current) book) ride
+        charges-length tariff counts (inWindow (window .current) book) ride
         ∙ ap (λ (p : Party). 1 + p .adults + p .children + p .bicycles) party
 
     -- stored at the start of an array of 31
@@ -88,7 +88,7 @@ module _ (tariff : List ℕ) (counts : Counts) (book bytes : List ℕ) (trip : T
       fits : length charges ≤ 31
       fits = omega (arith, charge-count, ranges .adults, ranges .children, ranges .bicycles)
 
-      charged : Charged tariff (inWindow (window .current) book) ride amounts
+      charged : Charged tariff counts (inWindow (window .current) book) ride amounts
       charged =
           record {
             size = rw (made .1) (length-sets start 0 charges ∙ full);
@@ -118,7 +118,7 @@ module _ (tariff : List ℕ) (counts : Counts) (book bytes : List ℕ) (trip : T
           (book′ statement′ : List ℕ) (r : ℕ) → r ≡ length (recordOf (window .opening .0) ride (take count amounts))
           → statement′
           ≡ recordOf (window .opening .0) ride (take count amounts) ++ drop (length (recordOf (window .opening .0) ride (take count amounts))) statement
-          → book′ ≡ posted tariff book window (trip .checkout .0) ride
+          → book′ ≡ posted tariff counts book window (trip .checkout .0) ride
           → SettledSound (acceptedTrip tariff counts book bytes trip window) (counts .areas) book book′ statement statement′ r
       unfolding acceptedTrip
       written book′ statement′ r size wrote post =

@@ -11,11 +11,8 @@ use lib.ListN.{length}
 use lib.Dec.{ltb}
 use Rattle.tariff.specs.declared.Counts.{Counts}
 use Rattle.tariff.specs.declared.Reading.the-variants.{Fault, Faultless}
-use Rattle.tariff.specs.Fields.{stopPlace}
-use Rattle.tariff.specs.Scan.{readTariff, Passed}
+use Rattle.tariff.specs.Scan.{readTariff}
 use Rattle.tariff.specs.Areas.{Read}
-use Rattle.tariff.proofs.Entries.{stop-entry}
-use Rattle.tariff.proofs.Faults.{first-fault, fault-number}
 use Rattle.trip.specs.declared.Trip.{Trip}
 use Rattle.trip.specs.declared.Offered.{Offered}
 use Rattle.trip.specs.declared.Offered.the-variants.{Good, BadRecord, BadParty, UnknownStop, BadStamp, BadOrder}
@@ -202,21 +199,6 @@ refusal-most counts book trip room n is e = go (readTrip trip (counts .stops)) r
     go BadStamp read = let told : 8 ≡ n = cc (sound-way counts book trip room is BadStamp read) in omega arith
     go BadOrder read = let told : 9 ≡ n = cc (sound-way counts book trip room is BadOrder read) in omega arith
     go (Good fields) read = trip-refusal-most book fields room n (sym (sound-way counts book trip room is (Good fields) read) ∙ e)
-
--- A tariff's fault is 1, 2 or 3, at a place no later than the longest tariff's end.
-pub fault-most : (tariff : List ℕ) (number at : ℕ) → readTariff tariff ≡ Fault number at → (number ≤ 3) × (at ≤ 13928)
-fault-most tariff number at e =
-    let (areas, stops, first) = first-fault tariff number at e in
-    let reached = first .passed .reached in
-    let few = stops-few areas stops (first .passed) in
-    let told : number ≤ 3 =
-    ⊎-elim (λ one. omega arith) (λ rest. ⊎-elim (λ two. omega arith) (λ three. omega arith) rest) (fault-number tariff number at areas stops first)
-    in
-    (told, omega (arith, reached .place, reached .few))
-  where
-    stops-few : (areas stops : ℕ) → Passed tariff at areas stops → stops ≤ 1000
-    stops-few areas zero passed = omega arith
-    stops-few areas (suc j) passed = stop-entry tariff (stopPlace areas j) areas j (passed .stop j (omega arith)) .few
 
 -- A clear decision is all that writing asks.
 pub all-clear :

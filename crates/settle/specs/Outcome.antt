@@ -55,9 +55,9 @@ decidedUnder counts book trip room =
 -- what a trip that meets no refusal comes to
 unfoldable pub acceptedTrip : List ℕ → Counts → List ℕ → List ℕ → Trip → Window → Outcome
 acceptedTrip tariff counts book bytes trip window =
-    let ride = rideOf tariff (counts .areas) bytes trip in
-    accepted (posted tariff book window (trip .checkout .0) ride)
-    (recordOf (window .opening .0) ride (chargesOf tariff (inWindow (window .current) book) ride))
+    let ride = rideOf tariff counts bytes trip in
+    accepted (posted tariff counts book window (trip .checkout .0) ride)
+    (recordOf (window .opening .0) ride (chargesOf tariff counts (inWindow (window .current) book) ride))
 
 -- the outcome of settling a trip on a book, under a tariff, with so many bytes of room for the record
 -- 1 to 3: the tariff's first fault, at its record's offset. Then 4 to 12, which have no place. Then what is accepted

@@ -13,6 +13,7 @@ use Rattle.wire.specs.Frame.{frameAt}
 use Rattle.wire.specs.declared.Frame.{Frame}
 use Rattle.wire.specs.declared.Frame.the-variants.{Whole, Broken}
 use Rattle.wire.proofs.Frames.{whole}
+use Rattle.tariff.specs.declared.Counts.{Counts}
 use Rattle.tariff.specs.Fields.{areaFields, stopFields}
 use Rattle.tariff.specs.Rules.{areaRight, stopRight}
 use Rattle.tariff.specs.Scan.{
@@ -35,72 +36,72 @@ use Rattle.tariff.specs.declared.scan.Entry.the-variants.{End, Area, Sto
 use Rattle.tariff.proofs.Tests.{told}
 
 -- A faultless area record: its kind and body length, its order and number, its values, and that it ends within the bytes.
-pub record AreaEntry (b : List ℕ) (at areas stops : ℕ) : Type 0 where
+pub record AreaEntry (b : List ℕ) (at : ℕ) (soFar : Counts) : Type 0 where
   pub frame : frameAt b at ≡ Whole 1 25
-  pub none : stops ≡ 0
-  pub few : areas < 32
-  pub right : areaRight b areas (areaFields b at) ≡ true
+  pub none : soFar .stops ≡ 0
+  pub few : soFar .areas < 32
+  pub right : areaRight b soFar (areaFields b at) ≡ true
   pub fits : at + 29 ≤ length b
 
 -- A faultless stop record, likewise.
-pub record StopEntry (b : List ℕ) (at areas stops : ℕ) : Type 0 where
+pub record StopEntry (b : List ℕ) (at : ℕ) (soFar : Counts) : Type 0 where
   pub frame : frameAt b at ≡ Whole 2 9
-  pub some : 0 < areas
-  pub few : stops < 1000
-  pub right : stopRight (stopFields b at) areas ≡ true
+  pub some : 0 < soFar .areas
+  pub few : soFar .stops < 1000
+  pub right : stopRight (stopFields b at) (soFar .areas) ≡ true
   pub fits : at + 13 ≤ length b
 
 -- The tests of an area record's body length, order and number, and of a stop record's.
-abbrev pub areaDue : ℕ → ℕ → ℕ → Bool
-areaDue body areas stops = eqb body 25 && eqb stops 0 && ltb areas 32
+abbrev pub areaDue : ℕ → Counts → Bool
+areaDue body soFar = eqb body 25 && eqb (soFar .stops) 0 && ltb (soFar .areas) 32
 
-abbrev pub stopDue : ℕ → ℕ → ℕ → Bool
-stopDue body areas stops = eqb body 9 && ltb 0 areas && ltb stops 1000
+abbrev pub stopDue : ℕ → Counts → Bool
+stopDue body soFar = eqb body 9 && ltb 0 (soFar .areas) && ltb (soFar .stops) 1000
 
 -- a test that cannot hold fails
 refused : (t : Bool) → (t ≡ true → ⊥) → t ≡ false
 refused true never = absurd (never refl)
 refused false never = refl
 
-pub area-tests : (body areas stops : ℕ) → areaDue body areas stops ≡ true → (body ≡ 25) × (stops ≡ 0) × (areas < 32)
-area-tests body areas stops e = search told
+pub area-tests : (body : ℕ) (soFar : Counts) → areaDue body soFar ≡ true → (body ≡ 25) × (soFar .stops ≡ 0) × (soFar .areas < 32)
+area-tests body soFar e = search told
 
-pub stop-tests : (body areas stops : ℕ) → stopDue body areas stops ≡ true → (body ≡ 9) × (0 < areas) × (stops < 1000)
-stop-tests body areas stops e = search told
+pub stop-tests : (body : ℕ) (soFar : Counts) → stopDue body soFar ≡ true → (body ≡ 9) × (0 < soFar .areas) × (soFar .stops < 1000)
+stop-tests body soFar e = search told
 
 -- Each way through `areaEntry` and `stopEntry`.
-module _ (b : List ℕ) (at areas stops body : ℕ) where
+module _ (b : List ℕ) (at : ℕ) (soFar : Counts) (body : ℕ) where
   pub area-due :
-      {t : Bool} → areaDue body areas stops ≡ true → areaRight b areas (areaFields b at) ≡ t
-      → areaEntry b at areas stops body ≡ cond t Area (Faulty 3)
+      {t : Bool} → areaDue body soFar ≡ true → areaRight b soFar (areaFields b at) ≡ t
+      → areaEntry b at soFar body ≡ cond t Area (Faulty 3)
   unfolding areaEntry
   area-due due right = rw (due, right)
 
-  pub area-not-due : areaDue body areas stops ≡ false → areaEntry b at areas stops body ≡ Faulty 2
+  pub area-not-due : areaDue body soFar ≡ false → areaEntry b at soFar body ≡ Faulty 2
   unfolding areaEntry
   area-not-due e = rw e
 
   pub stop-due :
-      {t : Bool} → stopDue body areas stops ≡ true → stopRight (stopFields b at) areas ≡ t
-      → stopEntry b at areas stops body ≡ cond t Stop (Faulty 3)
+      {t : Bool} → stopDue body soFar ≡ true → stopRight (stopFields b at) (soFar .areas) ≡ t
+      → stopEntry b at soFar body ≡ cond t Stop (Faulty 3)
   unfolding stopEntry
   stop-due due right = rw (due, right)
 
-  pub stop-not-due : stopDue body areas stops ≡ false → stopEntry b at areas stops body ≡ Faulty 2
+  pub stop-not-due : stopDue body soFar ≡ false → stopEntry b at soFar body ≡ Faulty 2
   unfolding stopEntry
   stop-not-due e = rw e
 
 -- Each way through `entryAt`.
-module _ (b : List ℕ) (at areas stops : ℕ) where
-  pub ended-empty : length b ≤ at → areas ≡ 0 → entryAt b at areas stops ≡ Faulty 2
+module _ (b : List ℕ) (at : ℕ) (soFar : Counts) where
+  pub ended-empty : length b ≤ at → soFar .areas ≡ 0 → entryAt b at soFar ≡ Faulty 2
   unfolding entryAt
-  ended-empty over none = rw (le-leb (length b) at over, eq-eqb areas 0 none)
+  ended-empty over none = rw (le-leb (length b) at over, eq-eqb (soFar .areas) 0 none)
 
-  pub ended : length b ≤ at → (areas ≡ 0 → ⊥) → entryAt b at areas stops ≡ End
+  pub ended : length b ≤ at → (soFar .areas ≡ 0 → ⊥) → entryAt b at soFar ≡ End
   unfolding entryAt
-  ended over some = rw (le-leb (length b) at over, ne-eqb areas 0 some)
+  ended over some = rw (le-leb (length b) at over, ne-eqb (soFar .areas) 0 some)
 
-  pub broken-frame : at < length b → frameAt b at ≡ Broken → entryAt b at areas stops ≡ Faulty 1
+  pub broken-frame : at < length b → frameAt b at ≡ Broken → entryAt b at soFar ≡ Faulty 1
   unfolding entryAt
   broken-frame within e = rw (lt-leb (length b) at within, e)
 
@@ -110,53 +111,53 @@ module _ (b : List ℕ) (at areas stops : ℕ) where
       let facts = whole b at kind body e in
       lt-leb (length b) at (omega arith)
 
-  pub area-frame : (body : ℕ) → frameAt b at ≡ Whole 1 body → entryAt b at areas stops ≡ areaEntry b at areas stops body
+  pub area-frame : (body : ℕ) → frameAt b at ≡ Whole 1 body → entryAt b at soFar ≡ areaEntry b at soFar body
   unfolding entryAt
   area-frame body e = rw (within 1 body e, e)
 
-  pub stop-frame : (body : ℕ) → frameAt b at ≡ Whole 2 body → entryAt b at areas stops ≡ stopEntry b at areas stops body
+  pub stop-frame : (body : ℕ) → frameAt b at ≡ Whole 2 body → entryAt b at soFar ≡ stopEntry b at soFar body
   unfolding entryAt
   stop-frame body e = rw (within 2 body e, e)
 
   pub other-frame :
-      (kind body : ℕ) → frameAt b at ≡ Whole kind body → (kind ≡ 1 → ⊥) → (kind ≡ 2 → ⊥) → entryAt b at areas stops ≡ Faulty 2
+      (kind body : ℕ) → frameAt b at ≡ Whole kind body → (kind ≡ 1 → ⊥) → (kind ≡ 2 → ⊥) → entryAt b at soFar ≡ Faulty 2
   unfolding entryAt
   other-frame kind body e not-one not-two = rw (within kind body e, e, ne-eqb kind 1 not-one, ne-eqb kind 2 not-two)
 
 -- Kind, body length, order and number, by the tests and by the paper's words.
-module _ (b : List ℕ) (at areas stops : ℕ) where
-  area-in : (body : ℕ) → frameAt b at ≡ Whole 1 body → areaDue body areas stops ≡ true → AreaInPlace b at areas stops
+module _ (b : List ℕ) (at : ℕ) (soFar : Counts) where
+  area-in : (body : ℕ) → frameAt b at ≡ Whole 1 body → areaDue body soFar ≡ true → AreaInPlace b at soFar
   area-in body frame due =
-      let facts = area-tests body areas stops due in
+      let facts = area-tests body soFar due in
       record { frame = rw (facts .0) at frame; none = facts .1; few = facts .2 }
 
-  area-holds : AreaInPlace b at areas stops → areaDue 25 areas stops ≡ true
-  area-holds here = rw (eq-eqb stops 0 (here .none), lt-ltb areas 32 (here .few))
+  area-holds : AreaInPlace b at soFar → areaDue 25 soFar ≡ true
+  area-holds here = rw (eq-eqb (soFar .stops) 0 (here .none), lt-ltb (soFar .areas) 32 (here .few))
 
-  area-out : (body : ℕ) → frameAt b at ≡ Whole 1 body → areaDue body areas stops ≡ false → AreaInPlace b at areas stops → ⊥
+  area-out : (body : ℕ) → frameAt b at ≡ Whole 1 body → areaDue body soFar ≡ false → AreaInPlace b at soFar → ⊥
   area-out body frame not-due here =
       let long : body ≡ 25 = cc in
       false≢true (sym not-due ∙ rw long (area-holds here))
 
-  stop-in : (body : ℕ) → frameAt b at ≡ Whole 2 body → stopDue body areas stops ≡ true → StopInPlace b at areas stops
+  stop-in : (body : ℕ) → frameAt b at ≡ Whole 2 body → stopDue body soFar ≡ true → StopInPlace b at soFar
   stop-in body frame due =
-      let facts = stop-tests body areas stops due in
+      let facts = stop-tests body soFar due in
       record { frame = rw (facts .0) at frame; some = facts .1; few = facts .2 }
 
-  pub stop-holds : StopInPlace b at areas stops → stopDue 9 areas stops ≡ true
-  stop-holds here = rw (lt-ltb 0 areas (here .some), lt-ltb stops 1000 (here .few))
+  pub stop-holds : StopInPlace b at soFar → stopDue 9 soFar ≡ true
+  stop-holds here = rw (lt-ltb 0 (soFar .areas) (here .some), lt-ltb (soFar .stops) 1000 (here .few))
 
-  stop-out : (body : ℕ) → frameAt b at ≡ Whole 2 body → stopDue body areas stops ≡ false → StopInPlace b at areas stops → ⊥
+  stop-out : (body : ℕ) → frameAt b at ≡ Whole 2 body → stopDue body soFar ≡ false → StopInPlace b at soFar → ⊥
   stop-out body frame not-due here =
       let long : body ≡ 9 = cc in
       false≢true (sym not-due ∙ rw long (stop-holds here))
 
 -- a record of another kind is not in place
-other-area : (b : List ℕ) (at areas stops kind body : ℕ) → frameAt b at ≡ Whole kind body → (kind ≡ 1 → ⊥) → AreaInPlace b at areas stops → ⊥
-other-area b at areas stops kind body frame other here = other (cc)
+other-area : (b : List ℕ) (at : ℕ) (soFar : Counts) (kind body : ℕ) → frameAt b at ≡ Whole kind body → (kind ≡ 1 → ⊥) → AreaInPlace b at soFar → ⊥
+other-area b at soFar kind body frame other here = other (cc)
 
-other-stop : (b : List ℕ) (at areas stops kind body : ℕ) → frameAt b at ≡ Whole kind body → (kind ≡ 2 → ⊥) → StopInPlace b at areas stops → ⊥
-other-stop b at areas stops kind body frame other here = other (cc)
+other-stop : (b : List ℕ) (at : ℕ) (soFar : Counts) (kind body : ℕ) → frameAt b at ≡ Whole kind body → (kind ≡ 2 → ⊥) → StopInPlace b at soFar → ⊥
+other-stop b at soFar kind body frame other here = other (cc)
 
 -- an answer that two tests give, by their cases
 answered :
@@ -167,114 +168,114 @@ answered P true false good whole-right value place = value refl refl
 answered P false right good whole-right value place = place refl
 
 -- What stands at a place, by the answer of `entryAt`.
-data Stands (b : List ℕ) (at areas stops : ℕ) : Entry → Type 0 where
-  over : length b ≤ at → 0 < areas → Stands b at areas stops End
-  area : AreaEntry b at areas stops → Stands b at areas stops Area
-  stop : StopEntry b at areas stops → Stands b at areas stops Stop
-  fault : {number : ℕ} → FaultSays b at areas stops number → Stands b at areas stops (Faulty number)
+data Stands (b : List ℕ) (at : ℕ) (soFar : Counts) : Entry → Type 0 where
+  over : length b ≤ at → 0 < soFar .areas → Stands b at soFar End
+  area : AreaEntry b at soFar → Stands b at soFar Area
+  stop : StopEntry b at soFar → Stands b at soFar Stop
+  fault : {number : ℕ} → FaultSays b at soFar number → Stands b at soFar (Faulty number)
 
-module _ (b : List ℕ) (at areas stops : ℕ) where
-  area-stands : (body : ℕ) → frameAt b at ≡ Whole 1 body → Stands b at areas stops (areaEntry b at areas stops body)
+module _ (b : List ℕ) (at : ℕ) (soFar : Counts) where
+  area-stands : (body : ℕ) → frameAt b at ≡ Whole 1 body → Stands b at soFar (areaEntry b at soFar body)
   unfolding areaEntry
   area-stands body frame =
-      answered (Stands b at areas stops) (areaDue body areas stops) (areaRight b areas (areaFields b at)) Area
+      answered (Stands b at soFar) (areaDue body soFar) (areaRight b soFar (areaFields b at)) Area
       (λ due right.
-      let here = area-in b at areas stops body frame due in
+      let here = area-in b at soFar body frame due in
       let facts = whole b at 1 25 (here .frame) in
       area (record { frame = here .frame; none = here .none; few = here .few; right = right; fits = omega arith }))
-      (λ due false-value. fault (three refl (area-value (area-in b at areas stops body frame due) false-value)))
+      (λ due false-value. fault (three refl (area-value (area-in b at soFar body frame due) false-value)))
       (λ not-due.
-      fault (two refl (wrong 1 body frame (area-out b at areas stops body frame not-due) (other-stop b at areas stops 1 body frame (λ e. omega arith)))))
+      fault (two refl (wrong 1 body frame (area-out b at soFar body frame not-due) (other-stop b at soFar 1 body frame (λ e. omega arith)))))
 
-  stop-stands : (body : ℕ) → frameAt b at ≡ Whole 2 body → Stands b at areas stops (stopEntry b at areas stops body)
+  stop-stands : (body : ℕ) → frameAt b at ≡ Whole 2 body → Stands b at soFar (stopEntry b at soFar body)
   unfolding stopEntry
   stop-stands body frame =
-      answered (Stands b at areas stops) (stopDue body areas stops) (stopRight (stopFields b at) areas) Stop
+      answered (Stands b at soFar) (stopDue body soFar) (stopRight (stopFields b at) (soFar .areas)) Stop
       (λ due right.
-      let here = stop-in b at areas stops body frame due in
+      let here = stop-in b at soFar body frame due in
       let facts = whole b at 2 9 (here .frame) in
       stop (record { frame = here .frame; some = here .some; few = here .few; right = right; fits = omega arith }))
-      (λ due false-value. fault (three refl (stop-value (stop-in b at areas stops body frame due) false-value)))
+      (λ due false-value. fault (three refl (stop-value (stop-in b at soFar body frame due) false-value)))
       (λ not-due.
-      fault (two refl (wrong 2 body frame (other-area b at areas stops 2 body frame (λ e. omega arith)) (stop-out b at areas stops body frame not-due))))
+      fault (two refl (wrong 2 body frame (other-area b at soFar 2 body frame (λ e. omega arith)) (stop-out b at soFar body frame not-due))))
 
-  stands : Stands b at areas stops (entryAt b at areas stops)
+  stands : Stands b at soFar (entryAt b at soFar)
   stands =
       elim (decLt at (length b)) [
         | yes inside ↦ framed inside (frameAt b at) refl
         | no past ↦
-            elim (ℕ-discrete areas 0) [
-              | yes none ↦ rw (ended-empty b at areas stops (omega arith) none) (fault (two refl (no-area (omega arith) none)))
-              | no some ↦ rw (ended b at areas stops (omega arith) some) (over (omega arith) (omega arith))
+            elim (ℕ-discrete (soFar .areas) 0) [
+              | yes none ↦ rw (ended-empty b at soFar (omega arith) none) (fault (two refl (no-area (omega arith) none)))
+              | no some ↦ rw (ended b at soFar (omega arith) some) (over (omega arith) (omega arith))
             ]
       ]
     where
-      framed : at < length b → (f : Frame) → frameAt b at ≡ f → Stands b at areas stops (entryAt b at areas stops)
+      framed : at < length b → (f : Frame) → frameAt b at ≡ f → Stands b at soFar (entryAt b at soFar)
       framed inside Broken e =
-          rw (broken-frame b at areas stops inside e) (fault (one refl (record { going-on = inside; frame = e })))
+          rw (broken-frame b at soFar inside e) (fault (one refl (record { going-on = inside; frame = e })))
       framed inside (Whole kind body) e =
           elim (ℕ-discrete kind 1) [
             | yes is-one ↦
                 let e′ : frameAt b at ≡ Whole 1 body = cc in
-                rw (area-frame b at areas stops body e′) (area-stands body e′)
+                rw (area-frame b at soFar body e′) (area-stands body e′)
             | no not-one ↦
                 elim (ℕ-discrete kind 2) [
                   | yes is-two ↦
                       let e′ : frameAt b at ≡ Whole 2 body = cc in
-                      rw (stop-frame b at areas stops body e′) (stop-stands body e′)
+                      rw (stop-frame b at soFar body e′) (stop-stands body e′)
                   | no not-two ↦
-                      rw (other-frame b at areas stops kind body e not-one not-two)
+                      rw (other-frame b at soFar kind body e not-one not-two)
                       (fault
                       (two refl
-                      (wrong kind body e (other-area b at areas stops kind body e not-one) (other-stop b at areas stops kind body e not-two))))
+                      (wrong kind body e (other-area b at soFar kind body e not-one) (other-stop b at soFar kind body e not-two))))
                 ]
           ]
 
-  pub area-entry : entryAt b at areas stops ≡ Area → AreaEntry b at areas stops
+  pub area-entry : entryAt b at soFar ≡ Area → AreaEntry b at soFar
   area-entry e = meant (rw e at stands)
     where
-      meant : Stands b at areas stops Area → AreaEntry b at areas stops
+      meant : Stands b at soFar Area → AreaEntry b at soFar
       meant (area facts) = facts
 
-  pub stop-entry : entryAt b at areas stops ≡ Stop → StopEntry b at areas stops
+  pub stop-entry : entryAt b at soFar ≡ Stop → StopEntry b at soFar
   stop-entry e = meant (rw e at stands)
     where
-      meant : Stands b at areas stops Stop → StopEntry b at areas stops
+      meant : Stands b at soFar Stop → StopEntry b at soFar
       meant (stop facts) = facts
 
-  pub end-entry : entryAt b at areas stops ≡ End → (length b ≤ at) × (0 < areas)
+  pub end-entry : entryAt b at soFar ≡ End → (length b ≤ at) × (0 < soFar .areas)
   end-entry e = meant (rw e at stands)
     where
-      meant : Stands b at areas stops End → (length b ≤ at) × (0 < areas)
+      meant : Stands b at soFar End → (length b ≤ at) × (0 < soFar .areas)
       meant (over past some) = (past, some)
 
-  pub fault-entry : (number : ℕ) → entryAt b at areas stops ≡ Faulty number → FaultSays b at areas stops number
+  pub fault-entry : (number : ℕ) → entryAt b at soFar ≡ Faulty number → FaultSays b at soFar number
   fault-entry number e = meant (rw e at stands)
     where
-      meant : Stands b at areas stops (Faulty number) → FaultSays b at areas stops number
+      meant : Stands b at soFar (Faulty number) → FaultSays b at soFar number
       meant (fault says) = says
 
   -- The number that a fault's meaning has is the one that is given.
-  pub fault-given : {number : ℕ} → FaultSays b at areas stops number → entryAt b at areas stops ≡ Faulty number
-  fault-given (one e broken) = rw e (broken-frame b at areas stops (broken .going-on) (broken .frame))
-  fault-given (two e (no-area past none)) = rw e (ended-empty b at areas stops past none)
+  pub fault-given : {number : ℕ} → FaultSays b at soFar number → entryAt b at soFar ≡ Faulty number
+  fault-given (one e broken) = rw e (broken-frame b at soFar (broken .going-on) (broken .frame))
+  fault-given (two e (no-area past none)) = rw e (ended-empty b at soFar past none)
   fault-given (two e (wrong kind body frame not-area not-stop)) =
       rw e
       (elim (ℕ-discrete kind 1) [
         | yes is-one ↦
             let frame′ : frameAt b at ≡ Whole 1 body = cc in
-            area-frame b at areas stops body frame′
-            ∙ area-not-due b at areas stops body (refused (areaDue body areas stops) (λ due. not-area (area-in b at areas stops body frame′ due)))
+            area-frame b at soFar body frame′
+            ∙ area-not-due b at soFar body (refused (areaDue body soFar) (λ due. not-area (area-in b at soFar body frame′ due)))
         | no not-one ↦
             elim (ℕ-discrete kind 2) [
               | yes is-two ↦
                   let frame′ : frameAt b at ≡ Whole 2 body = cc in
-                  stop-frame b at areas stops body frame′
-                  ∙ stop-not-due b at areas stops body (refused (stopDue body areas stops) (λ due. not-stop (stop-in b at areas stops body frame′ due)))
-              | no not-two ↦ other-frame b at areas stops kind body frame not-one not-two
+                  stop-frame b at soFar body frame′
+                  ∙ stop-not-due b at soFar body (refused (stopDue body soFar) (λ due. not-stop (stop-in b at soFar body frame′ due)))
+              | no not-two ↦ other-frame b at soFar kind body frame not-one not-two
             ]
       ])
   fault-given (three e (area-value here value)) =
-      rw e (area-frame b at areas stops 25 (here .frame) ∙ area-due b at areas stops 25 (area-holds b at areas stops here) value)
+      rw e (area-frame b at soFar 25 (here .frame) ∙ area-due b at soFar 25 (area-holds b at soFar here) value)
   fault-given (three e (stop-value here value)) =
-      rw e (stop-frame b at areas stops 9 (here .frame) ∙ stop-due b at areas stops 9 (stop-holds b at areas stops here) value)
+      rw e (stop-frame b at soFar 9 (here .frame) ∙ stop-due b at soFar 9 (stop-holds b at soFar here) value)

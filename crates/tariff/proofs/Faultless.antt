@@ -1,42 +1,37 @@
 -- What every faultless tariff has: at its end every record before is faultless, each within its count and with its values right.
 -- Assumes nothing.
-use Prim.Native.Nat.{ℕ, zero, suc, _+_, _≤_, _<_}
+use Prim.Native.Nat.{ℕ, _+_, _≤_, _<_}
 use native.Mathlib.Omega.{arith}
 use mathlib.Core.Path.{_≡_}
 use mathlib.Core.Bool.{true}
 use mathlib.Core.List.{List}
 use lib.ListN.{length}
 use Rattle.tariff.specs.declared.Counts.{Counts}
-use Rattle.tariff.specs.Fields.{areaFields, areaPlace, stopPlace}
+use Rattle.tariff.specs.Fields.{areaFields, areaPlace, stopPlace, areasBefore, stopsBefore}
 use Rattle.tariff.specs.Rules.{areaRight}
 use Rattle.tariff.specs.Areas.{areaAt, Read, FaultlessTariff}
 use Rattle.tariff.proofs.Entries.{StopEntry, area-entry, stop-entry}
-use Rattle.tariff.proofs.Passed.{finished}
+use Rattle.tariff.proofs.Passed.{finished, few-stops}
 use Rattle.tariff.proofs.Values.{area-ranges, area-rank, stop-ranges}
 
--- where each of so many has a number below a bound, they are at most so many
-most : (n bound : ℕ) → ((j : ℕ) → j < n → j < bound) → n ≤ bound
-most zero bound each = omega arith
-most (suc n) bound each = each n (omega arith)
-
-pub faultless : (b : List ℕ) (counts : Counts) → Read b counts → FaultlessTariff b (counts .areas) (counts .stops)
+pub faultless : (b : List ℕ) (counts : Counts) → Read b counts → FaultlessTariff b counts
 unfolding areaAt
 faultless b counts e =
     let (p, some) = finished b counts e in
-    let right : (i : ℕ) → i < counts .areas → areaRight b i (areaFields b (areaPlace i)) ≡ true =
-    λ i h. area-entry b (areaPlace i) i 0 (p .area i h) .right
+    let right : (i : ℕ) → i < counts .areas → areaRight b (areasBefore i) (areaFields b (areaPlace counts i)) ≡ true =
+    λ i h. area-entry b (areaPlace counts i) (areasBefore i) (p .area i h) .right
     in
-    let stop : (j : ℕ) → j < counts .stops → StopEntry b (stopPlace (counts .areas) j) (counts .areas) j =
-    λ j h. stop-entry b (stopPlace (counts .areas) j) (counts .areas) j (p .stop j h)
+    let stop : (j : ℕ) → j < counts .stops → StopEntry b (stopPlace counts j) (stopsBefore counts j) =
+    λ j h. stop-entry b (stopPlace counts j) (stopsBefore counts j) (p .stop j h)
     in
     record {
       some = some;
       few-areas = p .reached .few;
-      few-stops = most (counts .stops) 1000 (λ j h. stop j h .few);
+      few-stops = few-stops b (length b) counts p;
       size = p .reached .place;
-      area = λ i h. area-ranges b i _ (right i h);
-      rank = λ i h. area-rank b i (right 0 some) (right i h);
-      stop = λ j h. stop-ranges b (counts .areas) j (stop j h .right);
+      area = λ i h. area-ranges b (areasBefore i) _ (right i h);
+      rank = λ i h. area-rank b counts i (right 0 some) (right i h);
+      stop = λ j h. stop-ranges b counts j (stop j h .right);
     }
 
 -- A tariff has its counts once.
@@ -44,8 +39,8 @@ pub read-one : (b : List ℕ) (c c′ : Counts) → Read b c → Read b c′ →
 read-one b c c′ e e′ = cc
 
 -- An area's record and a stop's stand within the tariff.
-pub area-inside : (b : List ℕ) (counts : Counts) (i : ℕ) → Read b counts × (i < counts .areas) → areaPlace i + 29 ≤ length b
+pub area-inside : (b : List ℕ) (counts : Counts) (i : ℕ) → Read b counts × (i < counts .areas) → areaPlace counts i + 29 ≤ length b
 area-inside b counts i h = let t = faultless b counts (h .0) in omega arith
 
-pub stop-inside : (b : List ℕ) (counts : Counts) (j : ℕ) → Read b counts × (j < counts .stops) → stopPlace (counts .areas) j + 13 ≤ length b
+pub stop-inside : (b : List ℕ) (counts : Counts) (j : ℕ) → Read b counts × (j < counts .stops) → stopPlace counts j + 13 ≤ length b
 stop-inside b counts j h = let t = faultless b counts (h .0) in omega arith

@@ -8,3 +8,4 @@ pub mod LevelCaps
 pub mod Passed
 pub mod Faults
 pub mod RowLaws
+pub mod Prefix

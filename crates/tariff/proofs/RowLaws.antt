@@ -16,7 +16,8 @@ use Rattle.wire.specs.Frame.{frameAt}
 use Rattle.wire.specs.declared.Frame.the-variants.{Whole}
 use Rattle.wire.proofs.Number.{get-range}
 use Rattle.wire.proofs.Frames.{whole-back}
-use Rattle.tariff.specs.Fields.{stopFields}
+use Rattle.tariff.specs.declared.Counts.{Counts}
+use Rattle.tariff.specs.Fields.{stopFields, moreStops}
 use Rattle.tariff.specs.Rules.{stopRight}
 use Rattle.tariff.specs.Rows.{stopStands, rowStands, rowsStanding}
 use Rattle.tariff.specs.Scan.{entryAt, Passed}
@@ -88,53 +89,58 @@ head-tests b bytes at =
           rw (ne-eqb _ _ long, ne-eqb (getLe 4 b at) 131083 (λ e. long (omega (arith, words b at))))
     ]
 
-module _ (b : List ℕ) (areas : ℕ) (some : 0 < areas) where
+module _ (b : List ℕ) where
   -- the length and kind of a stop are those of a whole frame
   stop-head : (at : ℕ) → at + 13 ≤ length b → getLe 2 b at ≡ 11 → getLe 2 b (at + 2) ≡ 2 → frameAt b at ≡ Whole 2 9
   stop-head at fits long kind =
       whole-back b at 2 9 (record { kind-is = omega arith; length-is = omega arith; fits = omega arith; short = omega arith })
 
-  -- What the tests of `stopStands` let through is a faultless stop.
-  stop-stands : (at stops : ℕ) → at + 13 ≤ length b → stops < 1000 → stopStands b at areas ≡ true → entryAt b at areas stops ≡ Stop
+  -- What the tests of `stopStands` let through, an area before it, is a faultless stop.
+  stop-stands :
+      (at : ℕ) (soFar : Counts) → 0 < soFar .areas → at + 13 ≤ length b → soFar .stops < 1000 → stopStands b at (soFar .areas) ≡ true
+      → entryAt b at soFar ≡ Stop
   unfolding stopStands
-  stop-stands at stops fits few e =
+  stop-stands at soFar some fits few e =
       let frame = stop-head at fits (search told) (search told) in
-      let right : stopRight (stopFields b at) areas ≡ true = search told in
-      stop-frame b at areas stops 9 frame
-      ∙ stop-due b at areas stops 9 (stop-holds b at areas stops (record { frame = frame; some = some; few = few })) right
+      let right : stopRight (stopFields b at) (soFar .areas) ≡ true = search told in
+      stop-frame b at soFar 9 frame ∙ stop-due b at soFar 9 (stop-holds b at soFar (record { frame = frame; some = some; few = few })) right
 
   -- a stop that stands is passed; so is a row
   passed-next :
-      (at stops : ℕ) → at + 13 ≤ length b → stops < 1000 → stopStands b at areas ≡ true → Passed b at areas stops → Passed b (at + 13) areas (stops + 1)
-  passed-next at stops fits few e p = passed-stop b at areas stops p (stop-stands at stops fits few e)
+      (at : ℕ) (soFar : Counts) → 0 < soFar .areas → at + 13 ≤ length b → soFar .stops < 1000 → stopStands b at (soFar .areas) ≡ true
+      → Passed b at soFar → Passed b (at + 13) (moreStops soFar 1)
+  passed-next at soFar some fits few e p = passed-stop b at soFar p (stop-stands at soFar some fits few e)
 
   passed-row :
-      (at stops : ℕ) → at + 52 ≤ length b → stops + 4 ≤ 1000 → rowStands b at areas ≡ true → Passed b at areas stops
-      → Passed b (at + 52) areas (stops + 4)
+      (at : ℕ) (soFar : Counts) → 0 < soFar .areas → at + 52 ≤ length b → soFar .stops + 4 ≤ 1000 → rowStands b at (soFar .areas) ≡ true
+      → Passed b at soFar → Passed b (at + 52) (moreStops soFar 4)
   unfolding rowStands
-  passed-row at stops fits few e p =
-      let one = passed-next at stops (omega arith) (omega arith) (search told) p in
-      let two = simp add-assoc at (passed-next (at + 13) (stops + 1) (omega arith) (omega arith) (search told) one) in
-      let three = simp add-assoc at (passed-next (at + 26) (stops + 2) (omega arith) (omega arith) (search told) two) in
-      simp add-assoc at (passed-next (at + 39) (stops + 3) (omega arith) (omega arith) (search told) three)
+  passed-row at soFar some fits few e p =
+      let one = passed-next at soFar some (omega arith) (omega arith) (search told) p in
+      let two = simp add-assoc at (passed-next (at + 13) (moreStops soFar 1) some (omega arith) (omega arith) (search told) one) in
+      let three = simp add-assoc at (passed-next (at + 26) (moreStops soFar 2) some (omega arith) (omega arith) (search told) two) in
+      simp add-assoc at (passed-next (at + 39) (moreStops soFar 3) some (omega arith) (omega arith) (search told) three)
 
   -- Where all before a place is faultless, it is so past the rows that stand there too.
   pub passed-rows :
-      (most at stops : ℕ) → at + 52 * most ≤ length b → stops + 4 * most ≤ 1000 → Passed b at areas stops
-      → Passed b (at + 52 * rowsStanding most b at areas) areas (stops + 4 * rowsStanding most b at areas)
-  passed-rows zero at stops fits few p = rw (rows-zero b at areas) (simp unary-clauses p)
-  passed-rows (suc most) at stops fits few p =
-      go (rowStands b at areas) refl
-      (λ row. passed-rows most (at + 52) (stops + 4) (omega arith) (omega arith) (passed-row at stops (omega arith) (omega arith) row p))
+      (most at : ℕ) (soFar : Counts) → 0 < soFar .areas → at + 52 * most ≤ length b → soFar .stops + 4 * most ≤ 1000 → Passed b at soFar
+      → Passed b (at + 52 * rowsStanding most b at (soFar .areas)) (moreStops soFar (4 * rowsStanding most b at (soFar .areas)))
+  passed-rows zero at soFar some fits few p = rw (rows-zero b at (soFar .areas)) (simp unary-clauses p)
+  passed-rows (suc most) at soFar some fits few p =
+      go (rowStands b at (soFar .areas)) refl
+      (λ row.
+      passed-rows most (at + 52) (moreStops soFar 4) some (omega arith) (omega arith)
+      (passed-row at soFar some (omega arith) (omega arith) row p))
     where
       go :
-          (t : Bool) → rowStands b at areas ≡ t
-          → (rowStands b at areas ≡ true
-          → Passed b (at + 52 + 52 * rowsStanding most b (at + 52) areas) areas (stops + 4 + 4 * rowsStanding most b (at + 52) areas))
-          → Passed b (at + 52 * rowsStanding (suc most) b at areas) areas (stops + 4 * rowsStanding (suc most) b at areas)
+          (t : Bool) → rowStands b at (soFar .areas) ≡ t
+          → (rowStands b at (soFar .areas) ≡ true
+          → Passed b (at + 52 + 52 * rowsStanding most b (at + 52) (soFar .areas))
+          (moreStops (moreStops soFar 4) (4 * rowsStanding most b (at + 52) (soFar .areas))))
+          → Passed b (at + 52 * rowsStanding (suc most) b at (soFar .areas)) (moreStops soFar (4 * rowsStanding (suc most) b at (soFar .areas)))
       go true row on =
-          let rest = rowsStanding most b (at + 52) areas in
+          let rest = rowsStanding most b (at + 52) (soFar .areas) in
           let place : at + 52 + 52 * rest ≡ at + 52 * suc rest = omega arith in
-          let count : stops + 4 + 4 * rest ≡ stops + 4 * suc rest = omega arith in
-          rw (rows-more b at areas most row) (rw (place, count) at (on row))
-      go false none on = rw (rows-none b at areas (suc most) none) (simp unary-clauses p)
+          let count : soFar .stops + 4 + 4 * rest ≡ soFar .stops + 4 * suc rest = omega arith in
+          rw (rows-more b at (soFar .areas) most row) (rw (place, count) at (on row))
+      go false none on = rw (rows-none b at (soFar .areas) (suc most) none) (simp unary-clauses p)

@@ -8,8 +8,9 @@ use mathlib.Core.Bool.{true, _&&_, _||_}
 use mathlib.Core.List.{List}
 use borrow.Author.Tests.{leb-true, eq-eqb, ne-eqb}
 use lib.Dec.{eqb}
+use Rattle.tariff.specs.declared.Counts.{Counts}
 use Rattle.tariff.specs.declared.fields.AreaFields.{AreaFields}
-use Rattle.tariff.specs.Fields.{areaFields, stopFields, areaPlace, stopPlace}
+use Rattle.tariff.specs.Fields.{areaFields, stopFields, areaPlace, stopPlace, areasBefore}
 use Rattle.tariff.specs.Rules.{tripCapRight, money, unused, capsRight, placeRight, stopRight, areaRight, levelOf, flatOf}
 use Rattle.tariff.specs.Areas.{tripCapOf, dayCapOf, areaOf, areaAt, stopAt, TripCapRange, DayCapRange, AreaRanges, AreaRank, state, region, city, StopRanges}
 use Rattle.tariff.proofs.Tests.{told, one-of, one-of-three}
@@ -48,9 +49,9 @@ day-cap-range n e = one-of _ _ e (λ t. amount (leb-true n 60000 t)) (λ t. rw t
     amount h = rw (ne-eqb n 65535 (λ same. omega arith)) h
 
 -- An area whose values are right has each in its range.
-pub area-ranges : (b : List ℕ) (number : ℕ) (f : AreaFields) → areaRight b number f ≡ true → AreaRanges (areaOf f)
+pub area-ranges : (b : List ℕ) (soFar : Counts) (f : AreaFields) → areaRight b soFar f ≡ true → AreaRanges (areaOf f)
 unfolding areaOf capsRight
-area-ranges b number f e =
+area-ranges b soFar f e =
     record {
       base = search told depth 9;
       rate = search told depth 9;
@@ -64,39 +65,41 @@ area-ranges b number f e =
     }
 
 -- area 0 has level 0
-state-level : (b : List ℕ) → areaRight b 0 (areaFields b (areaPlace 0)) ≡ true → levelOf b 0 ≡ 0
+state-level : (b : List ℕ) (counts : Counts) → areaRight b (areasBefore 0) (areaFields b (areaPlace counts 0)) ≡ true → levelOf b counts 0 ≡ 0
 unfolding placeRight
-state-level b e = search told
+state-level b counts e = search told
 
 -- what has level 1 is not area 0
-not-state : (b : List ℕ) (r : ℕ) → levelOf b 0 ≡ 0 → levelOf b r ≡ 1 → 0 < r
-not-state b zero top level = omega arith
-not-state b (suc r) top level = omega arith
+not-state : (b : List ℕ) (counts : Counts) (r : ℕ) → levelOf b counts 0 ≡ 0 → levelOf b counts r ≡ 1 → 0 < r
+not-state b counts zero top level = omega arith
+not-state b counts (suc r) top level = omega arith
 
 -- An area whose values are right has its rank, where those of area 0 are right too.
 pub area-rank :
-    (b : List ℕ) (number : ℕ) → areaRight b 0 (areaFields b (areaPlace 0)) ≡ true
-    → areaRight b number (areaFields b (areaPlace number)) ≡ true → AreaRank b number
+    (b : List ℕ) (counts : Counts) (number : ℕ) → areaRight b (areasBefore 0) (areaFields b (areaPlace counts 0)) ≡ true
+    → areaRight b (areasBefore number) (areaFields b (areaPlace counts number)) ≡ true → AreaRank b counts number
 unfolding areaAt areaOf placeRight
-area-rank b number first e =
+area-rank b counts number first e =
     elim (ℕ-discrete number 0) [
       | yes is ↦
           let e′ = rw (eq-eqb number 0 is) at e in
           state is (search told) (search told)
       | no some ↦
           let e′ = rw (ne-eqb number 0 some) at e in
-          let f = areaFields b (areaPlace number) in
-          let flat : f .flat ≤ flatOf b (f .parent) = search told in
-          one-of (eqb (f .level) 1 && eqb (f .parent) 0) (eqb (f .level) 2 && eqb (levelOf b (f .parent)) 1) (search told)
+          let f = areaFields b (areaPlace counts number) in
+          let flat : f .flat ≤ flatOf b counts (f .parent) = search told in
+          one-of (eqb (f .level) 1 && eqb (f .parent) 0) (eqb (f .level) 2 && eqb (levelOf b counts (f .parent)) 1) (search told)
           (λ is.
           let parent : f .parent ≡ 0 = search told in
-          region (omega arith) (search told) parent (omega (arith, ap (flatOf b) parent)))
+          region (omega arith) (search told) parent (omega (arith, ap (flatOf b counts) parent)))
           (λ is.
-          let level : levelOf b (f .parent) ≡ 1 = search told in
-          city (f .parent) (not-state b (f .parent) (state-level b first) level) (search told) (search told) refl level flat)
+          let level : levelOf b counts (f .parent) ≡ 1 = search told in
+          city (f .parent) (not-state b counts (f .parent) (state-level b counts first) level) (search told) (search told) refl level flat)
     ]
 
 -- A stop whose values are right has them in their ranges.
-pub stop-ranges : (b : List ℕ) (areas j : ℕ) → stopRight (stopFields b (stopPlace areas j)) areas ≡ true → StopRanges areas (stopAt b areas j)
+pub stop-ranges :
+    (b : List ℕ) (counts : Counts) (j : ℕ) → stopRight (stopFields b (stopPlace counts j)) (counts .areas) ≡ true
+    → StopRanges (counts .areas) (stopAt b counts j)
 unfolding stopAt
-stop-ranges b areas j e = search told
+stop-ranges b counts j e = search told

@@ -8,221 +8,222 @@ use mathlib.Core.Bool.{Bool, true, false, _||_, false≢true}
 use mathlib.Core.List.{List}
 use borrow.Author.Tests.{eqb-true, eq-eqb}
 use lib.Dec.{eqb}
+use Rattle.tariff.specs.declared.Counts.{Counts}
 use Rattle.tariff.specs.Rules.{levelOf, flatOf}
 use Rattle.tariff.specs.Areas.{areaOf, areaAt, parentOf, liesWithin, smallestOf, Smallest, AreaRank, state, region, city, FaultlessTariff}
 use Rattle.tariff.proofs.Tests.{one-of-three, second-holds, third-holds}
 
 -- Level, parent and flat of an area are those of its record.
-module _ (b : List ℕ) (a : ℕ) where
-  pub area-level : areaAt b a .level ≡ levelOf b a
+module _ (b : List ℕ) (counts : Counts) (a : ℕ) where
+  pub area-level : areaAt b counts a .level ≡ levelOf b counts a
   unfolding areaAt areaOf
   area-level = refl
 
-  pub area-parent : areaAt b a .parent ≡ parentOf b a
+  pub area-parent : areaAt b counts a .parent ≡ parentOf b counts a
   unfolding areaAt areaOf
   area-parent = refl
 
-  pub area-flat : areaAt b a .flat .0 ≡ flatOf b a
+  pub area-flat : areaAt b counts a .flat .0 ≡ flatOf b counts a
   unfolding areaAt areaOf
   area-flat = refl
 
 -- An area lies within itself, within its parent, and within its parent's parent; and within no other.
-module _ (b : List ℕ) (a c : ℕ) where
-  pub within-self : a ≡ c → liesWithin b a c ≡ true
+module _ (b : List ℕ) (counts : Counts) (a c : ℕ) where
+  pub within-self : a ≡ c → liesWithin b counts a c ≡ true
   unfolding liesWithin
   within-self e = rw (eq-eqb a c e)
 
-  pub within-parent : parentOf b a ≡ c → liesWithin b a c ≡ true
+  pub within-parent : parentOf b counts a ≡ c → liesWithin b counts a c ≡ true
   unfolding liesWithin
-  within-parent e = second-holds (eqb a c) (eqb (parentOf b a) c) _ (eq-eqb (parentOf b a) c e)
+  within-parent e = second-holds (eqb a c) (eqb (parentOf b counts a) c) _ (eq-eqb (parentOf b counts a) c e)
 
-  pub within-top : parentOf b (parentOf b a) ≡ c → liesWithin b a c ≡ true
+  pub within-top : parentOf b counts (parentOf b counts a) ≡ c → liesWithin b counts a c ≡ true
   unfolding liesWithin
   within-top e =
-      third-holds (eqb a c) (eqb (parentOf b a) c) (eqb (parentOf b (parentOf b a)) c) (eq-eqb (parentOf b (parentOf b a)) c e)
+      third-holds (eqb a c) (eqb (parentOf b counts a) c) (eqb (parentOf b counts (parentOf b counts a)) c) (eq-eqb (parentOf b counts (parentOf b counts a)) c e)
 
   pub within-cases {ℓ} :
-      {P : Type ℓ} → liesWithin b a c ≡ true → (a ≡ c → P) → (parentOf b a ≡ c → P) → (parentOf b (parentOf b a) ≡ c → P) → P
+      {P : Type ℓ} → liesWithin b counts a c ≡ true → (a ≡ c → P) → (parentOf b counts a ≡ c → P) → (parentOf b counts (parentOf b counts a) ≡ c → P) → P
   unfolding liesWithin
   within-cases e self parent top =
-      one-of-three (eqb a c) (eqb (parentOf b a) c) (eqb (parentOf b (parentOf b a)) c) e
-      (λ is. self (eqb-true a c is)) (λ is. parent (eqb-true (parentOf b a) c is))
-      (λ is. top (eqb-true (parentOf b (parentOf b a)) c is))
+      one-of-three (eqb a c) (eqb (parentOf b counts a) c) (eqb (parentOf b counts (parentOf b counts a)) c) e
+      (λ is. self (eqb-true a c is)) (λ is. parent (eqb-true (parentOf b counts a) c is))
+      (λ is. top (eqb-true (parentOf b counts (parentOf b counts a)) c is))
 
-pub within-refl : (b : List ℕ) (a : ℕ) → liesWithin b a a ≡ true
-within-refl b a = within-self b a a refl
+pub within-refl : (b : List ℕ) (counts : Counts) (a : ℕ) → liesWithin b counts a a ≡ true
+within-refl b counts a = within-self b counts a a refl
 
 -- Lying within, by the two areas above as they were found.
 pub within-found :
-    (b : List ℕ) (inner outer above top : ℕ) → above ≡ parentOf b inner → top ≡ parentOf b above
-    → eqb inner outer || eqb above outer || eqb top outer ≡ liesWithin b inner outer
+    (b : List ℕ) (counts : Counts) (inner outer above top : ℕ) → above ≡ parentOf b counts inner → top ≡ parentOf b counts above
+    → eqb inner outer || eqb above outer || eqb top outer ≡ liesWithin b counts inner outer
 unfolding liesWithin
-within-found b inner outer above top e e′ = rw (e′, e)
+within-found b counts inner outer above top e e′ = rw (e′, e)
 
 -- What the rank of an area says of the area above it: the state is its own parent, any other parent is earlier, and one level up.
-pub record Above (b : List ℕ) (a : ℕ) : Type 0 where
-  pub level : levelOf b a ≤ 2
-  pub state-only : levelOf b a ≡ 0 → a ≡ 0
-  pub state-parent : a ≡ 0 → parentOf b a ≡ 0
-  pub earlier : 0 < a → parentOf b a < a
-  pub level-up : levelOf b (parentOf b a) ≡ levelOf b a - 1
-  pub flat-up : flatOf b a ≤ flatOf b (parentOf b a)
+pub record Above (b : List ℕ) (counts : Counts) (a : ℕ) : Type 0 where
+  pub level : levelOf b counts a ≤ 2
+  pub state-only : levelOf b counts a ≡ 0 → a ≡ 0
+  pub state-parent : a ≡ 0 → parentOf b counts a ≡ 0
+  pub earlier : 0 < a → parentOf b counts a < a
+  pub level-up : levelOf b counts (parentOf b counts a) ≡ levelOf b counts a - 1
+  pub flat-up : flatOf b counts a ≤ flatOf b counts (parentOf b counts a)
 
-state-level : (b : List ℕ) → AreaRank b 0 → levelOf b 0 ≡ 0
+state-level : (b : List ℕ) (counts : Counts) → AreaRank b counts 0 → levelOf b counts 0 ≡ 0
 unfolding areaAt areaOf
-state-level b (state is level parent) = level
-state-level b (region some level parent flat) = absurd (omega arith)
-state-level b (city r some earlier level parent above flat) = absurd (omega arith)
+state-level b counts (state is level parent) = level
+state-level b counts (region some level parent flat) = absurd (omega arith)
+state-level b counts (city r some earlier level parent above flat) = absurd (omega arith)
 
-ranked : (b : List ℕ) (a : ℕ) → levelOf b 0 ≡ 0 → AreaRank b a → Above b a
+ranked : (b : List ℕ) (counts : Counts) (a : ℕ) → levelOf b counts 0 ≡ 0 → AreaRank b counts a → Above b counts a
 unfolding areaAt areaOf
-ranked b a top (state is level parent) =
+ranked b counts a top (state is level parent) =
     record {
       level = omega arith;
       state-only = λ _. is;
       state-parent = λ _. parent;
       earlier = λ some. absurd (omega arith);
-      level-up = omega (arith, ap (levelOf b) parent);
-      flat-up = omega (arith, ap (flatOf b) is, ap (flatOf b) parent);
+      level-up = omega (arith, ap (levelOf b counts) parent);
+      flat-up = omega (arith, ap (flatOf b counts) is, ap (flatOf b counts) parent);
     }
-ranked b a top (region some level parent flat) =
+ranked b counts a top (region some level parent flat) =
     record {
       level = omega arith;
       state-only = λ zero-level. absurd (omega arith);
       state-parent = λ _. parent;
       earlier = λ _. omega arith;
-      level-up = omega (arith, ap (levelOf b) parent);
-      flat-up = omega (arith, ap (flatOf b) parent);
+      level-up = omega (arith, ap (levelOf b counts) parent);
+      flat-up = omega (arith, ap (flatOf b counts) parent);
     }
-ranked b a top (city r some earlier level parent above flat) =
+ranked b counts a top (city r some earlier level parent above flat) =
     record {
       level = omega arith;
       state-only = λ zero-level. absurd (omega arith);
       state-parent = λ is. absurd (omega arith);
       earlier = λ _. omega arith;
-      level-up = omega (arith, ap (levelOf b) parent);
-      flat-up = omega (arith, ap (flatOf b) parent);
+      level-up = omega (arith, ap (levelOf b counts) parent);
+      flat-up = omega (arith, ap (flatOf b counts) parent);
     }
 
 -- In a faultless tariff:
-module _ {b : List ℕ} {areas stops : ℕ} (t : FaultlessTariff b areas stops) where
-  pub above-of : (a : ℕ) → a < areas → Above b a
-  above-of a h = ranked b a (state-level b (t .rank 0 (t .some))) (t .rank a h)
+module _ {b : List ℕ} {counts : Counts} (t : FaultlessTariff b counts) where
+  pub above-of : (a : ℕ) → a < counts .areas → Above b counts a
+  above-of a h = ranked b counts a (state-level b counts (t .rank 0 (t .some))) (t .rank a h)
 
-  pub parent-most : (a : ℕ) → a < areas → parentOf b a ≤ a
+  pub parent-most : (a : ℕ) → a < counts .areas → parentOf b counts a ≤ a
   parent-most zero h = omega (arith, above-of zero h .state-parent refl)
   parent-most (suc a) h = omega (arith, above-of (suc a) h .earlier (omega arith))
 
-  pub parent-there : (a : ℕ) → a < areas → parentOf b a < areas
+  pub parent-there : (a : ℕ) → a < counts .areas → parentOf b counts a < counts .areas
   parent-there a h = omega (arith, parent-most a h)
 
   -- three levels: the parent's parent is the state
-  pub parent-top : (a : ℕ) → a < areas → parentOf b (parentOf b a) ≡ 0
+  pub parent-top : (a : ℕ) → a < counts .areas → parentOf b counts (parentOf b counts a) ≡ 0
   parent-top a h =
       let one = above-of a h in
       let h′ = parent-there a h in
-      let two = above-of (parentOf b a) h′ in
-      above-of (parentOf b (parentOf b a)) (parent-there (parentOf b a) h′) .state-only (omega arith)
+      let two = above-of (parentOf b counts a) h′ in
+      above-of (parentOf b counts (parentOf b counts a)) (parent-there (parentOf b counts a) h′) .state-only (omega arith)
 
-  pub within-state : (a : ℕ) → a < areas → liesWithin b a 0 ≡ true
-  within-state a h = within-top b a 0 (parent-top a h)
+  pub within-state : (a : ℕ) → a < counts .areas → liesWithin b counts a 0 ≡ true
+  within-state a h = within-top b counts a 0 (parent-top a h)
 
   -- what an area lies within has no greater number
-  pub within-most : (a c : ℕ) → a < areas → liesWithin b a c ≡ true → c ≤ a
+  pub within-most : (a c : ℕ) → a < counts .areas → liesWithin b counts a c ≡ true → c ≤ a
   within-most a c h e =
-      within-cases b a c e (λ is. omega arith) (λ is. omega (arith, parent-most a h)) (λ is. omega (arith, parent-top a h))
+      within-cases b counts a c e (λ is. omega arith) (λ is. omega (arith, parent-most a h)) (λ is. omega (arith, parent-top a h))
 
-  pub within-there : (a c : ℕ) → a < areas → liesWithin b a c ≡ true → c < areas
+  pub within-there : (a c : ℕ) → a < counts .areas → liesWithin b counts a c ≡ true → c < counts .areas
   within-there a c h e = omega (arith, within-most a c h e)
 
-  pub within-trans : (a c d : ℕ) → a < areas → liesWithin b a c ≡ true → liesWithin b c d ≡ true → liesWithin b a d ≡ true
+  pub within-trans : (a c d : ℕ) → a < counts .areas → liesWithin b counts a c ≡ true → liesWithin b counts c d ≡ true → liesWithin b counts a d ≡ true
   within-trans a c d h e e′ =
       let there = within-there a c h e in
       let top = parent-top a h in
-      within-cases b a c e (λ is. rw is e′)
+      within-cases b counts a c e (λ is. rw is e′)
       (λ is.
-      within-cases b c d e′ (λ to. within-parent b a d (is ∙ to)) (λ to. within-top b a d (ap (parentOf b) is ∙ to))
-      (λ to. within-top b a d (omega (arith, parent-top c there))))
-      (λ is. within-top b a d (omega (arith, within-most c d there e′)))
+      within-cases b counts c d e′ (λ to. within-parent b counts a d (is ∙ to)) (λ to. within-top b counts a d (ap (parentOf b counts) is ∙ to))
+      (λ to. within-top b counts a d (omega (arith, parent-top c there))))
+      (λ is. within-top b counts a d (omega (arith, within-most c d there e′)))
 
-  pub within-antisym : (a c : ℕ) → a < areas → c < areas → liesWithin b a c ≡ true → liesWithin b c a ≡ true → a ≡ c
+  pub within-antisym : (a c : ℕ) → a < counts .areas → c < counts .areas → liesWithin b counts a c ≡ true → liesWithin b counts c a ≡ true → a ≡ c
   within-antisym a c h h′ e e′ = omega (arith, within-most a c h e, within-most c a h′ e′)
 
   -- no flat exceeds that of an area around it
-  pub flat-within : (a c : ℕ) → a < areas → liesWithin b a c ≡ true → flatOf b a ≤ flatOf b c
+  pub flat-within : (a c : ℕ) → a < counts .areas → liesWithin b counts a c ≡ true → flatOf b counts a ≤ flatOf b counts c
   flat-within a c h e =
       let one = above-of a h in
-      let two = above-of (parentOf b a) (parent-there a h) in
-      within-cases b a c e (λ is. omega (arith, ap (flatOf b) is)) (λ is. omega (arith, ap (flatOf b) is))
-      (λ is. omega (arith, ap (flatOf b) is))
+      let two = above-of (parentOf b counts a) (parent-there a h) in
+      within-cases b counts a c e (λ is. omega (arith, ap (flatOf b counts) is)) (λ is. omega (arith, ap (flatOf b counts) is))
+      (λ is. omega (arith, ap (flatOf b counts) is))
 
   -- The smallest area containing two, by where the walk up from the first meets one that contains the second.
-  module _ (a c : ℕ) (h : a < areas) where
+  module _ (a c : ℕ) (h : a < counts .areas) where
     -- the walk has passed no area that contains the second
-    passed : (r d : ℕ) → liesWithin b c r ≡ false → liesWithin b c d ≡ true → r ≡ d → ⊥
-    passed r d out e is = false≢true (sym out ∙ ap (liesWithin b c) is ∙ e)
+    passed : (r d : ℕ) → liesWithin b counts c r ≡ false → liesWithin b counts c d ≡ true → r ≡ d → ⊥
+    passed r d out e is = false≢true (sym out ∙ ap (liesWithin b counts c) is ∙ e)
 
-    pub smallest-own : liesWithin b c a ≡ true → Smallest b areas a c a
+    pub smallest-own : liesWithin b counts c a ≡ true → Smallest b counts a c a
     unfolding smallestOf
-    smallest-own is = record { value = rw is; there = h; one = within-refl b a; other = is; least = λ d e e′. e }
+    smallest-own is = record { value = rw is; there = h; one = within-refl b counts a; other = is; least = λ d e e′. e }
 
     pub smallest-parent :
-        (above : ℕ) → above ≡ parentOf b a → liesWithin b c a ≡ false → liesWithin b c above ≡ true → Smallest b areas a c above
+        (above : ℕ) → above ≡ parentOf b counts a → liesWithin b counts c a ≡ false → liesWithin b counts c above ≡ true → Smallest b counts a c above
     unfolding smallestOf
     smallest-parent above up out is =
         record {
           value = up ∙ rw (out, rw up at is);
           there = rw up (parent-there a h);
-          one = within-parent b a above (sym up);
+          one = within-parent b counts a above (sym up);
           other = is;
           least = λ d e e′.
-              within-cases b a d e (λ self. absurd (passed a d out e′ self)) (λ parent. within-self b above d (up ∙ parent))
-              (λ top. within-parent b above d (ap (parentOf b) up ∙ top));
+              within-cases b counts a d e (λ self. absurd (passed a d out e′ self)) (λ parent. within-self b counts above d (up ∙ parent))
+              (λ top. within-parent b counts above d (ap (parentOf b counts) up ∙ top));
         }
 
     pub smallest-top :
-        (above top : ℕ) → above ≡ parentOf b a → top ≡ parentOf b above → c < areas → liesWithin b c a ≡ false
-        → liesWithin b c above ≡ false → Smallest b areas a c top
+        (above top : ℕ) → above ≡ parentOf b counts a → top ≡ parentOf b counts above → c < counts .areas → liesWithin b counts c a ≡ false
+        → liesWithin b counts c above ≡ false → Smallest b counts a c top
     unfolding smallestOf
     smallest-top above top up up′ h′ out out′ =
-        let is : parentOf b (parentOf b a) ≡ top = sym (up′ ∙ ap (parentOf b) up) in
+        let is : parentOf b counts (parentOf b counts a) ≡ top = sym (up′ ∙ ap (parentOf b counts) up) in
         let zero-top : top ≡ 0 = sym is ∙ parent-top a h in
         record {
           value = sym is ∙ rw (out, rw up at out′);
           there = omega arith;
-          one = within-top b a top is;
+          one = within-top b counts a top is;
           other = rw zero-top (within-state c h′);
           least = λ d e e′.
-              within-cases b a d e (λ self. absurd (passed a d out e′ self))
-              (λ parent. absurd (passed above d out′ e′ (up ∙ parent))) (λ to. within-self b top d (sym is ∙ to));
+              within-cases b counts a d e (λ self. absurd (passed a d out e′ self))
+              (λ parent. absurd (passed above d out′ e′ (up ∙ parent))) (λ to. within-self b counts top d (sym is ∙ to));
         }
 
-    pub smallest : c < areas → Smallest b areas a c (smallestOf b a c)
-    smallest h′ = own (liesWithin b c a) refl
+    pub smallest : c < counts .areas → Smallest b counts a c (smallestOf b counts a c)
+    smallest h′ = own (liesWithin b counts c a) refl
       where
-        given : (r : ℕ) → Smallest b areas a c r → Smallest b areas a c (smallestOf b a c)
-        given r s = subst (Smallest b areas a c) (s .value) s
+        given : (r : ℕ) → Smallest b counts a c r → Smallest b counts a c (smallestOf b counts a c)
+        given r s = subst (Smallest b counts a c) (s .value) s
 
         from-parent :
-            liesWithin b c a ≡ false → (s : Bool) → liesWithin b c (parentOf b a) ≡ s → Smallest b areas a c (smallestOf b a c)
+            liesWithin b counts c a ≡ false → (s : Bool) → liesWithin b counts c (parentOf b counts a) ≡ s → Smallest b counts a c (smallestOf b counts a c)
         from-parent out true is = given _ (smallest-parent _ refl out is)
         from-parent out false is = given _ (smallest-top _ _ refl refl h′ out is)
 
-        own : (s : Bool) → liesWithin b c a ≡ s → Smallest b areas a c (smallestOf b a c)
+        own : (s : Bool) → liesWithin b counts c a ≡ s → Smallest b counts a c (smallestOf b counts a c)
         own true is = given _ (smallest-own is)
-        own false is = from-parent is (liesWithin b c (parentOf b a)) refl
+        own false is = from-parent is (liesWithin b counts c (parentOf b counts a)) refl
 
   -- An area that contains two and lies within every area that contains both is the smallest: there is no other.
   pub smallest-unique :
-      (a c r : ℕ) → a < areas → c < areas → liesWithin b a r ≡ true → liesWithin b c r ≡ true
-      → ((d : ℕ) → liesWithin b a d ≡ true → liesWithin b c d ≡ true → liesWithin b r d ≡ true) → r ≡ smallestOf b a c
+      (a c r : ℕ) → a < counts .areas → c < counts .areas → liesWithin b counts a r ≡ true → liesWithin b counts c r ≡ true
+      → ((d : ℕ) → liesWithin b counts a d ≡ true → liesWithin b counts c d ≡ true → liesWithin b counts r d ≡ true) → r ≡ smallestOf b counts a c
   smallest-unique a c r h h′ one other least =
       let s = smallest a c h h′ in
-      within-antisym r (smallestOf b a c) (within-there a r h one) (s .there) (least (smallestOf b a c) (s .one) (s .other))
+      within-antisym r (smallestOf b counts a c) (within-there a r h one) (s .there) (least (smallestOf b counts a c) (s .one) (s .other))
       (s .least r one other)
 
   -- It does not matter from which of the two the walk begins.
-  pub smallest-comm : (a c : ℕ) → a < areas → c < areas → smallestOf b a c ≡ smallestOf b c a
+  pub smallest-comm : (a c : ℕ) → a < counts .areas → c < counts .areas → smallestOf b counts a c ≡ smallestOf b counts c a
   smallest-comm a c h h′ =
       let s = smallest a c h h′ in
-      smallest-unique c a (smallestOf b a c) h′ h (s .other) (s .one) (λ d e e′. s .least d e′ e)
+      smallest-unique c a (smallestOf b counts a c) h′ h (s .other) (s .one) (λ d e e′. s .least d e′ e)

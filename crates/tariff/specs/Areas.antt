@@ -48,13 +48,13 @@ areaOf f =
     }
 
 -- the area of a number
-unfoldable pub areaAt : List ℕ → ℕ → Area
-areaAt b number = areaOf (areaFields b (areaPlace number))
+unfoldable pub areaAt : List ℕ → Counts → ℕ → Area
+areaAt b counts number = areaOf (areaFields b (areaPlace counts number))
 
 -- the stop of a number
-unfoldable pub stopAt : List ℕ → ℕ → ℕ → Stop
-stopAt b areas number =
-    let f = stopFields b (stopPlace areas number) in
+unfoldable pub stopAt : List ℕ → Counts → ℕ → Stop
+stopAt b counts number =
+    let f = stopFields b (stopPlace counts number) in
     record { area = f .area; x = record { 0 = f .x }; y = record { 0 = f .y } }
 
 -- the tariff is faultless, with these counts
@@ -62,34 +62,35 @@ abbrev pub Read : List ℕ → Counts → Type 0
 Read b counts = readTariff b ≡ Faultless counts
 
 -- the area above an area; the state is its own
-abbrev pub parentOf : List ℕ → ℕ → ℕ
-parentOf b number = areaFields b (areaPlace number) .parent
+abbrev pub parentOf : List ℕ → Counts → ℕ → ℕ
+parentOf b counts number = areaFields b (areaPlace counts number) .parent
 
 -- an area lies within itself, within the area above it, and within the area above that: there are three levels
-unfoldable pub liesWithin : List ℕ → ℕ → ℕ → Bool
-liesWithin b inner outer =
-    eqb inner outer || eqb (parentOf b inner) outer || eqb (parentOf b (parentOf b inner)) outer
+unfoldable pub liesWithin : List ℕ → Counts → ℕ → ℕ → Bool
+liesWithin b counts inner outer =
+    eqb inner outer || eqb (parentOf b counts inner) outer || eqb (parentOf b counts (parentOf b counts inner)) outer
 
 -- of two areas: the first of the one, the area above it and the area above that within which the other lies too
-unfoldable pub smallestOf : List ℕ → ℕ → ℕ → ℕ
-smallestOf b a c =
-    cond (liesWithin b c a) a (cond (liesWithin b c (parentOf b a)) (parentOf b a) (parentOf b (parentOf b a)))
+unfoldable pub smallestOf : List ℕ → Counts → ℕ → ℕ → ℕ
+smallestOf b counts a c =
+    cond (liesWithin b counts c a) a
+    (cond (liesWithin b counts c (parentOf b counts a)) (parentOf b counts a) (parentOf b counts (parentOf b counts a)))
 
-pub record ParentOf (b : List ℕ) (areas number r : ℕ) : Type 0 where
-  pub value : r ≡ parentOf b number
-  pub there : r < areas
+pub record ParentOf (b : List ℕ) (counts : Counts) (number r : ℕ) : Type 0 where
+  pub value : r ≡ parentOf b counts number
+  pub there : r < counts .areas
 
-pub record FlatOf (b : List ℕ) (number r : ℕ) : Type 0 where
-  pub value : r ≡ flatOf b number
+pub record FlatOf (b : List ℕ) (counts : Counts) (number r : ℕ) : Type 0 where
+  pub value : r ≡ flatOf b counts number
   pub range : r ≤ 60000
 
 -- the smallest area that contains two: it contains both, and lies within every area that contains both
-pub record Smallest (b : List ℕ) (areas a c r : ℕ) : Type 0 where
-  pub value : r ≡ smallestOf b a c
-  pub there : r < areas
-  pub one : liesWithin b a r ≡ true
-  pub other : liesWithin b c r ≡ true
-  pub least : (d : ℕ) → liesWithin b a d ≡ true → liesWithin b c d ≡ true → liesWithin b r d ≡ true
+pub record Smallest (b : List ℕ) (counts : Counts) (a c r : ℕ) : Type 0 where
+  pub value : r ≡ smallestOf b counts a c
+  pub there : r < counts .areas
+  pub one : liesWithin b counts a r ≡ true
+  pub other : liesWithin b counts c r ≡ true
+  pub least : (d : ℕ) → liesWithin b counts a d ≡ true → liesWithin b counts c d ≡ true → liesWithin b counts r d ≡ true
 
 -- the numbers of a trip cap are in their ranges
 abbrev pub TripCapRange : TripCap → Type 0
@@ -114,12 +115,12 @@ pub record AreaRanges (area : Area) : Type 0 where
   pub flat : area .flat .0 ≤ 60000
 
 -- area 0 alone is the state, its own parent; a region's parent is the state, a city's an earlier region; no flat exceeds the parent's
-pub data AreaRank (b : List ℕ) (number : ℕ) : Type 0 where
-  state : number ≡ 0 → areaAt b number .level ≡ 0 → areaAt b number .parent ≡ 0 → AreaRank b number
-  region : 0 < number → areaAt b number .level ≡ 1 → areaAt b number .parent ≡ 0 → areaAt b number .flat .0 ≤ areaAt b 0 .flat .0
-      → AreaRank b number
-  city : (r : ℕ) → 0 < r → r < number → areaAt b number .level ≡ 2 → areaAt b number .parent ≡ r → areaAt b r .level ≡ 1
-      → areaAt b number .flat .0 ≤ areaAt b r .flat .0 → AreaRank b number
+pub data AreaRank (b : List ℕ) (counts : Counts) (number : ℕ) : Type 0 where
+  state : number ≡ 0 → areaAt b counts number .level ≡ 0 → areaAt b counts number .parent ≡ 0 → AreaRank b counts number
+  region : 0 < number → areaAt b counts number .level ≡ 1 → areaAt b counts number .parent ≡ 0 → areaAt b counts number .flat .0 ≤ areaAt b counts 0 .flat .0
+      → AreaRank b counts number
+  city : (r : ℕ) → 0 < r → r < number → areaAt b counts number .level ≡ 2 → areaAt b counts number .parent ≡ r → areaAt b counts r .level ≡ 1
+      → areaAt b counts number .flat .0 ≤ areaAt b counts r .flat .0 → AreaRank b counts number
 
 pub record StopRanges (areas : ℕ) (stop : Stop) : Type 0 where
   pub area : stop .area < areas
@@ -127,11 +128,11 @@ pub record StopRanges (areas : ℕ) (stop : Stop) : Type 0 where
   pub y : stop .y .0 ≤ 1000000
 
 -- what every faultless tariff has
-pub record FaultlessTariff (b : List ℕ) (areas stops : ℕ) : Type 0 where
-  pub some : 1 ≤ areas
-  pub few-areas : areas ≤ 32
-  pub few-stops : stops ≤ 1000
-  pub size : length b ≡ stopPlace areas stops
-  pub area : (i : ℕ) → i < areas → AreaRanges (areaAt b i)
-  pub rank : (i : ℕ) → i < areas → AreaRank b i
-  pub stop : (j : ℕ) → j < stops → StopRanges areas (stopAt b areas j)
+pub record FaultlessTariff (b : List ℕ) (counts : Counts) : Type 0 where
+  pub some : 1 ≤ counts .areas
+  pub few-areas : counts .areas ≤ 32
+  pub few-stops : counts .stops ≤ 1000
+  pub size : length b ≡ stopPlace counts (counts .stops)
+  pub area : (i : ℕ) → i < counts .areas → AreaRanges (areaAt b counts i)
+  pub rank : (i : ℕ) → i < counts .areas → AreaRank b counts i
+  pub stop : (j : ℕ) → j < counts .stops → StopRanges (counts .areas) (stopAt b counts j)

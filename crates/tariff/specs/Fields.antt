@@ -2,6 +2,7 @@
 use Prim.Native.Nat.{ℕ, _+_, _*_}
 use mathlib.Core.List.{List}
 use Rattle.wire.specs.Number.{getLe}
+use Rattle.tariff.specs.declared.Counts.{Counts}
 use Rattle.tariff.specs.declared.fields.AreaFields.{AreaFields}
 use Rattle.tariff.specs.declared.fields.StopFields.{StopFields}
 
@@ -31,10 +32,23 @@ areaFields b at =
 unfoldable pub stopFields : List ℕ → ℕ → StopFields
 stopFields b at = record { area = getLe 1 b (at + 4); x = getLe 4 b (at + 5); y = getLe 4 b (at + 9) }
 
--- areas are numbered from 0 in order, and each is a record of 4 + 25 bytes; so area `number` begins here
-abbrev pub areaPlace : ℕ → ℕ
-areaPlace number = 29 * number
+-- The counts are the layout: they say where each record begins. Areas are numbered from 0 in order, each a record of 4 + 25 bytes
+abbrev pub areaPlace : Counts → ℕ → ℕ
+areaPlace counts number = 29 * number
 
 -- stops follow the areas, each a record of 4 + 9 bytes
-abbrev pub stopPlace : ℕ → ℕ → ℕ
-stopPlace areas number = 29 * areas + 13 * number
+abbrev pub stopPlace : Counts → ℕ → ℕ
+stopPlace counts number = 29 * counts .areas + 13 * number
+
+-- the counts so far, where areas alone go before; where some stops of the whole go before; and with so many areas or stops more
+abbrev pub areasBefore : ℕ → Counts
+areasBefore number = record { areas = number; stops = 0 }
+
+abbrev pub stopsBefore : Counts → ℕ → Counts
+stopsBefore counts number = record { areas = counts .areas; stops = number }
+
+abbrev pub moreAreas : Counts → ℕ → Counts
+moreAreas soFar n = record { areas = soFar .areas + n; stops = soFar .stops }
+
+abbrev pub moreStops : Counts → ℕ → Counts
+moreStops soFar n = record { areas = soFar .areas; stops = soFar .stops + n }

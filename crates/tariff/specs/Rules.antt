@@ -3,6 +3,7 @@ use Prim.Native.Nat.{ℕ}
 use mathlib.Core.List.{List}
 use mathlib.Core.Bool.{Bool, cond, _&&_, _||_}
 use lib.Dec.{leb, ltb, eqb}
+use Rattle.tariff.specs.declared.Counts.{Counts}
 use Rattle.tariff.specs.declared.fields.AreaFields.{AreaFields}
 use Rattle.tariff.specs.declared.fields.StopFields.{StopFields}
 use Rattle.tariff.specs.Fields.{areaFields, areaPlace}
@@ -33,23 +34,24 @@ unfoldable pub capsRight : AreaFields → Bool
 capsRight f = tripCapRight f && (money (f .daycap) || eqb (f .daycap) 65535) && money (f .flat)
 
 -- the level and the flat of an area by number
-abbrev pub levelOf : List ℕ → ℕ → ℕ
-levelOf b number = areaFields b (areaPlace number) .level
+abbrev pub levelOf : List ℕ → Counts → ℕ → ℕ
+levelOf b counts number = areaFields b (areaPlace counts number) .level
 
-abbrev pub flatOf : List ℕ → ℕ → ℕ
-flatOf b number = areaFields b (areaPlace number) .flat
+abbrev pub flatOf : List ℕ → Counts → ℕ → ℕ
+flatOf b counts number = areaFields b (areaPlace counts number) .flat
 
--- area 0 alone has level 0, parent 0; a region's parent is 0; a city's is an earlier region; no flat exceeds its parent's
-unfoldable pub placeRight : List ℕ → ℕ → AreaFields → Bool
-placeRight b number f =
-    cond (eqb number 0) (eqb (f .level) 0 && eqb (f .parent) 0)
-    (ltb (f .parent) number
-    && (eqb (f .level) 1 && eqb (f .parent) 0 || eqb (f .level) 2 && eqb (levelOf b (f .parent)) 1)
-    && leb (f .flat) (flatOf b (f .parent)))
+-- the next area after those so far: area 0 alone has level 0, parent 0; a region's parent is 0; a city's is an earlier region; no flat
+-- exceeds its parent's
+unfoldable pub placeRight : List ℕ → Counts → AreaFields → Bool
+placeRight b soFar f =
+    cond (eqb (soFar .areas) 0) (eqb (f .level) 0 && eqb (f .parent) 0)
+    (ltb (f .parent) (soFar .areas)
+    && (eqb (f .level) 1 && eqb (f .parent) 0 || eqb (f .level) 2 && eqb (levelOf b soFar (f .parent)) 1)
+    && leb (f .flat) (flatOf b soFar (f .parent)))
 
 -- every rule about an area's values
-abbrev pub areaRight : List ℕ → ℕ → AreaFields → Bool
-areaRight b number f = pricesRight f && capsRight f && placeRight b number f
+abbrev pub areaRight : List ℕ → Counts → AreaFields → Bool
+areaRight b soFar f = pricesRight f && capsRight f && placeRight b soFar f
 
 -- a stop's area exists; x and y are 0..1,000,000
 abbrev pub stopRight : StopFields → ℕ → Bool

@@ -8,82 +8,83 @@ use lib.ListN.{length}
 use lib.Dec.{leb, ltb, eqb}
 use Rattle.wire.specs.Frame.{frameAt}
 use Rattle.wire.specs.declared.Frame.the-variants.{Whole, Broken}
+use Rattle.tariff.specs.declared.Counts.{Counts}
 use Rattle.tariff.specs.declared.scan.Entry.{Entry}
 use Rattle.tariff.specs.declared.scan.Entry.the-variants.{End, Area, Stop, Faulty}
 use Rattle.tariff.specs.declared.Reading.{Reading}
 use Rattle.tariff.specs.declared.Reading.the-variants.{Fault, Faultless}
-use Rattle.tariff.specs.Fields.{areaFields, stopFields, areaPlace, stopPlace}
+use Rattle.tariff.specs.Fields.{areaFields, stopFields, areaPlace, stopPlace, areasBefore, stopsBefore, moreAreas, moreStops}
 use Rattle.tariff.specs.Rules.{areaRight, stopRight}
 
 -- a place that so many areas and stops reach
-pub record Reached (b : List ℕ) (at areas stops : ℕ) : Type 0 where
-  pub place : at ≡ stopPlace areas stops
+pub record Reached (b : List ℕ) (at : ℕ) (soFar : Counts) : Type 0 where
+  pub place : at ≡ stopPlace soFar (soFar .stops)
   pub inside : at ≤ length b
-  pub few : areas ≤ 32
+  pub few : soFar .areas ≤ 32
 
 -- an area record: its body is 25 bytes, no stop goes before it and fewer than 32 areas do, or it is 2; its values are right, or it is 3
-unfoldable pub areaEntry : List ℕ → ℕ → ℕ → ℕ → ℕ → Entry
-areaEntry b at areas stops body =
-    cond (eqb body 25 && eqb stops 0 && ltb areas 32)
-    (cond (areaRight b areas (areaFields b at)) Area (Faulty 3))
+unfoldable pub areaEntry : List ℕ → ℕ → Counts → ℕ → Entry
+areaEntry b at soFar body =
+    cond (eqb body 25 && eqb (soFar .stops) 0 && ltb (soFar .areas) 32)
+    (cond (areaRight b soFar (areaFields b at)) Area (Faulty 3))
     (Faulty 2)
 
 -- a stop record: its body is 9 bytes, an area goes before it and fewer than 1,000 stops do, or it is 2; its values are right, or it is 3
-unfoldable pub stopEntry : List ℕ → ℕ → ℕ → ℕ → ℕ → Entry
-stopEntry b at areas stops body =
-    cond (eqb body 9 && ltb 0 areas && ltb stops 1000)
-    (cond (stopRight (stopFields b at) areas) Stop (Faulty 3))
+unfoldable pub stopEntry : List ℕ → ℕ → Counts → ℕ → Entry
+stopEntry b at soFar body =
+    cond (eqb body 9 && ltb 0 (soFar .areas) && ltb (soFar .stops) 1000)
+    (cond (stopRight (stopFields b at) (soFar .areas)) Stop (Faulty 3))
     (Faulty 2)
 
 -- what stands at a place, after so many areas and stops. At the tariff's end an area may still be due: 2. A broken frame is 1.
 -- A kind that is neither an area's nor a stop's is 2
-unfoldable pub entryAt : List ℕ → ℕ → ℕ → ℕ → Entry
-entryAt b at areas stops =
-    cond (leb (length b) at) (cond (eqb areas 0) (Faulty 2) End)
+unfoldable pub entryAt : List ℕ → ℕ → Counts → Entry
+entryAt b at soFar =
+    cond (leb (length b) at) (cond (eqb (soFar .areas) 0) (Faulty 2) End)
     (elim (frameAt b at) [
       | Broken ↦ Faulty 1
       | Whole kind body ↦
-          cond (eqb kind 1) (areaEntry b at areas stops body)
-          (cond (eqb kind 2) (stopEntry b at areas stops body) (Faulty 2))
+          cond (eqb kind 1) (areaEntry b at soFar body)
+          (cond (eqb kind 2) (stopEntry b at soFar body) (Faulty 2))
     ])
 
 -- the records from a place on, one after another, until the first fault or the end. A record is at least a byte long, so as many
 -- turns as the tariff has bytes, and one more for its end, are enough
-unfoldable pub readFrom : ℕ → List ℕ → ℕ → ℕ → ℕ → Reading
-readFrom zero b at areas stops = Fault 1 at
-readFrom (suc turns) b at areas stops =
-    elim (entryAt b at areas stops) [
-      | End ↦ Faultless (record { areas = areas; stops = stops })
+unfoldable pub readFrom : ℕ → List ℕ → ℕ → Counts → Reading
+readFrom zero b at soFar = Fault 1 at
+readFrom (suc turns) b at soFar =
+    elim (entryAt b at soFar) [
+      | End ↦ Faultless soFar
       | Faulty number ↦ Fault number at
-      | Area ↦ readFrom turns b (at + 29) (areas + 1) stops
-      | Stop ↦ readFrom turns b (at + 13) areas (stops + 1)
+      | Area ↦ readFrom turns b (at + 29) (moreAreas soFar 1)
+      | Stop ↦ readFrom turns b (at + 13) (moreStops soFar 1)
     ]
 
 unfoldable pub readTariff : List ℕ → Reading
-readTariff b = readFrom (suc (length b)) b 0 0 0
+readTariff b = readFrom (suc (length b)) b 0 (areasBefore 0)
 
 -- every record before a place that so many areas and stops reach is faultless
-pub record Passed (b : List ℕ) (at areas stops : ℕ) : Type 0 where
-  pub reached : Reached b at areas stops
-  pub area : (i : ℕ) → i < areas → entryAt b (areaPlace i) i 0 ≡ Area
-  pub stop : (j : ℕ) → j < stops → entryAt b (stopPlace areas j) areas j ≡ Stop
+pub record Passed (b : List ℕ) (at : ℕ) (soFar : Counts) : Type 0 where
+  pub reached : Reached b at soFar
+  pub area : (i : ℕ) → i < soFar .areas → entryAt b (areaPlace soFar i) (areasBefore i) ≡ Area
+  pub stop : (j : ℕ) → j < soFar .stops → entryAt b (stopPlace soFar j) (stopsBefore soFar j) ≡ Stop
 
 -- the first faulty record, or the place of a record that is due and missing: all before it is faultless, and it is not
-pub record FirstFault (b : List ℕ) (number at areas stops : ℕ) : Type 0 where
-  pub passed : Passed b at areas stops
-  pub faulty : entryAt b at areas stops ≡ Faulty number
+pub record FirstFault (b : List ℕ) (number at : ℕ) (soFar : Counts) : Type 0 where
+  pub passed : Passed b at soFar
+  pub faulty : entryAt b at soFar ≡ Faulty number
 
 -- kind, body length, order and number of an area record are right
-pub record AreaInPlace (b : List ℕ) (at areas stops : ℕ) : Type 0 where
+pub record AreaInPlace (b : List ℕ) (at : ℕ) (soFar : Counts) : Type 0 where
   pub frame : frameAt b at ≡ Whole 1 25
-  pub none : stops ≡ 0
-  pub few : areas < 32
+  pub none : soFar .stops ≡ 0
+  pub few : soFar .areas < 32
 
 -- kind, body length, order and number of a stop record are right
-pub record StopInPlace (b : List ℕ) (at areas stops : ℕ) : Type 0 where
+pub record StopInPlace (b : List ℕ) (at : ℕ) (soFar : Counts) : Type 0 where
   pub frame : frameAt b at ≡ Whole 2 9
-  pub some : 0 < areas
-  pub few : stops < 1000
+  pub some : 0 < soFar .areas
+  pub few : soFar .stops < 1000
 
 -- fault 1: the tariff has not ended, and the frame is broken
 pub record BrokenFrame (b : List ℕ) (at : ℕ) : Type 0 where
@@ -91,18 +92,18 @@ pub record BrokenFrame (b : List ℕ) (at : ℕ) : Type 0 where
   pub frame : frameAt b at ≡ Broken
 
 -- fault 2: the tariff has ended with no area at all; or the frame is whole, and kind, body length, order or number is wrong
-pub data OutOfPlace (b : List ℕ) (at areas stops : ℕ) : Type 0 where
-  no-area : length b ≤ at → areas ≡ 0 → OutOfPlace b at areas stops
-  wrong : (kind body : ℕ) → frameAt b at ≡ Whole kind body → (AreaInPlace b at areas stops → ⊥) → (StopInPlace b at areas stops → ⊥)
-      → OutOfPlace b at areas stops
+pub data OutOfPlace (b : List ℕ) (at : ℕ) (soFar : Counts) : Type 0 where
+  no-area : length b ≤ at → soFar .areas ≡ 0 → OutOfPlace b at soFar
+  wrong : (kind body : ℕ) → frameAt b at ≡ Whole kind body → (AreaInPlace b at soFar → ⊥) → (StopInPlace b at soFar → ⊥)
+      → OutOfPlace b at soFar
 
 -- fault 3: the frame is whole, kind, body length, order and number are right, and a value breaks a rule
-pub data WrongValue (b : List ℕ) (at areas stops : ℕ) : Type 0 where
-  area-value : AreaInPlace b at areas stops → areaRight b areas (areaFields b at) ≡ false → WrongValue b at areas stops
-  stop-value : StopInPlace b at areas stops → stopRight (stopFields b at) areas ≡ false → WrongValue b at areas stops
+pub data WrongValue (b : List ℕ) (at : ℕ) (soFar : Counts) : Type 0 where
+  area-value : AreaInPlace b at soFar → areaRight b soFar (areaFields b at) ≡ false → WrongValue b at soFar
+  stop-value : StopInPlace b at soFar → stopRight (stopFields b at) (soFar .areas) ≡ false → WrongValue b at soFar
 
 -- what the number of a fault says; there is no other number
-pub data FaultSays (b : List ℕ) (at areas stops number : ℕ) : Type 0 where
-  one : number ≡ 1 → BrokenFrame b at → FaultSays b at areas stops number
-  two : number ≡ 2 → OutOfPlace b at areas stops → FaultSays b at areas stops number
-  three : number ≡ 3 → WrongValue b at areas stops → FaultSays b at areas stops number
+pub data FaultSays (b : List ℕ) (at : ℕ) (soFar : Counts) (number : ℕ) : Type 0 where
+  one : number ≡ 1 → BrokenFrame b at → FaultSays b at soFar number
+  two : number ≡ 2 → OutOfPlace b at soFar → FaultSays b at soFar number
+  three : number ≡ 3 → WrongValue b at soFar → FaultSays b at soFar number

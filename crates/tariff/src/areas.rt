@@ -70,7 +70,7 @@ fn area_of(f: AreaFields) -> Area
 
 pub fn area(tariff: &[u8], counts: Counts, number: usize) -> Area
     requires { ⌜ Read (now tariff) counts × (number < counts .areas) ⌝ }
-    ensures { λ r. ⌜ r ≡ areaAt (now (tariff .entry)) number ⌝ }
+    ensures { λ r. ⌜ r ≡ areaAt (now (tariff .entry)) counts number ⌝ }
 {
     area_of(area_fields(tariff, AREA_SIZE * number))
 }
@@ -78,14 +78,14 @@ pub fn area(tariff: &[u8], counts: Counts, number: usize) -> Area
 // Where the stop records begin.
 pub fn stops_place(counts: Counts) -> usize
     requires { ⌜ counts .areas < 33 ⌝ }
-    ensures { λ r. ⌜ r ≡ stopPlace (counts .areas) 0 ⌝ }
+    ensures { λ r. ⌜ r ≡ stopPlace counts 0 ⌝ }
 {
     AREA_SIZE * counts.areas
 }
 
 pub fn stop(tariff: &[u8], counts: Counts, number: usize) -> Stop
     requires { ⌜ Read (now tariff) counts × (number < counts .stops) ⌝ }
-    ensures { λ r. ⌜ r ≡ stopAt (now (tariff .entry)) (counts .areas) number ⌝ }
+    ensures { λ r. ⌜ r ≡ stopAt (now (tariff .entry)) counts number ⌝ }
 {
     let f = stop_fields(tariff, stops_place(counts) + STOP_SIZE * number);
     Stop {
@@ -98,7 +98,7 @@ pub fn stop(tariff: &[u8], counts: Counts, number: usize) -> Stop
 // The area above an area; the state is its own.
 pub fn parent(tariff: &[u8], counts: Counts, number: usize) -> usize
     requires { ⌜ Read (now tariff) counts × (number < counts .areas) ⌝ }
-    ensures { λ r. ⌜ ParentOf (now (tariff .entry)) (counts .areas) number r ⌝ }
+    ensures { λ r. ⌜ ParentOf (now (tariff .entry)) counts number r ⌝ }
 {
     one_at(tariff, AREA_SIZE * number + PARENT) as usize
 }
@@ -106,7 +106,7 @@ pub fn parent(tariff: &[u8], counts: Counts, number: usize) -> usize
 // An area's level: 0 the state, 1 a region, 2 a city; as many areas lie above it.
 pub fn level(tariff: &[u8], counts: Counts, number: usize) -> u8
     requires { ⌜ Read (now tariff) counts × (number < counts .areas) ⌝ }
-    ensures { λ r. ⌜ r ≡ levelOf (now (tariff .entry)) number ⌝ }
+    ensures { λ r. ⌜ r ≡ levelOf (now (tariff .entry)) counts number ⌝ }
 {
     one_at(tariff, AREA_SIZE * number + LEVEL)
 }
@@ -114,7 +114,7 @@ pub fn level(tariff: &[u8], counts: Counts, number: usize) -> u8
 // An area's bicycle flat.
 pub fn flat(tariff: &[u8], counts: Counts, number: usize) -> Cents
     requires { ⌜ Read (now tariff) counts × (number < counts .areas) ⌝ }
-    ensures { λ r. ⌜ FlatOf (now (tariff .entry)) number (r .0) ⌝ }
+    ensures { λ r. ⌜ FlatOf (now (tariff .entry)) counts number (r .0) ⌝ }
 {
     Cents(two_at(tariff, AREA_SIZE * number + FLAT) as u32)
 }
@@ -122,7 +122,7 @@ pub fn flat(tariff: &[u8], counts: Counts, number: usize) -> Cents
 // Whether an area is, or lies within, another.
 pub fn lies_within(tariff: &[u8], counts: Counts, inner: usize, outer: usize) -> bool
     requires { ⌜ Read (now tariff) counts × (inner < counts .areas) ⌝ }
-    ensures { λ r. ⌜ r ≡ liesWithin (now (tariff .entry)) inner outer ⌝ }
+    ensures { λ r. ⌜ r ≡ liesWithin (now (tariff .entry)) counts inner outer ⌝ }
 {
     let above = parent(tariff, counts, inner);
     (inner == outer) | (above == outer) | (parent(tariff, counts, above) == outer)
@@ -131,7 +131,7 @@ pub fn lies_within(tariff: &[u8], counts: Counts, inner: usize, outer: usize) ->
 // The smallest area that contains two: the walk goes up from the one until the other lies within.
 pub fn smallest_containing(tariff: &[u8], counts: Counts, a: usize, b: usize) -> usize
     requires { ⌜ Read (now tariff) counts × ((a < counts .areas) × (b < counts .areas)) ⌝ }
-    ensures { λ r. ⌜ Smallest (now (tariff .entry)) (counts .areas) a b r ⌝ }
+    ensures { λ r. ⌜ Smallest (now (tariff .entry)) counts a b r ⌝ }
 {
     if lies_within(tariff, counts, b, a) {
         return a;

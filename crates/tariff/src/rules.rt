@@ -1,4 +1,5 @@
 // Which values a record may have: the ranges of the paper, the trip-cap sorts and their zeros, levels, parents and flats.
+use crate::Counts;
 use crate::fields::AREA_SIZE;
 use crate::fields::AreaFields;
 use crate::fields::FLAT;
@@ -7,8 +8,9 @@ use crate::fields::StopFields;
 use wire::one_at;
 use wire::two_at;
 ghost use mathlib.Core.Path.{_≡_};
-ghost use Prim.Native.Nat.{_*_, _≤_};
+ghost use Prim.Native.Nat.{_≤_};
 ghost use lib.ListN.{length};
+ghost use Rattle.tariff.specs.Fields.{areaPlace};
 ghost use Rattle.tariff.specs.Rules.{pricesRight, tripCapRight, capsRight, placeRight, stopRight};
 
 const MONEY: u16 = 60_000;
@@ -50,11 +52,12 @@ pub fn caps_right(f: AreaFields) -> bool
     trip_cap_right(f) & ((f.daycap <= MONEY) | (f.daycap == NO_DAY_CAP)) & (f.flat <= MONEY)
 }
 
-// Area 0 alone has level 0, parent 0. A region's parent is 0; a city's is an earlier region. No flat exceeds the parent's.
-pub fn place_right(b: &[u8], number: usize, f: AreaFields) -> bool
-    requires { ⌜ (29 * number ≤ length (now b)) × (number ≤ 32) ⌝ }
-    ensures { λ r. ⌜ r ≡ placeRight (now (b .entry)) number f ⌝ }
+// The next area after those so far: area 0 alone has level 0, parent 0. A region's parent is 0; a city's is an earlier region. No flat exceeds the parent's.
+pub fn place_right(b: &[u8], so_far: Counts, f: AreaFields) -> bool
+    requires { ⌜ (areaPlace «so_far» («so_far» .areas) ≤ length (now b)) × («so_far» .areas ≤ 32) ⌝ }
+    ensures { λ r. ⌜ r ≡ placeRight (now (b .entry)) «so_far» f ⌝ }
 {
+    let number = so_far.areas;
     if number == 0 {
         return (f.level == 0) & (f.parent == 0);
     }

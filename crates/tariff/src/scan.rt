@@ -35,14 +35,14 @@ pub enum Entry {
     Faulty(u8),
 }
 
-// An area record with a whole frame, after `areas` areas and `stops` stops.
-fn area_entry(b: &[u8], at: usize, areas: usize, stops: usize, body: usize) -> Entry
-    requires { ⌜ Reached (now b) at areas stops × (at + 4 + body ≤ length (now b)) ⌝ }
-    ensures { λ r. ⌜ r ≡ areaEntry (now (b .entry)) at areas stops body ⌝ }
+// An area record with a whole frame, after those so far.
+fn area_entry(b: &[u8], at: usize, so_far: Counts, body: usize) -> Entry
+    requires { ⌜ Reached (now b) at «so_far» × (at + 4 + body ≤ length (now b)) ⌝ }
+    ensures { λ r. ⌜ r ≡ areaEntry (now (b .entry)) at «so_far» body ⌝ }
 {
-    if (body == AREA_BODY) & (stops == 0) & (areas < MOST_AREAS) {
+    if (body == AREA_BODY) & (so_far.stops == 0) & (so_far.areas < MOST_AREAS) {
         let f = area_fields(b, at);
-        if prices_right(f) & caps_right(f) & place_right(b, areas, f) {
+        if prices_right(f) & caps_right(f) & place_right(b, so_far, f) {
             Entry::Area
         } else {
             Entry::Faulty(3)
@@ -52,13 +52,13 @@ fn area_entry(b: &[u8], at: usize, areas: usize, stops: usize, body: usize) -> E
     }
 }
 
-// A stop record with a whole frame, after `areas` areas and `stops` stops.
-fn stop_entry(b: &[u8], at: usize, areas: usize, stops: usize, body: usize) -> Entry
+// A stop record with a whole frame, after those so far.
+fn stop_entry(b: &[u8], at: usize, so_far: Counts, body: usize) -> Entry
     requires { ⌜ at + 4 + body ≤ length (now b) ⌝ }
-    ensures { λ r. ⌜ r ≡ stopEntry (now (b .entry)) at areas stops body ⌝ }
+    ensures { λ r. ⌜ r ≡ stopEntry (now (b .entry)) at «so_far» body ⌝ }
 {
-    if (body == STOP_BODY) & (0 < areas) & (stops < MOST_STOPS) {
-        if stop_right(stop_fields(b, at), areas) {
+    if (body == STOP_BODY) & (0 < so_far.areas) & (so_far.stops < MOST_STOPS) {
+        if stop_right(stop_fields(b, at), so_far.areas) {
             Entry::Stop
         } else {
             Entry::Faulty(3)
@@ -68,13 +68,13 @@ fn stop_entry(b: &[u8], at: usize, areas: usize, stops: usize, body: usize) -> E
     }
 }
 
-// What stands at a place that `areas` areas and `stops` stops reach.
-pub fn entry_at(b: &[u8], at: usize, areas: usize, stops: usize) -> Entry
-    requires { ⌜ Reached (now b) at areas stops ⌝ }
-    ensures { λ r. ⌜ r ≡ entryAt (now (b .entry)) at areas stops ⌝ }
+// What stands at the place that the areas and stops so far reach.
+pub fn entry_at(b: &[u8], at: usize, so_far: Counts) -> Entry
+    requires { ⌜ Reached (now b) at «so_far» ⌝ }
+    ensures { λ r. ⌜ r ≡ entryAt (now (b .entry)) at «so_far» ⌝ }
 {
     if b.len() <= at {
-        if areas == 0 {
+        if so_far.areas == 0 {
             return Entry::Faulty(2);
         }
         return Entry::End;
@@ -83,9 +83,9 @@ pub fn entry_at(b: &[u8], at: usize, areas: usize, stops: usize) -> Entry
         Frame::Broken => Entry::Faulty(1),
         Frame::Whole { kind, body } => {
             if kind == AREA_KIND {
-                area_entry(b, at, areas, stops, body)
+                area_entry(b, at, so_far, body)
             } else if kind == STOP_KIND {
-                stop_entry(b, at, areas, stops, body)
+                stop_entry(b, at, so_far, body)
             } else {
                 Entry::Faulty(2)
             }
@@ -108,26 +108,30 @@ pub fn read_tariff(tariff: &[u8]) -> Reading
     ensures { λ r. ⌜ r ≡ readTariff (now (tariff .entry)) ⌝ }
 {
     let mut at = 0;
-    let mut areas = 0;
-    let mut stops = 0;
+    let mut so_far = Counts { areas: 0, stops: 0 };
     loop {
-        match entry_at(tariff, at, areas, stops) {
+        match entry_at(tariff, at, so_far) {
             Entry::End => {
-                break Reading::Faultless(Counts { areas, stops });
+                break Reading::Faultless(so_far);
             }
             Entry::Faulty(number) => {
                 break Reading::Fault { number, at };
             }
             Entry::Area => {
                 at += AREA_SIZE;
-                areas += 1;
+                so_far.areas += 1;
             }
             Entry::Stop => {
                 at += STOP_SIZE;
-                stops += 1;
-                let rows = rows_standing(tariff, at, areas, rows_due(tariff.len() - at, stops));
+                so_far.stops += 1;
+                let rows = rows_standing(
+                    tariff,
+                    at,
+                    so_far.areas,
+                    rows_due(tariff.len() - at, so_far.stops),
+                );
                 at += ROW_SIZE * rows;
-                stops += ROW_STOPS * rows;
+                so_far.stops += ROW_STOPS * rows;
             }
         }
     }

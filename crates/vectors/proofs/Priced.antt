@@ -25,6 +25,6 @@ rides tariff counts bytes trip read is =
     (record { read = read; known = fields .known-stops; fits = le-of-eq (fields .size) }, record { two = ranges .least; most = ranges .most; times = fields .ordered })
 
 pub priceable : (tariff : List ℕ) (counts : Counts) (bytes : List ℕ) (trip : Trip) (ride : Ride) (area : Area) → Read tariff counts
-    → RideOf tariff (counts .areas) bytes trip ride → area ≡ areaAt tariff (ride .area) → Priceable area ride
+    → RideOf tariff counts bytes trip ride → area ≡ areaAt tariff counts (ride .area) → Priceable area ride
 priceable tariff counts bytes trip ride area read is here =
     record { ranges = rw here (faultless tariff counts read .area (ride .area) (is .there)); minutes = is .minutes; km = is .km }

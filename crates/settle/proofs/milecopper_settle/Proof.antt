@@ -4,7 +4,8 @@
 use native.Mathlib.Omega.{arith}
 use mathlib.Core.Path.{refl, sym, _∙_}
 use borrow.Author.Needs.{needs}
-use Rattle.settle.proofs.Ways.{fault-most, fault-way, unsound-way, refusal-settled}
+use Rattle.tariff.proofs.Faults.{fault-most}
+use Rattle.settle.proofs.Ways.{fault-way, unsound-way, refusal-settled}
 use Rattle.settle.proofs.milecopper_settle.Statement.{statement}
 use Rattle.settle.proofs.milecopper_settle.Tie as tie
 

@@ -14,7 +14,7 @@ use Rattle.book.proofs.charging.charge_bicycles.Tie as tie
 
 abbrev Inv-loop : tie.InvT-loop
 Inv-loop tariff counts book current count amounts₀ from at i₀ amounts i =
-    Filled (λ k. bicycleCharge tariff at (coverWord (inWindow current book) k)) amounts₀ amounts from count i
+    Filled (λ k. bicycleCharge tariff counts at (coverWord (inWindow current book) k)) amounts₀ amounts from count i
 
 abbrev μ-loop : tie.MeasureT-loop
 μ-loop tariff counts book current count amounts₀ from at i₀ amounts i = count - i
@@ -70,7 +70,7 @@ returns : tie.Need-returns Inv-loop μ-loop
 returns c =
     let a = c .before .before .before .before .before .args in
     filled-all (c .before .loop .inv) (c .loop-test .left)
-    ∙ rw (bicycles-listed (a .tariff .now) (inWindow (a .current) (a .book .now)) (a .ride) (a .count))
+    ∙ rw (bicycles-listed (a .tariff .now) (a .counts) (inWindow (a .current) (a .book .now)) (a .ride) (a .count))
 
 pub charge-bicycles-spec : {M : Type 1} → statement M
 charge-bicycles-spec =

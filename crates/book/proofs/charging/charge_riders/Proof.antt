@@ -79,7 +79,7 @@ returns-2 c =
     let a = first .args in
     let p = first .pre .0 in
     let listed =
-    riders-by-chain (a .tariff .now) (inWindow (a .current) (a .book .now)) (a .ride) (faultless _ _ (p .read)) (p .area) (a .child)
+    riders-by-chain (a .tariff .now) (a .counts) (inWindow (a .current) (a .book .now)) (a .ride) (faultless _ _ (p .read)) (p .area) (a .child)
     (a .first) (s .before .before .area .ensures) (s .chain-of .ensures .value) (s .before .price .ensures .value) (a .count)
     in
     filled-all (c .before .loop .inv) (c .loop-test .left) ∙ rw listed

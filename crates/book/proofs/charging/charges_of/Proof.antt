@@ -42,8 +42,8 @@ same-length c = search needs
 returns : tie.Need-returns
 returns c =
     let s = c .before .before .before .before .before .before in (
-      sym (charges-length _ _ _),
-      charges-stored _ _ _ _ (s .before .before .before .before .charge-riders .ensures) (s .charge-riders2 .ensures) (c .before .before .charge-bicycles .ensures),
+      sym (charges-length _ _ _ _),
+      charges-stored _ _ _ _ _ (s .before .before .before .before .charge-riders .ensures) (s .charge-riders2 .ensures) (c .before .before .charge-bicycles .ensures),
     )
 
 pub charges-of-spec : {M : Type 1} → statement M

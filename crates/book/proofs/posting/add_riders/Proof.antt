@@ -10,7 +10,7 @@ use Rattle.book.proofs.posting.add_riders.Tie as tie
 
 abbrev Inv-loop : tie.InvT-loop
 Inv-loop tariff counts book₀ first count amounts from class at i₀ book i =
-    RidersAdded tariff book₀ book amounts first count from class at i
+    RidersAdded tariff counts book₀ book amounts first count from class at i
 
 abbrev μ-loop : tie.MeasureT-loop
 μ-loop tariff counts book₀ first count amounts from class at i₀ book i = count - i

@@ -11,14 +11,14 @@ use Rattle.book.proofs.posting.add_up.Tie as tie
 
 abbrev Inv-loop : tie.InvT-loop
 Inv-loop tariff counts book₀ rider class at amount up₀ above₀ book up above =
-    Climbing tariff book₀ book (counts .areas) rider class at amount up above
+    Climbing tariff counts book₀ book rider class at amount up above
 
 abbrev μ-loop : tie.MeasureT-loop
 μ-loop tariff counts book₀ rider class at amount up₀ above₀ book up above = above
 
 right :
     (s : tie.Start Inv-loop μ-loop)
-    → FaultlessTariff (s .args .tariff .now) (s .args .counts .areas) (s .args .counts .stops)
+    → FaultlessTariff (s .args .tariff .now) (s .args .counts)
 right s = faultless (s .args .tariff .now) (s .args .counts) (s .pre .1 .0 .0)
 
 level-requires : tie.Need-level-requires Inv-loop μ-loop

@@ -10,7 +10,7 @@ use Rattle.book.proofs.posting.cover_bicycles.Statement.{statement}
 use Rattle.book.proofs.posting.cover_bicycles.Tie as tie
 
 abbrev Inv-loop : tie.InvT-loop
-Inv-loop tariff counts book₀ count at i₀ book i = BicyclesCovered tariff book₀ book (counts .areas) count at i
+Inv-loop tariff counts book₀ count at i₀ book i = BicyclesCovered tariff counts book₀ book count at i
 
 abbrev μ-loop : tie.MeasureT-loop
 μ-loop tariff counts book₀ count at i₀ book i = count - i

@@ -12,7 +12,7 @@ use Rattle.fare.proofs.rides.area_of_stops.Tie as tie
 
 abbrev Inv-loop : tie.InvT-loop
 Inv-loop tariff counts trip stops first last area₀ i₀ area i =
-    (first ≤ i) × ((i ≤ last) × AreaOfStops tariff (counts .areas) trip first i area)
+    (first ≤ i) × ((i ≤ last) × AreaOfStops tariff counts trip first i area)
 
 abbrev μ-loop : tie.MeasureT-loop
 μ-loop tariff counts trip stops first last area₀ i₀ area i = last - i
@@ -63,7 +63,7 @@ returns c =
     let start = c .before .before .before .before .before .before .args in
     let at = c .before .loop in
     let end : at .i ≡ start .last = omega arith in
-    subst (λ i. AreaOfStops (start .tariff .now) (start .counts .areas) (start .trip .now) (start .first) i (at .area)) end
+    subst (λ i. AreaOfStops (start .tariff .now) (start .counts) (start .trip .now) (start .first) i (at .area)) end
     (at .inv .1 .1)
 
 pub area-of-stops-spec : {M : Type 1} → statement M

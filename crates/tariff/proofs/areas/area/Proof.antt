@@ -11,7 +11,7 @@ use Rattle.tariff.proofs.Faultless.{area-inside}
 use Rattle.tariff.proofs.areas.area.Statement.{statement}
 use Rattle.tariff.proofs.areas.area.Tie as tie
 
-inside : (c : tie.Start) → areaPlace (c .args .number) + 29 ≤ length (c .args .tariff .now)
+inside : (c : tie.Start) → areaPlace (c .args .counts) (c .args .number) + 29 ≤ length (c .args .tariff .now)
 inside c = area-inside (c .args .tariff .now) (c .args .counts) (c .args .number) (c .pre)
 
 mul-area-fields : tie.Need-mul-area-fields

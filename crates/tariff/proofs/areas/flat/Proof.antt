@@ -10,7 +10,7 @@ use Rattle.tariff.proofs.Faultless.{faultless, area-inside}
 use Rattle.tariff.proofs.areas.flat.Statement.{statement}
 use Rattle.tariff.proofs.areas.flat.Tie as tie
 
-inside : (c : tie.Start) → areaPlace (c .args .number) + 29 ≤ length (c .args .tariff .now)
+inside : (c : tie.Start) → areaPlace (c .args .counts) (c .args .number) + 29 ≤ length (c .args .tariff .now)
 inside c = area-inside (c .args .tariff .now) (c .args .counts) (c .args .number) (c .pre)
 
 mul-two-at : tie.Need-mul-two-at

@@ -14,7 +14,7 @@ parent-requires-2 c κs = search needs
 returns : tie.Need-returns
 returns c =
     let start = c .before .before .before .args in
-    within-found (start .tariff .now) (start .inner) (start .outer) (c .before .parent .result) (c .parent2 .result)
+    within-found (start .tariff .now) (start .counts) (start .inner) (start .outer) (c .before .parent .result) (c .parent2 .result)
     (c .before .parent .ensures .value) (c .parent2 .ensures .value)
 
 pub lies-within-spec : {M : Type 1} → statement M

@@ -10,7 +10,7 @@ use Rattle.tariff.proofs.Within.{parent-there}
 use Rattle.tariff.proofs.areas.parent.Statement.{statement}
 use Rattle.tariff.proofs.areas.parent.Tie as tie
 
-inside : (c : tie.Start) → areaPlace (c .args .number) + 29 ≤ length (c .args .tariff .now)
+inside : (c : tie.Start) → areaPlace (c .args .counts) (c .args .number) + 29 ≤ length (c .args .tariff .now)
 inside c = area-inside (c .args .tariff .now) (c .args .counts) (c .args .number) (c .pre)
 
 mul-one-at : tie.Need-mul-one-at

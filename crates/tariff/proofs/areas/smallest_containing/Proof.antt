@@ -20,7 +20,7 @@ lies-within-requires-2 c κs = search needs
 parent-requires-2 : tie.Need-parent-requires-2
 parent-requires-2 c κs = search needs
 
-tariff : (c : tie.Start) → FaultlessTariff (c .args .tariff .now) (c .args .counts .areas) (c .args .counts .stops)
+tariff : (c : tie.Start) → FaultlessTariff (c .args .tariff .now) (c .args .counts)
 tariff c = faultless (c .args .tariff .now) (c .args .counts) (c .pre .0)
 
 returns : tie.Need-returns

@@ -15,7 +15,7 @@ stops-place-requires c κs =
     let t = faultless (c .before .args .tariff .now) (c .before .args .counts) (c .before .pre .0) in
     omega arith
 
-inside : (c : tie.Start) → stopPlace (c .args .counts .areas) (c .args .number) + 13 ≤ length (c .args .tariff .now)
+inside : (c : tie.Start) → stopPlace (c .args .counts) (c .args .number) + 13 ≤ length (c .args .tariff .now)
 inside c = stop-inside (c .args .tariff .now) (c .args .counts) (c .args .number) (c .pre)
 
 mul-stop-fields : tie.Need-mul-stop-fields
@@ -31,7 +31,7 @@ returns : tie.Need-returns
 unfolding stopAt
 returns c =
     let start = c .before .before .before .args in
-    let place : c .before .stops-place .result + 13 * start .number ≡ stopPlace (start .counts .areas) (start .number) =
+    let place : c .before .stops-place .result + 13 * start .number ≡ stopPlace (start .counts) (start .number) =
     omega (arith, c .before .stops-place .ensures)
     in
     rw (c .stop-fields .ensures, place)

@@ -20,7 +20,7 @@ returns-2 : tie.Need-returns-2
 unfolding placeRight
 returns-2 c =
     let a = c .before .before .before .before .args in
-    rw (ne-eqb (a .number) 0 (omega arith), le-ltb (a .f .parent) (a .number) (omega arith))
+    rw (ne-eqb (a .so-far .areas) 0 (omega arith), le-ltb (a .f .parent) (a .so-far .areas) (omega arith))
 
 mul-above : tie.Need-mul-above
 mul-above c = search needs
@@ -42,8 +42,8 @@ unfolding placeRight areaFields
 returns-3 c =
     let a = c .before .before .before .before .before .before .before .before .before .before .args in
     rw (
-      ne-eqb (a .number) 0 (omega arith),
-      lt-ltb (a .f .parent) (a .number) (omega arith),
+      ne-eqb (a .so-far .areas) 0 (omega arith),
+      lt-ltb (a .f .parent) (a .so-far .areas) (omega arith),
       c .before .before .one-at .ensures .value,
       c .before .two-at .ensures .value,
     )

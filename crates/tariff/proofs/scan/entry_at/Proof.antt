@@ -11,10 +11,10 @@ use Rattle.tariff.proofs.scan.entry_at.Statement.{statement}
 use Rattle.tariff.proofs.scan.entry_at.Tie as tie
 
 returns : tie.Need-returns
-returns c = sym (ended-empty _ _ _ _ (c .before .if1 .taken) (c .if2 .taken))
+returns c = sym (ended-empty _ _ _ (c .before .before .if1 .taken) (c .if2 .taken))
 
 returns-2 : tie.Need-returns-2
-returns-2 c = sym (ended _ _ _ _ (c .before .if1 .taken) (c .if2 .left))
+returns-2 c = sym (ended _ _ _ (c .before .before .if1 .taken) (c .if2 .left))
 
 frame-at-requires : tie.Need-frame-at-requires
 frame-at-requires c κs = search needs
@@ -43,16 +43,16 @@ stop-entry-requires c κs =
     facts .fits
 
 returns-3 : tie.Need-returns-3
-returns-3 c = sym (broken-frame _ _ _ _ (c .before .before .before .if1 .left) (sym (c .before .before .frame-at .ensures) ∙ c .enum-told .given .1))
+returns-3 c = sym (broken-frame _ _ _ (c .before .before .before .if1 .left) (sym (c .before .before .frame-at .ensures) ∙ c .enum-told .given .1))
 
 returns-4 : tie.Need-returns-4
-returns-4 c = c .area-entry .ensures ∙ sym (area-frame _ _ _ _ _ (rw (c .before .if3 .taken) at (frame (c .before .before .before))))
+returns-4 c = c .area-entry .ensures ∙ sym (area-frame _ _ _ _ (rw (c .before .if3 .taken) at (frame (c .before .before .before))))
 
 returns-5 : tie.Need-returns-5
-returns-5 c = c .stop-entry .ensures ∙ sym (stop-frame _ _ _ _ _ (rw (c .before .if4 .taken) at (frame (c .before .before .before .before))))
+returns-5 c = c .stop-entry .ensures ∙ sym (stop-frame _ _ _ _ (rw (c .before .if4 .taken) at (frame (c .before .before .before .before))))
 
 returns-6 : tie.Need-returns-6
-returns-6 c = sym (other-frame _ _ _ _ _ _ (frame (c .before .before .before)) (c .before .if3 .left) (c .if4 .left))
+returns-6 c = sym (other-frame _ _ _ _ _ (frame (c .before .before .before)) (c .before .if3 .left) (c .if4 .left))
 
 pub entry-at-spec : {M : Type 1} → statement M
 entry-at-spec =

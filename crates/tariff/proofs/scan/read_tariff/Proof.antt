@@ -16,10 +16,10 @@ use Rattle.tariff.proofs.scan.read_tariff.Statement.{statement}
 use Rattle.tariff.proofs.scan.read_tariff.Tie as tie
 
 abbrev Inv-loop : tie.InvT-loop
-Inv-loop tariff at₀ areas₀ stops₀ at areas stops = Passed tariff at areas stops
+Inv-loop tariff at₀ soFar₀ at soFar = Passed tariff at soFar
 
 abbrev μ-loop : tie.MeasureT-loop
-μ-loop tariff at₀ areas₀ stops₀ at areas stops = length tariff - at
+μ-loop tariff at₀ soFar₀ at soFar = length tariff - at
 
 loop-holds : tie.Need-loop-holds Inv-loop μ-loop
 loop-holds c = passed-none _
@@ -39,28 +39,26 @@ enum-told-2 c = search needs
 -- an area stands at the loop's place
 area-there :
     (c : tie.After-enum-told2 Inv-loop μ-loop)
-    → entryAt (c .before .before .before .before .before .args .tariff .now) (c .before .before .before .loop .at) (c .before .before .before .loop .areas)
-    (c .before .before .before .loop .stops)
+    → entryAt (c .before .before .before .before .before .args .tariff .now) (c .before .before .before .loop .at) (c .before .before .before .loop .so-far)
     ≡ Area
 area-there c = sym (c .before .before .entry-at .ensures) ∙ c .enum-told2 .given .1
 
 add-at : tie.Need-add-at Inv-loop μ-loop
-add-at c = omega (arith, area-entry _ _ _ _ (area-there c))
+add-at c = omega (arith, area-entry _ _ _ (area-there c))
 
-add-areas : tie.Need-add-areas Inv-loop μ-loop
-add-areas c = omega (arith, area-entry _ _ _ _ (area-there c))
+add-so-far : tie.Need-add-so-far Inv-loop μ-loop
+add-so-far c = omega (arith, area-entry _ _ _ (area-there (c .before)))
 
 loop-less : tie.Need-loop-less Inv-loop μ-loop
-loop-less c = omega (arith, area-entry _ _ _ _ (area-there c))
+loop-less c = omega (arith, area-entry _ _ _ (area-there (c .before)))
 
 loop-again : tie.Need-loop-again Inv-loop μ-loop
-loop-again c = passed-area _ _ _ _ (c .before .before .before .loop .inv) (area-there c)
+loop-again c = passed-area _ _ _ (c .before .before .before .before .loop .inv) (area-there (c .before))
 
 -- a stop stands at the loop's place
 stop-there :
     (c : tie.After-enum-told3 Inv-loop μ-loop)
-    → entryAt (c .before .before .before .before .before .args .tariff .now) (c .before .before .before .loop .at) (c .before .before .before .loop .areas)
-    (c .before .before .before .loop .stops)
+    → entryAt (c .before .before .before .before .before .args .tariff .now) (c .before .before .before .loop .at) (c .before .before .before .loop .so-far)
     ≡ Stop
 stop-there c = sym (c .before .before .entry-at .ensures) ∙ c .enum-told3 .given .1
 
@@ -68,51 +66,50 @@ enum-told-3 : tie.Need-enum-told-3 Inv-loop μ-loop
 enum-told-3 c = search needs
 
 add-at-2 : tie.Need-add-at-2 Inv-loop μ-loop
-add-at-2 c = omega (arith, stop-entry _ _ _ _ (stop-there c))
+add-at-2 c = omega (arith, stop-entry _ _ _ (stop-there c))
 
-add-stops : tie.Need-add-stops Inv-loop μ-loop
-add-stops c = omega (arith, stop-entry _ _ _ _ (stop-there c))
+add-so-far-2 : tie.Need-add-so-far-2 Inv-loop μ-loop
+add-so-far-2 c = omega (arith, stop-entry _ _ _ (stop-there (c .before)))
 
 sub-rows-due : tie.Need-sub-rows-due Inv-loop μ-loop
-sub-rows-due c = omega (arith, stop-entry _ _ _ _ (stop-there c))
+sub-rows-due c = omega (arith, stop-entry _ _ _ (stop-there (c .before)))
 
 rows-due-requires : tie.Need-rows-due-requires Inv-loop μ-loop
-rows-due-requires c κs = omega (arith, stop-entry _ _ _ _ (stop-there c))
+rows-due-requires c κs = omega (arith, stop-entry _ _ _ (stop-there (c .before)))
 
 rows-standing-requires : tie.Need-rows-standing-requires Inv-loop μ-loop
-rows-standing-requires c κs = omega (arith, stop-entry _ _ _ _ (stop-there (c .before)))
+rows-standing-requires c κs = omega (arith, stop-entry _ _ _ (stop-there (c .before .before)))
 
 mul-at : tie.Need-mul-at Inv-loop μ-loop
-mul-at c = omega (arith, stop-entry _ _ _ _ (stop-there (c .before .before)))
+mul-at c = omega (arith, stop-entry _ _ _ (stop-there (c .before .before .before)))
 
 add-at-3 : tie.Need-add-at-3 Inv-loop μ-loop
-add-at-3 c = omega (arith, stop-entry _ _ _ _ (stop-there (c .before .before)))
+add-at-3 c = omega (arith, stop-entry _ _ _ (stop-there (c .before .before .before)))
 
-mul-stops : tie.Need-mul-stops Inv-loop μ-loop
-mul-stops c = omega (arith, stop-entry _ _ _ _ (stop-there (c .before .before)))
+mul-so-far : tie.Need-mul-so-far Inv-loop μ-loop
+mul-so-far c = omega (arith, stop-entry _ _ _ (stop-there (c .before .before .before)))
 
-add-stops-2 : tie.Need-add-stops-2 Inv-loop μ-loop
-add-stops-2 c = omega (arith, stop-entry _ _ _ _ (stop-there (c .before .before)))
+add-so-far-3 : tie.Need-add-so-far-3 Inv-loop μ-loop
+add-so-far-3 c = omega (arith, stop-entry _ _ _ (stop-there (c .before .before .before .before)))
 
 loop-less-2 : tie.Need-loop-less-2 Inv-loop μ-loop
-loop-less-2 c = omega (arith, stop-entry _ _ _ _ (stop-there (c .before .before)))
+loop-less-2 c = omega (arith, stop-entry _ _ _ (stop-there (c .before .before .before .before)))
 
 loop-again-2 : tie.Need-loop-again-2 Inv-loop μ-loop
 loop-again-2 c =
-    let here = stop-there (c .before .before) in
-    let facts = stop-entry _ _ _ _ here in
-    rw (c .rows-standing .ensures .0)
-    (passed-rows _ _ (facts .some)
-    (c .before .rows-due .result) _ _ (omega arith) (omega arith)
-    (passed-stop _ _ _ _ (c .before .before .before .before .before .loop .inv) here))
+    let here = stop-there (c .before .before .before .before) in
+    let facts = stop-entry _ _ _ here in
+    rw (c .before .rows-standing .ensures .0)
+    (passed-rows _ (c .before .before .rows-due .result) _ _ (facts .some) (omega arith) (omega arith)
+    (passed-stop _ _ _ (c .before .before .before .before .before .before .before .loop .inv) here))
 
 returns : tie.Need-returns Inv-loop μ-loop
-returns c = sym (at-end _ _ _ _ (c .before .before .before .loop .inv) (sym (c .before .before .entry-at .ensures) ∙ c .enum-told .given .1))
+returns c = sym (at-end _ _ _ (c .before .before .before .loop .inv) (sym (c .before .before .entry-at .ensures) ∙ c .enum-told .given .1))
 
 returns-2 : tie.Need-returns-2 Inv-loop μ-loop
 returns-2 c =
     sym
-    (at-fault _ _ _ _ _
+    (at-fault _ _ _ _
     (record { passed = c .before .before .before .before .loop .inv; faulty = sym (c .before .before .before .entry-at .ensures) ∙ c .before .number .given .1 }))
 
 pub read-tariff-spec : {M : Type 1} → statement M
@@ -127,19 +124,19 @@ read-tariff-spec =
     enum-known-number
     enum-told-2
     add-at
-    add-areas
+    add-so-far
     loop-less
     loop-again
     enum-told-3
     add-at-2
-    add-stops
+    add-so-far-2
     sub-rows-due
     rows-due-requires
     rows-standing-requires
     mul-at
     add-at-3
-    mul-stops
-    add-stops-2
+    mul-so-far
+    add-so-far-3
     loop-less-2
     loop-again-2
     returns
