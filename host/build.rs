@@ -43,7 +43,6 @@ fn plant(package: &Path, out: &Path) {
         for file in model_files(package) {
             let file_name = file.file_name().and_then(|name| name.to_str()).expect("a file's name");
             let mut text = fs::read_to_string(&file).expect("a file of the model");
-            text = text.replace("#[cfg(test)]\nmod tests;\n", "");
             for (_, from, to) in edits.iter().filter(|edit| edit.0 == file_name) {
                 assert_eq!(text.matches(from).count(), 1, "{name}: the text to replace in {file_name}");
                 text = text.replace(from, to);
@@ -68,5 +67,5 @@ fn plant(package: &Path, out: &Path) {
 fn model_files(package: &Path) -> Vec<PathBuf> {
     let directory = fs::read_dir(package.join("src/model")).expect("the model's directory");
     let files = directory.map(|entry| entry.expect("an entry").path());
-    files.filter(|file| file.is_file() && !file.ends_with("tests.rs")).chain([package.join("src/model.rs")]).collect()
+    files.chain([package.join("src/model.rs")]).collect()
 }

@@ -24,7 +24,7 @@ mod tariffs;
 pub mod trips;
 
 pub use options::{Options, USAGE};
-pub use run::{number_of, Difference, Settle};
+pub use run::{number_of, settle_by_the_model, Difference, Settle};
 
 use random::Random;
 use run::Run;

@@ -5,12 +5,14 @@
 //! - [`numbers`] reads and puts little-endian numbers, for both.
 //! - [`answer`] takes the number that settling answers apart.
 //! - `library` (feature `library`) is settling by the library, in safe Rust.
+//! - [`examples`] runs the examples of samples/ on anything that settles.
 //! - [`differential`] compares the library with the model on many cases.
 //! - `stack` (feature `library`) paints the stack that a call of the library runs on.
 //! - `planted` (feature `planted`) holds copies of the model with an error in each, to show that the comparison finds it.
 
 pub mod answer;
 pub mod differential;
+pub mod examples;
 #[cfg(feature = "library")]
 pub mod library;
 pub mod maker;

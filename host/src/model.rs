@@ -20,9 +20,6 @@ pub mod roll;
 pub mod tariff;
 pub mod trip;
 
-#[cfg(test)]
-mod tests;
-
 use book::{Book, TRIPS_IN_A_WINDOW};
 use charge::{charges_of, window_for, ChargeRecord};
 use clock::MINUTES_IN_A_DAY;

@@ -145,3 +145,8 @@ pub fn number_of(answer: Result<usize, Refusal>) -> u64 {
         Err(Refusal { number, place }) => (u64::from(number) << 32) + u64::from(place),
     }
 }
+
+/// The model, called as the library is.
+pub fn settle_by_the_model(tariff: &[u8], book: &mut [u8], trip: &[u8], statement: &mut [u8]) -> u64 {
+    number_of(model::settle(tariff, book, trip, statement))
+}

@@ -1,116 +1,274 @@
-//! Case files: sections of records, each with the output lines expected after it.
+//! Case files: sections of records, each with the lines that are expected of it.
 //!
 //! ```text
 //! tariff:        # the records that follow are one tariff
 //! area ..
+//! = tariff faultless, areas 1 stops 0
 //! fresh:         # a fresh book, no record
 //! price:         # the one trip that follows is only priced
 //! trip ..
-//! = 347
+//! = area 6 km 6 min 20 price 347 child 174
 //! settle:        # the one trip that follows is settled
 //! trip ..
-//! = 526920 2 3 8 221
+//! = open 526920 area 2 km 3 min 8 cents 221
 //! ```
 //!
-//! A section's records end at the next line that ends in ':' or starts with '='. The text of a '=' line is taken as it
-//! stands, without one blank after the '='. For a trip that does not fill its slice, `bytes` may stand beside the record.
+//! A section's records end at the next line that ends in ':' or starts with '=', 'but' or 'then'. The text of a '='
+//! line is taken as it stands, without one blank after the '='. For a trip that does not fill its slice, `bytes` may
+//! stand beside the record.
 //!
-//! The input made of it has for each section a tag byte, the length of its bytes in 4 bytes, and its bytes; the output
-//! has the expected lines.
+//! These are what the program `vectors` knows: for each section its input has a tag byte, the length of its bytes in 4
+//! bytes, and its bytes; its output has the expected lines. Examples have more:
+//!
+//! ```text
+//! sample:        # the tariff of samples/tariff.txt
+//! book:          # a book: all words are 0 but these; `length` gives it as many bytes
+//! word 0 256
+//! = book sound
+//! words:         # the book's words that are not 0
+//! = 0:256
+//! settle:
+//! room 16        # bytes of the statement
+//! trip .. class 2 .. stops 0 1
+//! = refused 12 at 0
+//! but class 2 -> class 3 = refused 6 at 0
+//! then class 2 -> class 1, stops 0 1 -> stops 0 2 = cents 345
+//! roll:          # the records that follow are a roll
+//! trip ..
+//! ```
+//!
+//! `but` offers the section once more with texts of it replaced, instead of it: on the tariff and the book that it
+//! found, and without a trace. `then` offers it after what stands before. Each text stands once in the section. Of such
+//! a line's answer only the end is given, or `accepted` for any that is no refusal.
 
 use super::records::Records;
-use super::{lines_of, without_comment, Fault};
+use super::words::Words;
+use super::{bytes_of, lines_of, without_comment, Fault};
+use crate::model::book::BOOK_BYTES;
 use crate::numbers::put;
 
-/// A sort of section: its name, its tag byte, and what it holds.
-struct Sort {
-    name: &'static str,
-    tag: u8,
-    holds: Holds,
+/// A sort of section.
+#[derive(Clone, Copy, Debug, PartialEq, Eq)]
+pub enum Sort {
+    Tariff,
+    Sample,
+    Price,
+    Settle,
+    Fresh,
+    Book,
+    Words,
+    Roll,
 }
 
-#[derive(PartialEq)]
-enum Holds {
-    Records,
-    OneTrip,
-    Nothing,
-}
-
-const SORTS: [Sort; 4] = [
-    Sort { name: "tariff:", tag: b'T', holds: Holds::Records },
-    Sort { name: "price:", tag: b'P', holds: Holds::OneTrip },
-    Sort { name: "settle:", tag: b'S', holds: Holds::OneTrip },
-    Sort { name: "fresh:", tag: b'B', holds: Holds::Nothing },
+const SORTS: [(&str, Sort); 8] = [
+    ("tariff:", Sort::Tariff),
+    ("sample:", Sort::Sample),
+    ("price:", Sort::Price),
+    ("settle:", Sort::Settle),
+    ("fresh:", Sort::Fresh),
+    ("book:", Sort::Book),
+    ("words:", Sort::Words),
+    ("roll:", Sort::Roll),
 ];
 
-/// What a case file gives.
+impl Sort {
+    fn name(self) -> &'static str {
+        SORTS.iter().find(|(_, sort)| *sort == self).map_or("", |(name, _)| name)
+    }
+
+    /// What the program `vectors` knows it by.
+    fn tag(self) -> Option<u8> {
+        match self {
+            Sort::Tariff => Some(b'T'),
+            Sort::Price => Some(b'P'),
+            Sort::Settle => Some(b'S'),
+            Sort::Fresh => Some(b'B'),
+            _ => None,
+        }
+    }
+}
+
+/// A section, and what is offered besides.
+#[derive(Clone, Debug, PartialEq, Eq)]
+pub struct Section {
+    pub line: usize,
+    pub sort: Sort,
+    pub content: Content,
+    pub expected: Vec<String>,
+    pub variants: Vec<Variant>,
+}
+
+/// What a section's lines give.
+#[derive(Clone, Debug, PartialEq, Eq)]
+pub struct Content {
+    pub bytes: Vec<u8>,
+    /// Bytes of the statement, if that was said.
+    pub room: Option<usize>,
+}
+
+/// A `but` or a `then`.
+#[derive(Clone, Debug, PartialEq, Eq)]
+pub struct Variant {
+    pub line: usize,
+    pub leaves_a_trace: bool,
+    pub content: Content,
+    /// The end of the line that is expected.
+    pub end: String,
+}
+
+/// A section as it stands in the text.
+struct Draft<'a> {
+    line: usize,
+    sort: Sort,
+    lines: Vec<(usize, String)>,
+    expected: Vec<String>,
+    /// Each with its line, and whether it leaves a trace.
+    variants: Vec<(usize, bool, &'a str)>,
+}
+
+/// The sections of a case file.
+pub fn sections_of(text: &str) -> Result<Vec<Section>, Fault> {
+    let mut drafts: Vec<Draft> = Vec::new();
+    for (line, content) in lines_of(text) {
+        let fault = |text: &str| Fault { line, text: text.to_string() };
+        let bare = without_comment(content);
+        let (first, rest) = bare.split_once(' ').unwrap_or((bare, ""));
+        if let Some(expected) = content.trim_start().strip_prefix('=') {
+            let draft = drafts.last_mut().ok_or_else(|| fault("an expected line before any section"))?;
+            draft.expected.push(expected.strip_prefix(' ').unwrap_or(expected).to_string());
+        } else if bare.ends_with(':') {
+            let sort = SORTS.iter().find(|(name, _)| *name == bare).map(|(_, sort)| *sort);
+            let sort = sort.ok_or_else(|| fault(&format!("'{bare}' is no sort of section")))?;
+            drafts.push(Draft { line, sort, lines: Vec::new(), expected: Vec::new(), variants: Vec::new() });
+        } else if first == "but" || first == "then" {
+            let draft = drafts.last_mut().ok_or_else(|| fault("a variant before any section"))?;
+            draft.variants.push((line, first == "then", rest));
+        } else if !bare.is_empty() {
+            let open = |draft: &&mut Draft| draft.expected.is_empty() && draft.variants.is_empty();
+            let draft = drafts.last_mut().filter(open).ok_or_else(|| fault("a record outside a section"))?;
+            draft.lines.push((line, bare.to_string()));
+        }
+    }
+    drafts.into_iter().map(Draft::section).collect()
+}
+
+impl Draft<'_> {
+    fn section(self) -> Result<Section, Fault> {
+        let content = content_of(self.sort, self.line, &self.lines)?;
+        let variants = self.variants.iter().map(|variant| self.variant(variant)).collect::<Result<_, _>>()?;
+        Ok(Section { line: self.line, sort: self.sort, content, expected: self.expected, variants })
+    }
+
+    fn variant(&self, &(line, leaves_a_trace, text): &(usize, bool, &str)) -> Result<Variant, Fault> {
+        let fault = |text: String| Fault { line, text };
+        let (changes, end) = text.split_once('=').ok_or_else(|| fault("what is expected is missing".to_string()))?;
+        let mut lines = self.lines.clone();
+        for change in changes.split(", ").filter(|change| !change.trim().is_empty()) {
+            let (from, to) =
+                change.split_once("->").ok_or_else(|| fault(format!("'{}' replaces nothing", change.trim())))?;
+            let (from, to) = (from.trim(), to.trim());
+            if lines.iter().map(|(_, text)| text.matches(from).count()).sum::<usize>() != 1 {
+                return Err(fault(format!("'{from}' does not stand there once")));
+            }
+            lines.iter_mut().for_each(|(_, text)| *text = text.replace(from, to));
+        }
+        let content = content_of(self.sort, line, &lines).map_err(|Fault { text, .. }| fault(text))?;
+        Ok(Variant { line, leaves_a_trace, content, end: end.trim().to_string() })
+    }
+}
+
+/// What the lines of a section that starts at this line give.
+fn content_of(sort: Sort, line: usize, lines: &[(usize, String)]) -> Result<Content, Fault> {
+    let fault = |text: &str| Fault { line, text: format!("{} {text}", sort.name()) };
+    let mut room = None;
+    let mut records = Records::default();
+    match sort {
+        Sort::Sample | Sort::Fresh | Sort::Words if !lines.is_empty() => return Err(fault("takes no record")),
+        Sort::Sample => return Ok(Content { bytes: bytes_of(include_str!("../../../samples/tariff.txt"))?, room }),
+        Sort::Book => return Ok(Content { bytes: book_of(lines)?, room }),
+        _ => (),
+    }
+    for (line, text) in lines {
+        match text.strip_prefix("room ") {
+            Some(bytes) if sort == Sort::Settle => room = Some(numbers(*line, bytes, ["room"])?[0]),
+            _ => records.take(*line, text)?,
+        }
+    }
+    match sort {
+        Sort::Price | Sort::Settle if records.is_without_lines() => Err(fault("has no record")),
+        Sort::Price | Sort::Settle if records.whole_records() > 1 => Err(fault("takes one record")),
+        _ => Ok(Content { bytes: records.finish()?, room }),
+    }
+}
+
+/// A book with these words.
+fn book_of(lines: &[(usize, String)]) -> Result<Vec<u8>, Fault> {
+    let mut book = vec![0; BOOK_BYTES];
+    for &(line, ref text) in lines {
+        match text.split_once(' ').unwrap_or((text, "")) {
+            ("word", rest) => {
+                let [place, word] = numbers(line, rest, ["the word's number", "the word"])?;
+                let bytes = book.get_mut(4 * place..4 * place + 4);
+                let bytes = bytes.ok_or(Fault { line, text: format!("a book has no word {place}") })?;
+                bytes.copy_from_slice(&(word as u32).to_le_bytes());
+            }
+            ("length", rest) => book.resize(numbers(line, rest, ["the book's length"])?[0], 0),
+            (other, _) => return Err(Fault { line, text: format!("'{other}' is no line of a book") }),
+        }
+    }
+    Ok(book)
+}
+
+/// The numbers that a text gives, and no more than these.
+fn numbers<const N: usize>(line: usize, text: &str, what: [&str; N]) -> Result<[usize; N], Fault> {
+    let mut words = Words::of(text);
+    let mut read = || -> Result<[usize; N], String> {
+        let mut numbers = [0; N];
+        for (number, what) in numbers.iter_mut().zip(what) {
+            *number = words.number(what, 4)? as usize;
+        }
+        words.end()?;
+        Ok(numbers)
+    };
+    read().map_err(|text| Fault { line, text })
+}
+
+/// What the program `vectors` reads, and what it prints.
 #[derive(Clone, Debug, Default, PartialEq, Eq)]
 pub struct Cases {
     pub input: Vec<u8>,
     pub output: Vec<u8>,
 }
 
-/// A section whose records are still being taken.
-struct Section {
-    line: usize,
-    sort: &'static Sort,
-    records: Records,
-}
-
-/// The input and the expected output of a case file.
+/// The program's input and output for a case file that has no more than it knows.
 pub fn cases_of(text: &str) -> Result<Cases, Fault> {
     let mut cases = Cases::default();
-    let mut section: Option<Section> = None;
-    let mut any_section = false;
-    for (line, content) in lines_of(text) {
-        let fault = |text: &str| Fault { line, text: text.to_string() };
-        let bare = without_comment(content);
-        if let Some(expected) = content.trim_start().strip_prefix('=') {
-            if !any_section {
-                return Err(fault("an expected line before any section"));
-            }
-            cases.close(section.take())?;
-            cases.expect(expected.strip_prefix(' ').unwrap_or(expected));
-        } else if bare.ends_with(':') {
-            cases.close(section.take())?;
-            let sort = SORTS.iter().find(|sort| sort.name == bare);
-            let sort = sort.ok_or_else(|| fault(&format!("'{bare}' is no sort of section")))?;
-            section = Some(Section { line, sort, records: Records::default() });
-            any_section = true;
-        } else if !bare.is_empty() {
-            let open = section.as_mut().ok_or_else(|| fault("a record outside a section"))?;
-            open.records.take(line, bare)?;
+    for Section { line, sort, content: Content { bytes, room }, expected, variants } in sections_of(text)? {
+        let tag = sort.tag().filter(|_| room.is_none() && variants.is_empty());
+        let tag = tag.ok_or(Fault { line, text: format!("{} is not as the program knows it", sort.name()) })?;
+        put(&mut cases.input, 1, u64::from(tag));
+        put(&mut cases.input, 4, bytes.len() as u64);
+        cases.input.extend(bytes);
+        for line in expected {
+            cases.output.extend(line.as_bytes());
+            cases.output.push(b'\n');
         }
     }
-    cases.close(section.take())?;
     Ok(cases)
 }
 
-impl Cases {
-    /// Writes the section's tag, length and bytes, if one is open.
-    fn close(&mut self, section: Option<Section>) -> Result<(), Fault> {
-        let Some(Section { line, sort, records }) = section else {
-            return Ok(());
-        };
-        let fault = |text: &str| Fault { line, text: format!("{} {text}", sort.name) };
-        match sort.holds {
-            Holds::Nothing if !records.is_without_lines() => return Err(fault("takes no record")),
-            Holds::OneTrip if records.is_without_lines() => return Err(fault("has no record")),
-            Holds::OneTrip if records.whole_records() > 1 => return Err(fault("takes one record")),
+/// A tariff and a roll for each roll of a case file, those offered besides included.
+pub fn rolls_of(text: &str) -> Result<Vec<(Vec<u8>, Vec<u8>)>, Fault> {
+    let (mut tariff, mut rolls) = (Vec::new(), Vec::new());
+    for Section { sort, content, variants, .. } in sections_of(text)? {
+        match sort {
+            Sort::Tariff | Sort::Sample => tariff = content.bytes,
+            Sort::Roll => {
+                let variants = variants.into_iter().map(|variant| variant.content);
+                rolls.extend([content].into_iter().chain(variants).map(|content| (tariff.clone(), content.bytes)));
+            }
             _ => (),
         }
-        let bytes = records.finish()?;
-        if bytes.len() > u32::MAX as usize {
-            return Err(fault("is too long"));
-        }
-        put(&mut self.input, 1, u64::from(sort.tag));
-        put(&mut self.input, 4, bytes.len() as u64);
-        self.input.extend(bytes);
-        Ok(())
     }
-
-    fn expect(&mut self, line: &str) {
-        self.output.extend(line.as_bytes());
-        self.output.push(b'\n');
-    }
+    Ok(rolls)
 }

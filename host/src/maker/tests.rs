@@ -1,6 +1,6 @@
 //! Tests of the maker.
 
-use super::cases::cases_of;
+use super::cases::{cases_of, rolls_of, sections_of, Content, Sort, Variant};
 use super::compare::difference;
 use super::*;
 
@@ -192,9 +192,46 @@ fn faults_of_a_case_file() {
         ("settle:", "line 1: settle: has no record"),
         ("settle:\nrecord 3\nrecord 3", "line 1: settle: takes one record"),
         ("price:\nrepeat 2\nrecord 3", "line 1: price: takes one record"),
+        ("but 1 -> 2 = 3", "line 1: a variant before any section"),
+        ("settle:\nrecord 3\nbut record 3 -> record 4", "line 3: what is expected is missing"),
+        ("settle:\nrecord 3\nbut record 3 = 3", "line 3: 'record 3' replaces nothing"),
+        ("settle:\nrecord 3\nbut record 4 -> record 3 = 3", "line 3: 'record 4' does not stand there once"),
+        ("settle:\nrecord 3 00 00\nbut 00 -> 01 = 3", "line 3: '00' does not stand there once"),
+        ("settle:\nrecord 3\nthen record 3 -> route = 3", "line 3: 'route' is no sort of line"),
+        ("settle:\nrecord 3\nbut record 3 -> record 4 = 3\nrecord 3", "line 4: a record outside a section"),
+        ("settle:\nroom x\nrecord 3", "line 2: room 'x' is not a number"),
+        ("book:\nrecord 3", "line 2: 'record' is no line of a book"),
+        ("book:\nword 1357 1", "line 2: a book has no word 1357"),
+        ("book:\nword 3 7 7", "line 2: '7' is one word too many"),
+        ("words:\nrecord 3", "line 1: words: takes no record"),
+        // What only examples have.
+        ("sample:", "line 1: sample: is not as the program knows it"),
+        ("settle:\nroom 16\nrecord 3", "line 1: settle: is not as the program knows it"),
+        ("settle:\nrecord 3\nbut = 3", "line 1: settle: is not as the program knows it"),
     ] {
         assert_eq!(case_fault(text), told);
     }
+}
+
+#[test]
+fn variants_of_a_section() {
+    let text =
+        "settle:\nroom 16\nrecord 3 07\n= refused 12 at 0\nbut 07 -> 08, room 16 -> room 17 = accepted # so\nthen = x";
+    let [section] = &sections_of(text).expect("a case file")[..] else { panic!("one section") };
+    assert_eq!((section.line, section.sort, section.expected[0].as_str()), (1, Sort::Settle, "refused 12 at 0"));
+    assert_eq!(section.content, Content { bytes: vec![3, 0, 3, 0, 7], room: Some(16) });
+    let but = Content { bytes: vec![3, 0, 3, 0, 8], room: Some(17) };
+    let variant =
+        |line, leaves_a_trace, content, end: &str| Variant { line, leaves_a_trace, content, end: end.to_string() };
+    assert_eq!(section.variants, [variant(5, false, but, "accepted"), variant(6, true, section.content.clone(), "x")]);
+}
+
+#[test]
+fn books_and_rolls() {
+    let sections = sections_of("book:\nword 1 258\nword 0 7\nlength 9").expect("a case file");
+    assert_eq!(sections[0].content.bytes, [7, 0, 0, 0, 2, 1, 0, 0, 0]);
+    let rolls = rolls_of("tariff:\nbytes 01\nroll:\nbytes 02\nbut 02 -> 03 = x\ntariff:\nroll:").expect("a case file");
+    assert_eq!(rolls, [(vec![1], vec![2]), (vec![1], vec![3]), (vec![], vec![])]);
 }
 
 #[test]

@@ -1,8 +1,8 @@
 //! Those that settle, measured side by side.
 
 use crate::tuned;
-use milecopper_host::differential::{number_of, Settle};
-use milecopper_host::{library, model};
+use milecopper_host::differential::{settle_by_the_model, Settle};
+use milecopper_host::library;
 
 pub struct Side {
     pub name: &'static str,
@@ -19,7 +19,7 @@ pub const TUNED: usize = 2;
 
 static ALL: [Side; 3] = [
     Side { name: "library", settle: library::settle_to_number },
-    Side { name: "plain", settle: plain },
+    Side { name: "plain", settle: settle_by_the_model },
     Side { name: "tuned", settle: tuned::settle },
 ];
 
@@ -30,10 +30,6 @@ pub fn sides(with_tuned: bool) -> &'static [Side] {
     } else {
         &ALL[..TUNED]
     }
-}
-
-fn plain(tariff: &[u8], book: &mut [u8], trip: &[u8], statement: &mut [u8]) -> u64 {
-    number_of(model::settle(tariff, book, trip, statement))
 }
 
 /// Does nothing: what is left is what measuring itself costs.

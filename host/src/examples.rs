@@ -1,0 +1,189 @@
+//! Examples, run on anything that settles: samples/vectors.txt and samples/examples.txt, whose form
+//! [`crate::maker::cases`] tells. What is printed comes of settling alone, and each settling is looked at besides: a
+//! refusal leaves book and statement as they are, and no byte behind a charge record is written.
+
+use crate::answer::Answer;
+use crate::differential::Settle;
+use crate::maker::bytes_of;
+use crate::maker::cases::{sections_of, Content, Section, Sort};
+use crate::model::book::BOOK_BYTES;
+use crate::model::charge::ChargeRecord;
+use crate::numbers::number;
+
+/// The files, by name.
+pub const FILES: [(&str, &str); 2] = [
+    ("vectors.txt", include_str!("../../samples/vectors.txt")),
+    ("examples.txt", include_str!("../../samples/examples.txt")),
+];
+
+/// What settles a roll: tariff, roll, and the text that is printed.
+pub type SettleRoll = fn(&[u8], &[u8]) -> String;
+
+/// Room for the largest charge record.
+const LARGEST_RECORD: usize = 137;
+
+/// Runs a file, its rolls only where something settles them. The answer is how many were offered; an error tells the
+/// first of which something else came than was expected.
+pub fn run(text: &str, settle: Settle, roll: Option<SettleRoll>) -> Result<usize, String> {
+    let mut desk = Desk { settle, roll, tariff: Vec::new(), book: vec![0; BOOK_BYTES], line: 0 };
+    let sections = sections_of(text).map_err(|fault| fault.to_string())?;
+    let sections = sections.iter().filter(|section| section.sort != Sort::Roll || roll.is_some());
+    sections.map(|section| desk.run(section)).sum()
+}
+
+/// A tariff and a book on which trips are settled one after another.
+struct Desk {
+    settle: Settle,
+    roll: Option<SettleRoll>,
+    tariff: Vec<u8>,
+    book: Vec<u8>,
+    /// Of the example that is run.
+    line: usize,
+}
+
+impl Desk {
+    /// Offers a section and its variants.
+    fn run(&mut self, section: &Section) -> Result<usize, String> {
+        let found = self.book.clone();
+        self.line = section.line;
+        let printed = self.offer(section.sort, &section.content);
+        let expected = section.expected.join("\n");
+        if printed.trim_end() != expected {
+            return Err(format!("line {}: printed was\n{printed}\nand not\n{expected}", section.line));
+        }
+        for variant in &section.variants {
+            let left = (self.tariff.clone(), self.book.clone());
+            if !variant.leaves_a_trace {
+                self.book.clone_from(&found);
+            }
+            self.line = variant.line;
+            let printed = self.offer(section.sort, &variant.content);
+            if !ends(printed.trim_end(), &variant.end) {
+                return Err(format!("line {}: printed was\n{printed}\nand not .. {}", variant.line, variant.end));
+            }
+            if !variant.leaves_a_trace {
+                (self.tariff, self.book) = left;
+            }
+        }
+        Ok(1 + section.variants.len())
+    }
+
+    /// What comes of a section, as text.
+    fn offer(&mut self, sort: Sort, content: &Content) -> String {
+        let bytes = &content.bytes;
+        match sort {
+            Sort::Tariff | Sort::Sample => {
+                self.tariff.clone_from(bytes);
+                self.tariff_line()
+            }
+            Sort::Price => self.price_line(bytes),
+            Sort::Settle => {
+                let mut book = self.book.clone();
+                let settled = self.settled(&self.tariff, &mut book, bytes, content.room.unwrap_or(LARGEST_RECORD));
+                self.book = book;
+                match settled {
+                    Ok(ChargeRecord { opening, area, km, minutes, charges }) => {
+                        let cents: Vec<String> = charges.iter().map(u64::to_string).collect();
+                        format!("open {opening} area {area} km {km} min {minutes} cents {}", cents.join(" "))
+                    }
+                    Err((number, place)) => format!("refused {number} at {place}"),
+                }
+            }
+            Sort::Fresh => {
+                self.book = vec![0; BOOK_BYTES];
+                String::new()
+            }
+            Sort::Book => {
+                self.book.clone_from(bytes);
+                match self.fault_of(&self.book, &[]) {
+                    1..=3 => "no tariff".to_string(),
+                    4 => "book refused 4".to_string(),
+                    _ => "book sound".to_string(),
+                }
+            }
+            Sort::Words => {
+                let words = self.book.chunks(4).map(number).enumerate().filter(|&(_, word)| word != 0);
+                words.map(|(place, word)| format!("{place}:{word}")).collect::<Vec<String>>().join(" ")
+            }
+            Sort::Roll => self.roll.map_or(String::new(), |roll| roll(&self.tariff, bytes)),
+        }
+    }
+
+    /// The charge record, or the refusal's number and place. What has to stay is looked at.
+    fn settled(&self, tariff: &[u8], book: &mut [u8], trip: &[u8], room: usize) -> Result<ChargeRecord, (u32, u32)> {
+        let blank: Vec<u8> = (0..room).map(|place| 0x5b ^ place as u8).collect();
+        let (before, mut statement) = (book.to_vec(), blank.clone());
+        let number = (self.settle)(tariff, book, trip, &mut statement);
+        let line = self.line;
+        match Answer::of(number).unwrap_or_else(|| panic!("line {line}: {number} was answered, which is no answer")) {
+            Answer::Accepted { bytes } => {
+                let (record, behind) = statement.split_at(bytes as usize);
+                assert_eq!(behind, &blank[bytes as usize..], "line {line}: a byte behind the record was written");
+                Ok(ChargeRecord::read(record).expect("a charge record was written"))
+            }
+            Answer::Refused { refusal, place } => {
+                assert!(book == before, "line {line}: refusal {} changed the book", refusal as u32);
+                assert!(statement == blank, "line {line}: refusal {} changed the statement", refusal as u32);
+                Err((refusal as u32, place))
+            }
+        }
+    }
+
+    /// The number of the refusal of this trip on this book where the statement has no room.
+    fn fault_of(&self, book: &[u8], trip: &[u8]) -> u32 {
+        self.settled(&self.tariff, &mut book.to_vec(), trip, 0).expect_err("there is no room").0
+    }
+
+    /// A faultless tariff's areas are those that a bicycle's word may name, its stops those that a trip may.
+    fn tariff_line(&self) -> String {
+        match self.settled(&self.tariff, &mut [], &[], 0) {
+            Err((4, _)) => {
+                let is_area = |area: &u8| self.fault_of(&used_book(*area), &[]) != 4;
+                let is_stop = |stop: &usize| self.fault_of(&[0; BOOK_BYTES], &trip_between(*stop)) != 7;
+                let (areas, stops) = ((1..).take_while(is_area).count(), (0..).take_while(is_stop).count());
+                format!("tariff faultless, areas {areas} stops {stops}")
+            }
+            Err((number, place)) => format!("tariff refused {number} at {place}"),
+            Ok(_) => unreachable!("a book of no bytes is refused"),
+        }
+    }
+
+    /// The price is what is charged on a fresh book where no area has a day cap.
+    fn price_line(&self, trip: &[u8]) -> String {
+        match self.fault_of(&[0; BOOK_BYTES], trip) {
+            1..=3 => return "no tariff".to_string(),
+            12 => (),
+            number => return format!("refused {number}"),
+        }
+        let mut tariff = self.tariff.clone();
+        for area in tariff.chunks_mut(29).take_while(|record| record[2] == 1) {
+            area[25..27].fill(0xff);
+        }
+        let mut with_a_child = trip.to_vec();
+        with_a_child[18..21].copy_from_slice(&[0, 1, 0]);
+        let settled = self.settled(&tariff, &mut [0; BOOK_BYTES], &with_a_child, LARGEST_RECORD);
+        let ChargeRecord { area, km, minutes, charges, .. } = settled.expect("the trip is no refusal");
+        format!("area {area} km {km} min {minutes} price {} child {}", charges[0], charges[1])
+    }
+}
+
+/// A book of one trip whose first bicycle's covering area is this one, counted from 1.
+fn used_book(area: u8) -> Vec<u8> {
+    let mut book = vec![0; BOOK_BYTES];
+    book[0] = 1;
+    book[4 * 1_347] = area;
+    book
+}
+
+fn trip_between(stop: usize) -> Vec<u8> {
+    let text = "trip 2000-01-01 00:00 to 2000-01-01 00:00 class 2 level 0 adults 0 children 0 bikes 0 stops";
+    bytes_of(&format!("{text} {stop} {stop}")).expect("a trip")
+}
+
+/// Whether the text ends in these whole words, or is no refusal where that is asked.
+fn ends(printed: &str, end: &str) -> bool {
+    match end {
+        "accepted" => !printed.contains("refused"),
+        _ => printed.strip_suffix(end).is_some_and(|before| before.is_empty() || before.ends_with([' ', '\n'])),
+    }
+}

@@ -1,0 +1,43 @@
+//! What the pages show is what comes of it: the worked example of docs/FORMAT.md, by the model and by the library, and
+//! the sample that README.md prints.
+
+use milecopper_host::differential::{settle_by_the_model, Settle};
+use milecopper_host::model::settle_roll;
+
+const FORMAT: &str = include_str!("../../docs/FORMAT.md");
+const README: &str = include_str!("../../README.md");
+
+/// The bytes of the block that begins with three backticks and this name.
+fn block(name: &str) -> Vec<u8> {
+    let start = FORMAT.find(&format!("```{name}\n")).expect("the page has the block") + 3 + name.len();
+    let text = FORMAT[start..].split("```").next().expect("the block ends");
+    text.split_whitespace().map(|byte| u8::from_str_radix(byte, 16).expect("two hexadecimal digits")).collect()
+}
+
+/// The trip, settled on a fresh book, gives the record.
+fn gives_the_record(settle: Settle) {
+    let (mut book, mut statement) = ([0; 5_428], [0xaa; 137]);
+    assert_eq!(settle(&block("tariff"), &mut book, &block("trip"), &mut statement), 25);
+    assert_eq!(statement[..25], block("record"));
+    assert!(statement[25..].iter().all(|&byte| byte == 0xaa));
+}
+
+#[test]
+fn the_worked_example_by_the_model() {
+    gives_the_record(settle_by_the_model);
+}
+
+#[cfg(feature = "library")]
+#[test]
+fn the_worked_example_by_the_library() {
+    gives_the_record(milecopper_host::library::settle_to_number);
+}
+
+#[test]
+fn the_sample_that_is_printed() {
+    let (tariff, roll) =
+        (include_bytes!("../../samples/tariff.bin").as_slice(), include_bytes!("../../samples/roll.bin").as_slice());
+    let printed: Vec<&str> = README.lines().skip_while(|line| *line != "    trip area km min open cents").collect();
+    let printed: Vec<&str> = printed.iter().map_while(|line| line.strip_prefix("    ")).collect();
+    assert_eq!(settle_roll(tariff, roll).lines().collect::<Vec<&str>>(), printed);
+}
