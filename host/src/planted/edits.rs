@@ -7,16 +7,8 @@ pub struct Planted {
     pub edits: &'static [(&'static str, &'static str, &'static str)],
 }
 
-pub const PLANTED: [Planted; 14] = [
-    // Promise 1: the refusals, their order and place, and that they change nothing.
-    Planted {
-        name: "refusal_writes_the_statement",
-        edits: &[(
-            "model.rs",
-            "outcome(tariff, book, trip, statement.len())?;",
-            "outcome(tariff, book, trip, statement.len()).inspect_err(|_| statement.iter_mut().for_each(|byte| *byte = 0))?;",
-        )],
-    },
+pub const PLANTED: [Planted; 4] = [
+    // Promise 1: a refusal changes nothing, and the refusals are tried in their order.
     Planted {
         name: "refusal_12_writes_the_book",
         edits: &[(
@@ -37,23 +29,7 @@ pub const PLANTED: [Planted; 14] = [
             ),
         ],
     },
-    Planted {
-        name: "fault_at_the_start",
-        edits: &[("tariff.rs", "Refusal { number, place: place as u32 };", "Refusal { number, place: 0 };")],
-    },
-    // Promise 2: kilometres, minutes and price.
-    Planted {
-        name: "minutes_over_midnight",
-        edits: &[(
-            "model.rs",
-            "Ride::of(&tariff, &trip, check_out - check_in);",
-            "Ride::of(&tariff, &trip, check_out - check_in - u64::from(check_in / 1_440 < check_out / 1_440));",
-        )],
-    },
-    Planted {
-        name: "rounding_down",
-        edits: &[("fare.rs", "(amount * per_cent).div_ceil(100)", "(amount * per_cent) / 100")],
-    },
+    // Promise 2: every step of a price rounds up for itself.
     Planted {
         name: "rounding_once_at_the_end",
         edits: &[(
@@ -65,20 +41,7 @@ pub const PLANTED: [Planted; 14] = [
             }",
         )],
     },
-    Planted {
-        name: "trip_cap_after_the_surcharge",
-        edits: &[(
-            "fare.rs",
-            "let capped = step_2(area, ride, by_distance);
-    step_3(area, ride, capped)",
-            "step_2(area, ride, step_3(area, ride, by_distance))",
-        )],
-    },
-    Planted {
-        name: "thousand_metres_are_two_kilometres",
-        edits: &[("fare.rs", "dx * dx + dy * dy > (1_000 * k)", "dx * dx + dy * dy >= (1_000 * k)")],
-    },
-    // Promise 3: windows, caps and sums.
+    // Promise 3: the charge and not the price is added above.
     Planted {
         name: "price_added_above",
         edits: &[(
@@ -88,47 +51,6 @@ pub const PLANTED: [Planted; 14] = [
              let price = if rider.is_child { child_price(own, ride) } else { price(own, ride) };
              let charge = if area == ride.area { charge } else { price };
              book.add_to_all_classes(rider.number, area, charge);",
-        )],
-    },
-    Planted {
-        name: "first_class_in_the_second_class_sum",
-        edits: &[(
-            "charge.rs",
-            "book.add_to_all_classes(rider.number, area, charge);
-        if ride.class == 2 {",
-            "book.add_to_all_classes(rider.number, area, charge);
-        if ride.class != 0 {",
-        )],
-    },
-    Planted {
-        name: "window_by_the_check_in",
-        edits: &[(
-            "charge.rs",
-            "if is_open && check_out <= book.opening()",
-            "if is_open && check_in <= book.opening()",
-        )],
-    },
-    Planted {
-        name: "bicycle_pays_the_whole_flat",
-        edits: &[("charge.rs", "map_or(0, |old| tariff.areas[old].bicycle_flat);", "map_or(0, |_| 0);")],
-    },
-    Planted {
-        name: "sums_of_a_new_window_stay",
-        edits: &[(
-            "charge.rs",
-            "        Book::opened_at(check_in)",
-            "        let mut book = book;
-        book.open_again_at(check_in);
-        book",
-        ), (
-            "book.rs",
-            "    /// One more trip,",
-            "    pub fn open_again_at(&mut self, minute: Minutes) {
-        self.words[0] = 0;
-        self.words[1] = minute;
-    }
-
-    /// One more trip,",
         )],
     },
 ];
