@@ -113,9 +113,10 @@ fn report_stack(cases: &[Case], verdicts: &mut Verdicts) {
         stack::depth(&stack::Call { tariff: &case.tariff, book: &case.book, trip: &case.trip, room: case.room })
     };
     let most = cases.iter().map(depth).max().unwrap_or(0);
-    let verdict = verdicts.judge("the library's stack", most <= stack::LIMIT);
-    let [most, limit] = [most, stack::LIMIT].map(|bytes| with_commas(bytes as u64));
-    println!("The library takes {most} bytes at most over all cases; aim: {limit}, {verdict}.");
+    let limit = with_commas(stack::LIMIT as u64);
+    let aim = format!("the stack of a call in bytes: at most {limit}");
+    let verdict = verdicts.judge(&aim, most as f64, stack::LIMIT as f64, 0);
+    println!("The library takes {} bytes at most over all cases: {verdict}, of {limit}.", with_commas(most as u64));
 }
 
 /// On what it was measured, and how. `uncounted` says why no instructions were counted, if so.

@@ -21,10 +21,11 @@ pub struct Measured<'a> {
 pub fn report(measured: &[Measured], sides: &[Side], verdicts: &mut Verdicts) {
     let of = |group: Group| -> Vec<&Measured> { measured.iter().filter(|row| row.case.group == group).collect() };
     println!("\n## One call\n");
-    print!("{}", timed(&of(Group::Settled), sides, AIM, verdicts));
+    print!("{}", timed(&of(Group::Settled), sides, "a call's time, library/tuned", AIM, verdicts));
     println!("\n## One call that only checks\n");
     println!("Tariff, book and trip are read through, and nothing is written.\n");
-    print!("{}", timed(&of(Group::Checked), sides, AIM_CHECKED, verdicts));
+    let what = "a call that only checks, library/tuned";
+    print!("{}", timed(&of(Group::Checked), sides, what, AIM_CHECKED, verdicts));
     let spread = measured.iter().filter_map(|row| row.times.as_ref()).map(|times| times.spread).fold(0.0, f64::max);
     println!("\nThe middle half of a side's samples spans {} % of its median at most.", decimal(100.0 * spread, 1));
     println!("\n## The refusals, in instructions\n");
@@ -51,7 +52,7 @@ fn headed(sides: &[Side], of: impl Iterator<Item = usize>, unit: &str) -> Vec<St
     of.map(|side| format!("{} {unit}", sides[side].name)).collect()
 }
 
-fn timed(rows: &[&Measured], sides: &[Side], aim: f64, verdicts: &mut Verdicts) -> Table {
+fn timed(rows: &[&Measured], sides: &[Side], what: &str, aim: f64, verdicts: &mut Verdicts) -> Table {
     let is_judged = sides.len() > TUNED;
     let mut head = vec!["case".to_string()];
     head.extend(headed(sides, 0..sides.len(), "ns"));
@@ -64,7 +65,7 @@ fn timed(rows: &[&Measured], sides: &[Side], aim: f64, verdicts: &mut Verdicts) 
         cells.extend((0..sides.len()).map(|side| ns(row, side)));
         if is_judged {
             let found = row.times.as_ref().map(|times| times.ns[LIBRARY] / times.ns[TUNED]);
-            cells.extend(judged(&row.case.name, found, aim, verdicts));
+            cells.extend(judged(what, found, aim, verdicts));
         }
         cells.extend(compared(sides).map(|side| instructions(row, side)));
         cells.extend(is_judged.then(|| instruction_ratio(row).map_or(NONE.to_string(), ratio)));
@@ -83,8 +84,8 @@ fn counted(rows: &[&Measured], sides: &[Side], verdicts: &mut Verdicts) -> Table
         let mut cells = vec![row.case.name.clone()];
         cells.extend(compared(sides).map(|side| instructions(row, side)));
         if is_judged {
-            let what = format!("instructions of refusal {}", row.case.name);
-            cells.extend(judged(&what, instruction_ratio(row), AIM_CHECKED, verdicts));
+            let what = "a refusal's instructions, library/tuned";
+            cells.extend(judged(what, instruction_ratio(row), AIM_CHECKED, verdicts));
         }
         table.row(cells);
     }

@@ -98,7 +98,7 @@ fn table_of(programs: &Programs, runs: &[Run], verdicts: &mut Verdicts) -> Table
         cells.extend(run.whole.ns.iter().map(|ns| decimal(ns / 1e6, 2)));
         if let [program, tuned] = run.whole.ns[..] {
             let found = program / tuned;
-            let verdict = verdicts.judge_ratio(&format!("the program, {}", run.name), found, AIM);
+            let verdict = verdicts.judge_ratio("the program's time, settle_roll/tuned_roll", found, AIM);
             cells.extend([ratio(found), format!("{AIM:.1}"), verdict.to_string()]);
         }
         cells.extend(run.per_trip().iter().map(|&ns| decimal(ns, 1)));
@@ -125,9 +125,9 @@ fn size_matters(programs: &Programs, runs: &[Run], verdicts: &mut Verdicts) -> T
             largest.per_trip().iter().zip(other.per_trip()).map(|(cost, other)| cost / other).collect();
         let mut cells = vec![format!("{} / {}", largest.name, other.name)];
         cells.extend(found.iter().map(|&found| ratio(found)));
-        let what = format!("a trip's cost, largest / {}", other.name);
         cells.push(aim.map_or(NONE.to_string(), |aim| format!("{aim:.1}")));
-        cells.push(aim.map_or(NONE, |aim| verdicts.judge_ratio(&what, found[0], aim)).to_string());
+        let what = "a trip's cost, largest tariff / smallest";
+        cells.push(aim.map_or(NONE, |aim| verdicts.judge_ratio(what, found[0], aim)).to_string());
         let instructions = largest.instructions.as_ref().zip(other.instructions.as_ref());
         cells.push(instructions.map_or(NONE.to_string(), |(count, other)| ratio(count[0] / other[0])));
         table.row(cells);

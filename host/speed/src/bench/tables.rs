@@ -32,28 +32,40 @@ impl fmt::Display for Table {
     }
 }
 
-/// What was judged so far.
+/// What was judged so far, aim by aim.
 #[derive(Default)]
 pub struct Verdicts {
-    met: usize,
-    missed: Vec<String>,
+    aims: Vec<Judged>,
     left_out: Vec<&'static str>,
 }
 
+/// An aim, and what was found of it, with so many decimals.
+struct Judged {
+    aim: String,
+    decimals: usize,
+    met: usize,
+    found: Vec<f64>,
+}
+
 impl Verdicts {
-    /// The word for the table about a ratio, which is judged as it is printed.
-    pub fn judge_ratio(&mut self, what: &str, found: f64, aim: f64) -> &'static str {
-        let thousandths = |value: f64| (1_000.0 * value).round();
-        self.judge(&format!("{what}: {}, not {aim:.1}", ratio(found)), thousandths(found) <= thousandths(aim))
+    /// The word for the table about a ratio.
+    pub fn judge_ratio(&mut self, aim: &str, found: f64, most: f64) -> &'static str {
+        self.judge(&format!("{aim}: at most {most:.1}"), found, most, 3)
     }
 
-    /// The word for the table.
-    pub fn judge(&mut self, what: &str, met: bool) -> &'static str {
-        if met {
-            self.met += 1;
+    /// The word for the table about a figure that is to be at most this. It is judged as it is printed.
+    pub fn judge(&mut self, aim: &str, found: f64, most: f64, decimals: usize) -> &'static str {
+        let place = self.aims.iter().position(|judged| judged.aim == aim).unwrap_or(self.aims.len());
+        if place == self.aims.len() {
+            self.aims.push(Judged { aim: aim.to_string(), decimals, met: 0, found: Vec::new() });
+        }
+        let judged = &mut self.aims[place];
+        judged.found.push(found);
+        let printed = |value: f64| (value * 10f64.powi(decimals as i32)).round();
+        if printed(found) <= printed(most) {
+            judged.met += 1;
             "met"
         } else {
-            self.missed.push(what.to_string());
             "**missed**"
         }
     }
@@ -66,14 +78,17 @@ impl Verdicts {
 
 impl fmt::Display for Verdicts {
     fn fmt(&self, out: &mut fmt::Formatter) -> fmt::Result {
-        writeln!(out, "{} of {} aims are met.", self.met, self.met + self.missed.len())?;
-        for what in &self.missed {
-            writeln!(out, "- missed: {what}")?;
+        let mut table = Table::of(["aim", "met", "found"]);
+        for Judged { aim, decimals, met, found } in &self.aims {
+            let least = decimal(found.iter().copied().fold(f64::INFINITY, f64::min), *decimals);
+            let most = decimal(found.iter().copied().fold(0.0, f64::max), *decimals);
+            let range = if found.len() == 1 { most } else { format!("{least} to {most}") };
+            table.row([aim.clone(), format!("{met} of {}", found.len()), range]);
         }
         for what in &self.left_out {
-            writeln!(out, "- NOT measured: {what}")?;
+            table.row([what.to_string(), "NOT measured".to_string(), NONE.to_string()]);
         }
-        Ok(())
+        write!(out, "{table}")
     }
 }
 
@@ -142,12 +157,16 @@ mod tests {
     }
 
     #[test]
-    fn ratios_are_judged_as_they_are_printed() {
+    fn figures_are_judged_as_they_are_printed() {
         let mut verdicts = Verdicts::default();
         assert_eq!(verdicts.judge_ratio("one", 1.000_4, 1.0), "met");
         assert_eq!(verdicts.judge_ratio("two", 0.700_6, 0.7), "**missed**");
-        verdicts.leave_out("three");
-        let text = "1 of 2 aims are met.\n- missed: two: 0.701, not 0.7\n- NOT measured: three\n";
+        assert_eq!(verdicts.judge_ratio("one", 1.2, 1.0), "**missed**");
+        assert_eq!(verdicts.judge("three: at most 1,024", 1_024.0, 1_024.0, 0), "met");
+        verdicts.leave_out("four");
+        let text = "| aim | met | found |\n|---|---:|---:|\n| one: at most 1.0 | 1 of 2 | 1.000 to 1.200 |\n\
+                    | two: at most 0.7 | 0 of 1 | 0.701 |\n| three: at most 1,024 | 1 of 1 | 1,024 |\n\
+                    | four | NOT measured | – |\n";
         assert_eq!(verdicts.to_string(), text);
     }
 
