@@ -21,10 +21,10 @@ use Rattle.tariff.specs.Areas.{areaAt, parentOf, Read, FlatOf, Smallest, Faultl
 use Rattle.tariff.proofs.Faultless.{faultless}
 use Rattle.tariff.proofs.Within.{area-flat, above-of, parent-there, parent-top, flat-within, smallest}
 use Rattle.fare.specs.declared.Ride.{Ride}
-use Rattle.fare.specs.Prices.{Priceable, priceOf}
+use Rattle.fare.specs.Prices.{mostPrice, Priceable, priceOf}
 use Rattle.fare.proofs.Steps.{price-most}
 use Rattle.book.specs.declared.limits.Chain.{Chain}
-use Rattle.book.specs.Words.{coverWord}
+use Rattle.book.specs.Words.{coverPlace, coverWord}
 use Rattle.book.specs.Windows.{inWindow}
 use Rattle.book.specs.Caps.{capsHere, chainOf}
 use Rattle.book.specs.Charging.{Rideable, cappedAt, chargeUp, chargeBy, riderCharge, riderCharges, newCover, NewCover, bicycleCharge, BicycleCharge, bicycleCharges, chargesOf, Charged}
@@ -218,7 +218,7 @@ module _ (t : List ℕ) (counts : Counts) (w : List ℕ) (ride : Ride) where
 pub cover-known :
     {b : List ℕ} {areas : ℕ} (current : Bool) → SoundBook b areas → (k : ℕ) → k < 10 → coverWord (inWindow current b) k ≤ areas
 cover-known true s k few = s .covers k few
-cover-known false s k few = omega (arith, word-fresh (1347 + k))
+cover-known false s k few = omega (arith, word-fresh (coverPlace k))
 
 -- Among the charges of riders each stands at its place.
 module _ (t : List ℕ) (counts : Counts) (w : List ℕ) (ride : Ride) (child : Bool) (first count : ℕ) where
@@ -310,24 +310,24 @@ module _ {t : List ℕ} {counts : Counts} {b : List ℕ} {ride : Ride} (r : Ride
   pub priceable : Priceable (areaAt t counts (ride .area)) ride
   priceable = record { ranges = faultless t counts (r .read) .area (ride .area) (r .area); minutes = r .minutes; km = r .km }
 
-  pub rider-charge-most : (w : List ℕ) (child : Bool) (rider : ℕ) → riderCharge t counts w ride child rider ≤ 3790000
+  pub rider-charge-most : (w : List ℕ) (child : Bool) (rider : ℕ) → riderCharge t counts w ride child rider ≤ mostPrice
   unfolding riderCharge
   rider-charge-most w child rider =
       le-trans (charge-most t counts w rider child (ride .class) (levelOf t counts (ride .area)) (ride .area) _)
       (price-most (areaAt t counts (ride .area)) ride child priceable)
 
-  pub charges-most : (current : Bool) (i : ℕ) → getD (chargesOf t counts (inWindow current b) ride) i 0 ≤ 3790000
+  pub charges-most : (current : Bool) (i : ℕ) → getD (chargesOf t counts (inWindow current b) ride) i 0 ≤ mostPrice
   unfolding chargesOf
   charges-most current =
       let w = inWindow current b in
-      let riders : (child : Bool) (first n i : ℕ) → getD (riderCharges t counts w ride child first n) i 0 ≤ 3790000 =
+      let riders : (child : Bool) (first n i : ℕ) → getD (riderCharges t counts w ride child first n) i 0 ≤ mostPrice =
       λ child first n.
-      rw (← riders-listed t counts w ride child first n) (listed-most _ n 3790000 (λ i _. rider-charge-most w child (first + i)))
+      rw (← riders-listed t counts w ride child first n) (listed-most _ n mostPrice (λ i _. rider-charge-most w child (first + i)))
       in
-      joined-most (older t counts w ride) _ 3790000 (riders false 0 _)
-      (joined-most (children t counts w ride) _ 3790000 (riders true 11 _)
+      joined-most (older t counts w ride) _ mostPrice (riders false 0 _)
+      (joined-most (children t counts w ride) _ mostPrice (riders true 11 _)
       (rw (← bicycles-listed t counts w ride _)
-      (listed-most _ _ 3790000
+      (listed-most _ _ mostPrice
       (λ i h.
       let known = cover-known current (sound-has b (counts .areas) (r .sound-book)) i (omega (arith, r .bicycles)) in
       omega (arith, bicycle-most t counts (ride .area) (r .read) (r .area) (coverWord w i) known)))))

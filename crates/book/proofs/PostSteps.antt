@@ -5,13 +5,14 @@ use Prim.Native.Nat.{ℕ, zero, suc, _+_, _*_, _≤_, _<_}
 use native.Mathlib.Omega.{arith}
 use mathlib.Core.Path.{_≡_, refl, ap, _∙_}
 use mathlib.Core.Logic.{inr}
-use mathlib.Core.Bool.{cond}
+use mathlib.Core.Bool.{true, cond}
 use mathlib.Core.List.{List}
 use lib.ListN.{length, getD}
 use Rattle.tariff.specs.declared.Counts.{Counts}
 use Rattle.tariff.specs.Areas.{FaultlessTariff}
 use Rattle.tariff.proofs.Faultless.{faultless}
 use Rattle.fare.specs.declared.Ride.{Ride}
+use Rattle.fare.specs.Prices.{mostPrice}
 use Rattle.book.specs.declared.Window.{Window}
 use Rattle.book.specs.Words.{bookSize, word, tripsOf, coverPlace}
 use Rattle.book.specs.Posting.{addList, coverBicycles, opened, posted, Room, Adding, Covering, Postable}
@@ -36,14 +37,17 @@ module _ {t : List ℕ} {counts : Counts} {b : List ℕ} {window : Window} {ride
   right : FaultlessTariff t counts
   right = faultless t counts (p .rideable .read)
 
+  room : window .current ≡ true → tripsOf b ≤ 255
+  room current = omega (arith, rw current at (p .trips), p .few)
+
   window-words : Counting (wordsIn window b) (counts .areas) (cond (window .current) (tripsOf b) 0)
-  window-words = counting (window .current) (sound-has b (counts .areas) (p .rideable .sound-book)) (p .few)
+  window-words = counting (window .current) (sound-has b (counts .areas) (p .rideable .sound-book)) room
 
   -- the amounts are the party's charges
   amounts-are : (i : ℕ) → i < 1 + ride .party .adults + ride .party .children → getD amounts i 0 ≡ getD (chargesIn t counts b window ride) i 0
   amounts-are i h = amount-at (p .charged) i (omega (arith, charges-length t counts (wordsIn window b) ride))
 
-  amounts-most : (i : ℕ) → i < 1 + ride .party .adults + ride .party .children → getD amounts i 0 ≤ 3790000
+  amounts-most : (i : ℕ) → i < 1 + ride .party .adults + ride .party .children → getD amounts i 0 ≤ mostPrice
   amounts-most i h = rw (amounts-are i h) (charges-most (p .rideable) (window .current) i)
 
   -- After the first step: the window is open.
@@ -97,7 +101,7 @@ module _ {t : List ℕ} {counts : Counts} {b : List ℕ} {window : Window} {ride
       module _ {b₃ : List ℕ}
           (e₃ : b₃ ≡ addList t counts ride 11 (ride .party .children) amounts (1 + ride .party .adults) b₂)
           (kept₃ : length b₃ ≡ length b₂) where
-        word₃ : (j : ℕ) → 1347 ≤ j → word b₃ j ≡ word (wordsIn window b) j
+        word₃ : (j : ℕ) → coverPlace 0 ≤ j → word b₃ j ≡ word (wordsIn window b) j
         word₃ j h =
             ap (λ (l : List ℕ). word l j) e₃
             ∙ list-other right ride (p .rideable .area) 11 amounts (1 + ride .party .adults) (ride .party .children) b₂

@@ -17,6 +17,7 @@ use Rattle.tariff.specs.Areas.{parentOf, FaultlessTariff}
 use Rattle.tariff.proofs.Tests.{both-left}
 use Rattle.tariff.proofs.Within.{above-of, parent-there}
 use Rattle.fare.specs.declared.Ride.{Ride}
+use Rattle.fare.specs.Prices.{mostPrice}
 use Rattle.book.specs.declared.Window.{Window}
 use Rattle.book.specs.Words.{bookSize, freshBook, word, putWord, tripsOf, pairPlace, secondSum, allSum, coverPlace, coverWord}
 use Rattle.book.specs.Windows.{inWindow}
@@ -52,7 +53,7 @@ window-left false trips size fresh read same e =
 
 -- Then its three words are put.
 pub three-put :
-    (window : Window) (checkout : ℕ) {w b b₁ b₂ b₃ : List ℕ} → b ≡ w → b₁ ≡ putWord b 0 (window .trips)
+    (window : Window) (checkout : ℕ) {w b b₁ b₂ b₃ : List ℕ} → b ≡ w → b₁ ≡ putWord b 0 (window .trips + 1)
     → b₂ ≡ putWord b₁ 1 (window .opening .0) → b₃ ≡ putWord b₂ 2 checkout → b₃ ≡ opened window checkout w
 unfolding opened
 three-put window checkout e e₁ e₂ e₃ = rw (e₃, e₂, e₁, e)
@@ -65,7 +66,7 @@ pub record SecondAdded (b b′ : List ℕ) (rider class area amount : ℕ) : Typ
 
 -- the second-class sum does not wrap where there is room
 pub second-fits :
-    (b : List ℕ) (rider area : ℕ) {amount place second : ℕ} → RoomHere b rider area → amount ≤ 3790000 → place ≡ pairPlace rider area
+    (b : List ℕ) (rider area : ℕ) {amount place second : ℕ} → RoomHere b rider area → amount ≤ mostPrice → place ≡ pairPlace rider area
     → second ≡ word b place → second + amount < 2 ^ 32
 second-fits b rider area {second = second} room small is read =
     let e : second ≡ secondSum b rider area = read ∙ ap (word b) is in
@@ -88,7 +89,7 @@ module _ {b b′ : List ℕ} {rider class area amount place : ℕ} (is : place �
 
   -- nor does the all-classes sum wrap
   pub all-fits :
-      {all : ℕ} → RoomHere b rider area → amount ≤ 3790000 → SecondAdded b b′ rider class area amount → all ≡ word b′ (place + 1)
+      {all : ℕ} → RoomHere b rider area → amount ≤ mostPrice → SecondAdded b b′ rider class area amount → all ≡ word b′ (place + 1)
       → all + amount < 2 ^ 32
   all-fits {all} room small s read =
       let e : all ≡ allSum b rider area = read ∙ ap (λ (p : ℕ). word b′ (p + 1)) is ∙ s .all in

@@ -17,8 +17,9 @@ use Rattle.tariff.specs.Areas.{liesWithin, FaultlessTariff}
 use Rattle.tariff.proofs.Within.{within-state}
 use Rattle.tariff.proofs.Faultless.{faultless}
 use Rattle.fare.specs.declared.Ride.{Ride}
+use Rattle.fare.specs.Prices.{mostPrice}
 use Rattle.book.specs.declared.Window.{Window}
-use Rattle.book.specs.Words.{bookSize, freshBook, word, putWord, tripsOf, openingOf, lastOutOf, pairPlace, secondSum, allSum, coverPlace, coverWord}
+use Rattle.book.specs.Words.{bookSize, freshBook, word, putWord, tripsOf, openingOf, lastOutOf, pairPlace, secondSum, allSum, pairAt, coverPlace, coverWord}
 use Rattle.book.specs.Windows.{inWindow}
 use Rattle.book.specs.Charging.{Rideable, chargesOf, newCover}
 use Rattle.book.specs.Posting.{addList, coverBicycles, opened, posted}
@@ -37,7 +38,7 @@ module _ (tariff : List ℕ) (counts : Counts) (ride : Ride) where
   cover-size (suc n) b = size-put _ _ _ ∙ cover-size n b
 
   -- Every word but those bicycles' stays.
-  pub cover-other : (n : ℕ) (b : List ℕ) (j : ℕ) → (j < 1347) ⊎ (1347 + n ≤ j) → word (coverBicycles tariff counts ride n b) j ≡ word b j
+  pub cover-other : (n : ℕ) (b : List ℕ) (j : ℕ) → (j < coverPlace 0) ⊎ (coverPlace n ≤ j) → word (coverBicycles tariff counts ride n b) j ≡ word b j
   unfolding coverBicycles
   cover-other zero b j out = refl
   cover-other (suc n) b j out =
@@ -71,14 +72,14 @@ module _ {tariff : List ℕ} {counts : Counts} (t : FaultlessTariff tariff count
 
 -- the book with the first of them put, and with the first two
 abbrev oneIn : Window → List ℕ → List ℕ
-oneIn window b = putWord b 0 (window .trips)
+oneIn window b = putWord b 0 (window .trips + 1)
 
 abbrev twoIn : Window → List ℕ → List ℕ
 twoIn window b = putWord (oneIn window b) 1 (window .opening .0)
 
 module _ (window : Window) (checkout : ℕ) (b : List ℕ) where
   one-size : length (oneIn window b) ≡ length b
-  one-size = size-put b 0 (window .trips)
+  one-size = size-put b 0 (window .trips + 1)
 
   two-size : length (twoIn window b) ≡ length b
   two-size = size-put (oneIn window b) 1 (window .opening .0) ∙ one-size
@@ -89,7 +90,7 @@ module _ (window : Window) (checkout : ℕ) (b : List ℕ) where
   opened-size = size-put (twoIn window b) 2 checkout ∙ two-size
 
   one-other : (j : ℕ) → 1 ≤ j → word (oneIn window b) j ≡ word b j
-  one-other j h = word-put-other b 0 j (window .trips) (λ e. omega arith)
+  one-other j h = word-put-other b 0 j (window .trips + 1) (λ e. omega arith)
 
   two-other : (j : ℕ) → (1 ≡ j → ⊥) → word (twoIn window b) j ≡ word (oneIn window b) j
   two-other j h = word-put-other (oneIn window b) 1 j (window .opening .0) h
@@ -106,10 +107,10 @@ module _ (window : Window) (checkout : ℕ) (b : List ℕ) where
   pub opened-sum : (which : Bool) (rider x : ℕ) → x < 32 → sumOf which (opened window checkout b) rider x ≡ sumOf which b rider x
   opened-sum which rider x hx = sum-by-words which _ b rider x (λ j low high. opened-other j (omega arith)) hx
 
-  -- Word 0 is the window's trips, word 1 its opening, word 2 the check-out.
-  pub opened-trips : length b ≡ bookSize → window .trips < 2 ^ 32 → tripsOf (opened window checkout b) ≡ window .trips
+  -- Word 0 is the window's trips with this one, word 1 its opening, word 2 the check-out.
+  pub opened-trips : length b ≡ bookSize → window .trips < 2 ^ 31 → tripsOf (opened window checkout b) ≡ window .trips + 1
   opened-trips size small =
-      out-other 0 (λ e. omega arith) ∙ two-other 0 (λ e. omega arith) ∙ word-put-same b 0 (window .trips) size (omega arith) small
+      out-other 0 (λ e. omega arith) ∙ two-other 0 (λ e. omega arith) ∙ word-put-same b 0 (window .trips + 1) size (omega arith) (omega arith)
 
   pub opened-opening : length b ≡ bookSize → window .opening .0 < 2 ^ 32 → openingOf (opened window checkout b) ≡ window .opening .0
   opened-opening size small =
@@ -125,7 +126,7 @@ module _ (window : Window) (checkout : ℕ) (b : List ℕ) where
 pub record Counting (w : List ℕ) (areas before : ℕ) : Type 0 where
   pub size : length w ≡ bookSize
   pub few : before ≤ 255
-  pub pairs : (rider area : ℕ) → rider < 21 → area < 32 → PairSound w (before * 3790000) rider area
+  pub pairs : (rider area : ℕ) → rider < 21 → area < 32 → PairSound w (before * mostPrice) rider area
   pub covers : (k : ℕ) → k < 10 → coverWord w k ≤ areas
 
 -- The open window has the trips of a sound book, and the next window none.
@@ -144,17 +145,17 @@ counting false {book} {areas} s room =
     none : (rider area : ℕ) → secondSum freshBook rider area ≤ allSum freshBook rider area
     none rider area = omega (arith, word-fresh (pairPlace rider area))
 
-    all : (rider area : ℕ) → allSum freshBook rider area ≤ 0 * 3790000
+    all : (rider area : ℕ) → allSum freshBook rider area ≤ 0 * mostPrice
     all rider area = omega (arith, word-fresh (pairPlace rider area + 1))
 
 -- A rider's sums have room for one charge more.
 pub counting-room :
-    {w : List ℕ} {areas before : ℕ} → Counting w areas before → (rider amount : ℕ) → rider < 21 → amount ≤ 3790000 → (x : ℕ) → x < 32
+    {w : List ℕ} {areas before : ℕ} → Counting w areas before → (rider amount : ℕ) → rider < 21 → amount ≤ mostPrice → (x : ℕ) → x < 32
     → Fits w rider amount x
 counting-room {w} {areas} {before} c rider amount hr range x hx = fits
   where
-    most : before * 3790000 ≤ 255 * 3790000
-    most = mul-le-mul-right 3790000 (c .few)
+    most : before * mostPrice ≤ 255 * mostPrice
+    most = mul-le-mul-right mostPrice (c .few)
 
     fits : Fits w rider amount x
     fits true = let p = c .pairs rider x hr hx in omega (arith, most)
@@ -232,9 +233,9 @@ module _ (ride : Ride) (charges : List ℕ) where
 -- In a ride no rider's own charge is more than 3,790,000.
 pub own-range :
     {tariff : List ℕ} {counts : Counts} {book : List ℕ} {ride : Ride} → Rideable tariff counts book ride → (window : Window) (rider : ℕ)
-    → ownCharge ride (chargesIn tariff counts book window ride) rider ≤ 3790000
+    → ownCharge ride (chargesIn tariff counts book window ride) rider ≤ mostPrice
 own-range {tariff} {counts} {book} {ride} ok window =
-    own-most ride (chargesIn tariff counts book window ride) 3790000 (ok .adults) (charges-most ok (window .current))
+    own-most ride (chargesIn tariff counts book window ride) mostPrice (ok .adults) (charges-most ok (window .current))
 
 -- the book with the window's words put and the adults' charges added, and with the children's too
 abbrev adultsIn : List ℕ → Counts → List ℕ → Window → ℕ → Ride → List ℕ
@@ -281,7 +282,7 @@ module _ {tariff : List ℕ} {counts : Counts} {book : List ℕ} {ride : Ride} (
 
   -- a word outside every rider's
   riders-other :
-      (j : ℕ) → (j < 3) ⊎ (1347 ≤ j)
+      (j : ℕ) → (j < pairAt 0) ⊎ (coverPlace 0 ≤ j)
       → word (ridersIn tariff counts book window checkout ride) j ≡ word (opened window checkout (wordsIn window book)) j
   riders-other j out =
       list-other t ride (ok .area) 11 (chargesIn tariff counts book window ride) (1 + ride .party .adults) (ride .party .children)
@@ -298,8 +299,8 @@ module _ {tariff : List ℕ} {counts : Counts} {book : List ℕ} {ride : Ride} (
       (cover-other tariff counts ride (ride .party .bicycles) (ridersIn tariff counts book window checkout ride) j (inl (omega arith))
       ∙ riders-other j (inl h))
 
-  -- Word 0 is the window's trips, word 1 its opening, word 2 the check-out.
-  pub posted-trips : window .trips < 2 ^ 32 → tripsOf (posted tariff counts book window checkout ride) ≡ window .trips
+  -- Word 0 is the window's trips with this one, word 1 its opening, word 2 the check-out.
+  pub posted-trips : window .trips < 2 ^ 31 → tripsOf (posted tariff counts book window checkout ride) ≡ window .trips + 1
   posted-trips small = head-word 0 (omega arith) ∙ opened-trips window checkout (wordsIn window book) (c .size) small
 
   pub posted-opening : window .opening .0 < 2 ^ 32 → openingOf (posted tariff counts book window checkout ride) ≡ window .opening .0

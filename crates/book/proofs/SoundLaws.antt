@@ -11,11 +11,13 @@ use borrow.Author.Tests.{le-leb, eq-eqb, ne-eqb, leb-true, eqb-true}
 use lib.ListN.{length}
 use lib.Dec.{leb, eqb}
 use lib.Bits.{bitOr, or-zero-l, or-add-and, and-le-r}
+use Rattle.units.specs.Day.{dayMinutes}
 use Rattle.wire.specs.Each.{each}
 use Rattle.wire.proofs.Each.{each-more, each-at, each-all}
 use Rattle.tariff.proofs.Tests.{both-left, both-right, told}
 use Rattle.calendar.specs.Stamps.{lastMinute}
-use Rattle.book.specs.Words.{bookSize, freshBook, word, tripsOf, openingOf, lastOutOf, secondSum, allSum, coverWord}
+use Rattle.fare.specs.Prices.{mostPrice}
+use Rattle.book.specs.Words.{bookSize, bookWords, freshBook, word, tripsOf, openingOf, lastOutOf, pairPlace, pairs, pairAt, secondSum, allSum, coverPlace, coverWord}
 use Rattle.book.specs.Sound.{allZero, headSound, pairsSound, coversSound, sound}
 use Rattle.book.proofs.WordLaws.{word-fresh, fresh-size, zeros-fresh}
 
@@ -25,7 +27,7 @@ pub record HeadRight (t opening out : ℕ) : Type 0 where
   pub few : t ≤ 256
   pub order : opening ≤ out
   pub last : out ≤ lastMinute
-  pub day : out ≤ opening + 1440
+  pub day : out ≤ opening + dayMinutes
 
 -- a rider's sums in an area: second class at most all classes, and that at most `most`
 abbrev pub PairSound : List ℕ → ℕ → ℕ → ℕ → Type 0
@@ -34,10 +36,10 @@ PairSound b most rider area = (secondSum b rider area ≤ allSum b rider area) �
 pub record SoundBook (b : List ℕ) (areas : ℕ) : Type 0 where
   pub size : length b ≡ bookSize
   pub trips : tripsOf b ≤ 256
-  pub pairs : (rider area : ℕ) → rider < 21 → area < 32 → PairSound b (tripsOf b * 3790000) rider area
+  pub pairs : (rider area : ℕ) → rider < 21 → area < 32 → PairSound b (tripsOf b * mostPrice) rider area
   pub covers : (k : ℕ) → k < 10 → coverWord b k ≤ areas
   pub opened : 0 < tripsOf b → HeadRight (tripsOf b) (openingOf b) (lastOutOf b)
-  pub fresh : tripsOf b ≡ 0 → (i : ℕ) → i < 1357 → word b i ≡ 0
+  pub fresh : tripsOf b ≡ 0 → (i : ℕ) → i < bookWords → word b i ≡ 0
 
 -- What a sound head says, and what makes it sound.
 pub head-has : (t opening out : ℕ) → headSound t opening out ≡ true → HeadRight t opening out
@@ -76,7 +78,7 @@ abbrev pub zeroRight : List ℕ → ℕ → Bool
 zeroRight b i = eqb (word b i) 0
 
 abbrev pub pairRight : List ℕ → ℕ → ℕ → Bool
-pairRight b most i = leb (word b (3 + 2 * i)) (word b (3 + 2 * i + 1)) && leb (word b (3 + 2 * i + 1)) most
+pairRight b most i = leb (word b (pairAt i)) (word b (pairAt i + 1)) && leb (word b (pairAt i + 1)) most
 
 abbrev pub coverRight : List ℕ → ℕ → ℕ → Bool
 coverRight b areas k = leb (coverWord b k) areas
@@ -84,32 +86,32 @@ coverRight b areas k = leb (coverWord b k) areas
 -- a rider's pair in an area is number 32 × rider + area of the 672
 pair-at : (b : List ℕ) (most rider area : ℕ) → pairRight b most (32 * rider + area) ≡ true → PairSound b most rider area
 pair-at b most rider area e =
-    let place : 3 + 2 * (32 * rider + area) ≡ 3 + 64 * rider + 2 * area = omega arith in
+    let place : pairAt (32 * rider + area) ≡ pairPlace rider area = omega arith in
     subst (λ (p : ℕ). (word b p ≤ word b (p + 1)) × (word b (p + 1) ≤ most)) place (search told, search told)
 
 -- one turn of the loop over the pairs
-pub one-pair-more : (b : List ℕ) (most i second all : ℕ) (right : Bool) → right ≡ each i (pairRight b most)
-    → second ≡ word b (3 + 2 * i) → all ≡ word b (3 + 2 * i + 1)
+pub one-pair-more : (b : List ℕ) (most i place second all : ℕ) (right : Bool) → right ≡ each i (pairRight b most)
+    → place ≡ pairAt i → second ≡ word b place → all ≡ word b (place + 1)
     → right && leb second all && leb all most ≡ each (i + 1) (pairRight b most)
-one-pair-more b most i second all right e h₂ h₁ =
-    and-assoc right (leb second all) (leb all most) ∙ one-more i (pairRight b most) right _ e (rw (h₂, h₁))
+one-pair-more b most i place second all right e is h₂ h₁ =
+    and-assoc right (leb second all) (leb all most) ∙ one-more i (pairRight b most) right _ e (rw (h₂, h₁, is))
 
 pub pairs-have : (b : List ℕ) (most : ℕ) → pairsSound b most ≡ true
     → (rider area : ℕ) → rider < 21 → area < 32 → PairSound b most rider area
 unfolding pairsSound
 pairs-have b most e rider area hr ha =
-    pair-at b most rider area (each-at 672 (pairRight b most) e (32 * rider + area) (omega arith))
+    pair-at b most rider area (each-at pairs (pairRight b most) e (32 * rider + area) (omega arith))
 
 -- each of the 672 pairs is a rider's in an area
 pub pairs-back : (b : List ℕ) (most : ℕ)
     → ((rider area : ℕ) → rider < 21 → area < 32 → PairSound b most rider area) → pairsSound b most ≡ true
 unfolding pairsSound
-pairs-back b most right = each-all 672 (pairRight b most) at
+pairs-back b most right = each-all pairs (pairRight b most) at
   where
-    at : (i : ℕ) → i < 672 → pairRight b most i ≡ true
+    at : (i : ℕ) → i < pairs → pairRight b most i ≡ true
     at i h =
-        let place : 3 + 64 * (i / 32) + 2 * (i % 32) ≡ 3 + 2 * i = omega arith in
-        let here : (word b (3 + 2 * i) ≤ word b (3 + 2 * i + 1)) × (word b (3 + 2 * i + 1) ≤ most) =
+        let place : pairPlace (i / 32) (i % 32) ≡ pairAt i = omega arith in
+        let here : (word b (pairAt i) ≤ word b (pairAt i + 1)) × (word b (pairAt i + 1) ≤ most) =
         subst (λ (p : ℕ). (word b p ≤ word b (p + 1)) × (word b (p + 1) ≤ most)) place (right (i / 32) (i % 32) (omega arith) (omega arith))
         in
         rw (le-leb _ _ (here .0), le-leb _ _ (here .1))
@@ -122,9 +124,9 @@ pub covers-back : (b : List ℕ) (areas : ℕ) → ((k : ℕ) → k < 10 → cov
 unfolding coversSound
 covers-back b areas right = each-all 10 (coverRight b areas) (λ k h. le-leb _ _ (right k h))
 
-zeros-have : (b : List ℕ) → allZero b ≡ true → (i : ℕ) → i < 1357 → word b i ≡ 0
+zeros-have : (b : List ℕ) → allZero b ≡ true → (i : ℕ) → i < bookWords → word b i ≡ 0
 unfolding allZero
-zeros-have b e i h = eqb-true _ _ (each-at 1357 (zeroRight b) e i h)
+zeros-have b e i h = eqb-true _ _ (each-at bookWords (zeroRight b) e i h)
 
 -- What a book's words, as read one after another, leave open: a book of another length; an unused one; one in use, by its head.
 pub told-unsized : (b : List ℕ) (areas : ℕ) → (length b ≡ bookSize → ⊥) → sound b areas ≡ false
@@ -144,7 +146,7 @@ pub record InUse (b : List ℕ) (t opening out : ℕ) : Type 0 where
   pub last : out ≡ lastOutOf b
 
 pub told-used : (b : List ℕ) (areas : ℕ) {t opening out : ℕ} → InUse b t opening out
-    → sound b areas ≡ headSound t opening out && (pairsSound b (t * 3790000) && coversSound b areas)
+    → sound b areas ≡ headSound t opening out && (pairsSound b (t * mostPrice) && coversSound b areas)
 unfolding sound
 told-used b areas u =
     rw (u .trips, u .opened, u .last, eq-eqb (length b) bookSize (u .size), ne-eqb (tripsOf b) 0 (λ none. u .some (u .trips ∙ none)))
@@ -154,7 +156,7 @@ pub told-wrong : (b : List ℕ) (areas : ℕ) {t opening out : ℕ} → InUse b 
 told-wrong b areas u head = told-used b areas u ∙ rw head
 
 pub told-right : (b : List ℕ) (areas : ℕ) {t opening out : ℕ} → InUse b t opening out → HeadRight t opening out
-    → sound b areas ≡ pairsSound b (t * 3790000) && coversSound b areas
+    → sound b areas ≡ pairsSound b (t * mostPrice) && coversSound b areas
 told-right b areas u head = told-used b areas u ∙ rw (head-back _ _ _ head)
 
 sized : (b : List ℕ) (areas : ℕ) → sound b areas ≡ true → length b ≡ bookSize
@@ -173,10 +175,10 @@ sound-has b areas e =
             trips = omega arith;
             pairs =
                 λ r a hr ha. (
-                  omega (arith, zeros (3 + 64 * r + 2 * a) (omega arith)),
-                  omega (arith, zeros (3 + 64 * r + 2 * a + 1) (omega arith)),
+                  omega (arith, zeros (pairPlace r a) (omega arith)),
+                  omega (arith, zeros (pairPlace r a + 1) (omega arith)),
                 );
-            covers = λ k h. omega (arith, zeros (1347 + k) (omega arith));
+            covers = λ k h. omega (arith, zeros (coverPlace k) (omega arith));
             opened = λ some. absurd (omega arith);
             fresh = λ _. zeros;
           }
@@ -189,8 +191,8 @@ sound-has b areas e =
           record {
             size = size;
             trips = head .few;
-            pairs = pairs-have b (tripsOf b * 3790000) (both-left _ _ rest);
-            covers = covers-have b areas (both-right (pairsSound b (tripsOf b * 3790000)) _ rest);
+            pairs = pairs-have b (tripsOf b * mostPrice) (both-left _ _ rest);
+            covers = covers-have b areas (both-right (pairsSound b (tripsOf b * mostPrice)) _ rest);
             opened = λ _. head;
             fresh = λ none. absurd (some none);
           }
@@ -212,17 +214,17 @@ opening-most b areas e =
 -- A book in use whose window, pairs and bicycles are right is sound.
 pub sound-back : (b : List ℕ) (areas : ℕ) → length b ≡ bookSize
     → headSound (tripsOf b) (openingOf b) (lastOutOf b) ≡ true
-    → ((rider area : ℕ) → rider < 21 → area < 32 → PairSound b (tripsOf b * 3790000) rider area)
+    → ((rider area : ℕ) → rider < 21 → area < 32 → PairSound b (tripsOf b * mostPrice) rider area)
     → ((k : ℕ) → k < 10 → coverWord b k ≤ areas)
     → sound b areas ≡ true
 sound-back b areas size head pairs covers =
     let right = head-has (tripsOf b) (openingOf b) (lastOutOf b) head in
     told-right b areas (record { size = size; some = λ none. omega arith; trips = refl; opened = refl; last = refl }) right
-    ∙ rw (pairs-back b (tripsOf b * 3790000) pairs, covers-back b areas covers)
+    ∙ rw (pairs-back b (tripsOf b * mostPrice) pairs, covers-back b areas covers)
 
 -- A fresh book is sound under every tariff.
 pub fresh-sound : (areas : ℕ) → sound freshBook areas ≡ true
 unfolding allZero
 fresh-sound areas =
     told-unused freshBook areas fresh-size (word-fresh 0)
-    ∙ each-all 1357 (zeroRight freshBook) (λ i h. eq-eqb (word freshBook i) 0 (word-fresh i))
+    ∙ each-all bookWords (zeroRight freshBook) (λ i h. eq-eqb (word freshBook i) 0 (word-fresh i))

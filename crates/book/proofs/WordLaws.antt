@@ -11,14 +11,14 @@ use lib.ListN.{length, getD, replicate, length-replicate}
 use lib.Seq.{ext-getD}
 use Rattle.wire.specs.Number.{getLe, Bytes}
 use Rattle.wire.proofs.Number.{length-put, read-back, read-other, get-range}
-use Rattle.book.specs.Words.{bookSize, freshBook, word, putWord}
+use Rattle.book.specs.Words.{bookSize, bookWords, freshBook, word, putWord}
 
 -- A word put leaves the book as long as it was.
 pub size-put : (b : List ℕ) (i v : ℕ) → length (putWord b i v) ≡ length b
 size-put b i v = length-put 4 b (4 * i) v
 
 -- A word put is read back.
-pub word-put-same : (b : List ℕ) (i v : ℕ) → length b ≡ bookSize → i < 1357 → v < 2 ^ 32 → word (putWord b i v) i ≡ v
+pub word-put-same : (b : List ℕ) (i v : ℕ) → length b ≡ bookSize → i < bookWords → v < 2 ^ 32 → word (putWord b i v) i ≡ v
 word-put-same b i v size there small = read-back 4 b (4 * i) v (omega arith) small
 
 -- A word put leaves every other word.
@@ -55,7 +55,7 @@ bytes-zero (suc width) b place none (suc j) h =
     rw next (bytes-zero width b (place + 1) (omega arith) j (omega arith))
 
 -- A book whose words are all 0 is a fresh one.
-pub zeros-fresh : (b : List ℕ) → length b ≡ bookSize → ((i : ℕ) → i < 1357 → word b i ≡ 0) → b ≡ freshBook
+pub zeros-fresh : (b : List ℕ) → length b ≡ bookSize → ((i : ℕ) → i < bookWords → word b i ≡ 0) → b ≡ freshBook
 zeros-fresh b size zeros = ext-getD 0 b freshBook (size ∙ sym fresh-size) at
   where
     at : (i : ℕ) → i < length b → getD b i 0 ≡ getD freshBook i 0

@@ -6,6 +6,7 @@ use mathlib.Core.List.{List, [], _∷_, _++_}
 use mathlib.Core.Bool.{Bool, true, false, cond}
 use lib.ListN.{length, take}
 use lib.Dec.{eqb}
+use Rattle.units.specs.Day.{dayMinutes}
 use Rattle.tariff.specs.declared.Counts.{Counts}
 use Rattle.tariff.specs.Rules.{levelOf, flatOf}
 use Rattle.tariff.specs.Areas.{Read, areaAt, parentOf, smallestOf}
@@ -24,7 +25,7 @@ pub record Rideable (tariff : List ℕ) (counts : Counts) (book : List ℕ) (rid
   pub sound-book : sound book (counts .areas) ≡ true
   pub area : ride .area < counts .areas
   pub km : ride .km .0 ≤ 1415
-  pub minutes : ride .minutes .0 ≤ 1440
+  pub minutes : ride .minutes .0 ≤ dayMinutes
   pub adults : ride .party .adults ≤ 10
   pub children : ride .party .children ≤ 10
   pub bicycles : ride .party .bicycles ≤ 10

@@ -9,6 +9,7 @@ use Rattle.tariff.specs.declared.Counts.{Counts}
 use Rattle.tariff.specs.Rules.{levelOf}
 use Rattle.tariff.specs.Areas.{Read, parentOf}
 use Rattle.fare.specs.declared.Ride.{Ride}
+use Rattle.fare.specs.Prices.{mostPrice}
 use Rattle.book.specs.declared.Window.{Window}
 use Rattle.book.specs.Words.{bookSize, freshBook, putWord, tripsOf, pairPlace, secondSum, allSum, coverPlace, coverWord}
 use Rattle.book.specs.Windows.{inWindow}
@@ -40,9 +41,9 @@ coverBicycles tariff counts ride (suc count) book =
     let before = coverBicycles tariff counts ride count book in
     putWord before (coverPlace count) (1 + newCover tariff counts (ride .area) (coverWord before count))
 
--- the trips in the window, its opening, and the last check-out
+-- the trips in the window with this one, its opening, and the last check-out
 unfoldable pub opened : Window → ℕ → List ℕ → List ℕ
-opened window checkout book = putWord (putWord (putWord book 0 (window .trips)) 1 (window .opening .0)) 2 checkout
+opened window checkout book = putWord (putWord (putWord book 0 (window .trips + 1)) 1 (window .opening .0)) 2 checkout
 
 -- the book after a ride in a window: the window's words, the riders' sums with their charges, and the bicycles' covering areas
 unfoldable pub posted : List ℕ → Counts → List ℕ → Window → ℕ → Ride → List ℕ
@@ -60,7 +61,7 @@ FreshOrUsed book = tripsOf book ≡ 0 → book ≡ freshBook
 
 -- a rider's sums in an area have room for one charge more
 abbrev pub RoomHere : List ℕ → ℕ → ℕ → Type 0
-RoomHere book rider area = (secondSum book rider area ≤ allSum book rider area) × (allSum book rider area ≤ 255 * 3790000)
+RoomHere book rider area = (secondSum book rider area ≤ allSum book rider area) × (allSum book rider area ≤ 255 * mostPrice)
 
 -- and so have those in every area
 abbrev pub Room : List ℕ → ℕ → Type 0
@@ -74,7 +75,7 @@ pub record Adding (tariff : List ℕ) (counts : Counts) (book : List ℕ) (ride 
   pub riders : first + count ≤ 21
   pub places : from + count ≤ length amounts
   pub room : (i : ℕ) → i < count → Room book (first + i)
-  pub range : (i : ℕ) → i < count → getD amounts (from + i) 0 ≤ 3790000
+  pub range : (i : ℕ) → i < count → getD amounts (from + i) 0 ≤ mostPrice
 
 -- what covering bicycles asks: their old covering areas are the tariff's
 pub record Covering (tariff : List ℕ) (counts : Counts) (book : List ℕ) (ride : Ride) (count : ℕ) : Type 0 where
@@ -87,5 +88,6 @@ pub record Covering (tariff : List ℕ) (counts : Counts) (book : List ℕ) (rid
 -- what posting asks: a ride that the book has room for, in its window, with the charges that it comes to
 pub record Postable (tariff : List ℕ) (counts : Counts) (book : List ℕ) (window : Window) (ride : Ride) (amounts : List ℕ) : Type 0 where
   pub rideable : Rideable tariff counts book ride
-  pub few : window .current ≡ true → tripsOf book ≤ 255
+  pub trips : window .trips ≡ cond (window .current) (tripsOf book) 0
+  pub few : window .trips ≤ 255
   pub charged : Charged tariff counts (inWindow (window .current) book) ride amounts

@@ -4,31 +4,33 @@ use mathlib.Core.List.{List}
 use mathlib.Core.Bool.{Bool, cond, _&&_}
 use lib.ListN.{length}
 use lib.Dec.{leb, eqb}
+use Rattle.units.specs.Day.{dayMinutes}
 use Rattle.wire.specs.Each.{each}
 use Rattle.calendar.specs.Stamps.{lastMinute}
-use Rattle.book.specs.Words.{bookSize, word, tripsOf, openingOf, lastOutOf, coverWord}
+use Rattle.fare.specs.Prices.{mostPrice}
+use Rattle.book.specs.Words.{bookSize, bookWords, word, pairs, pairAt, tripsOf, openingOf, lastOutOf, coverWord}
 
 -- word 0 is 0 and all others are 0
 unfoldable pub allZero : List ℕ → Bool
-allZero book = each 1357 (λ i. eqb (word book i) 0)
+allZero book = each bookWords (λ i. eqb (word book i) 0)
 
 -- word 0 is 1..256, opening ≤ last check-out ≤ opening + 1,440, last check-out ≤ 52,595,999
 abbrev pub headSound : ℕ → ℕ → ℕ → Bool
 headSound trips opening last =
-    leb 1 trips && leb trips 256 && leb opening last && leb last lastMinute && leb last (opening + 1440)
+    leb 1 trips && leb trips 256 && leb opening last && leb last lastMinute && leb last (opening + dayMinutes)
 
--- the 21 × 32 pairs, one after another: each second-class sum ≤ its all-classes sum ≤ most
+-- of every rider's pair in every area: each second-class sum ≤ its all-classes sum ≤ most
 unfoldable pub pairsSound : List ℕ → ℕ → Bool
-pairsSound book most = each 672 (λ i. leb (word book (3 + 2 * i)) (word book (3 + 2 * i + 1)) && leb (word book (3 + 2 * i + 1)) most)
+pairsSound book most = each pairs (λ i. leb (word book (pairAt i)) (word book (pairAt i + 1)) && leb (word book (pairAt i + 1)) most)
 
 -- each bicycle word is at most the tariff's number of areas
 unfoldable pub coversSound : List ℕ → ℕ → Bool
 coversSound book areas = each 10 (λ i. leb (coverWord book i) areas)
 
--- the book has its length, and either word 0 is 0 and all others are 0, or it is in use: all sums ≤ word 0 × 3,790,000
+-- the book has its length, and either word 0 is 0 and all others are 0, or it is in use: all sums ≤ word 0 × the most that a price is
 unfoldable pub sound : List ℕ → ℕ → Bool
 sound book areas =
     eqb (length book) bookSize
     && cond (eqb (tripsOf book) 0) (allZero book)
     (headSound (tripsOf book) (openingOf book) (lastOutOf book)
-    && (pairsSound book (tripsOf book * 3790000) && coversSound book areas))
+    && (pairsSound book (tripsOf book * mostPrice) && coversSound book areas))

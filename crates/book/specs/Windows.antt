@@ -3,6 +3,7 @@ use Prim.Native.Nat.{ℕ, _+_}
 use mathlib.Core.List.{List}
 use mathlib.Core.Bool.{Bool, cond, not, _&&_}
 use lib.Dec.{leb, ltb, eqb}
+use Rattle.units.specs.Day.{dayMinutes}
 use Rattle.book.specs.declared.Window.{Window}
 use Rattle.book.specs.Words.{freshBook, tripsOf, openingOf, lastOutOf}
 
@@ -12,15 +13,15 @@ tooEarly book checkin = not (eqb (tripsOf book) 0) && ltb checkin (lastOutOf boo
 
 -- with word 0 at 0 no window is open; a trip belongs to the open window when its check-out is at most opening + 1,440
 unfoldable pub belongs : List ℕ → ℕ → Bool
-belongs book checkout = not (eqb (tripsOf book) 0) && leb checkout (openingOf book + 1440)
+belongs book checkout = not (eqb (tripsOf book) 0) && leb checkout (openingOf book + dayMinutes)
 
--- otherwise it opens the next one at its own check-in, with word 0 at 1
+-- otherwise it opens the next one at its own check-in. The trips are those before this one: none in the next window
 unfoldable pub windowOf : List ℕ → ℕ → ℕ → Window
 windowOf book checkin checkout =
     record {
       current = belongs book checkout;
       opening = record { 0 = cond (belongs book checkout) (openingOf book) checkin };
-      trips = cond (belongs book checkout) (tripsOf book + 1) 1;
+      trips = cond (belongs book checkout) (tripsOf book) 0;
     }
 
 -- the sums and bicycles that count: the book's own in the open window, and none in the next

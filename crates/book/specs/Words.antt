@@ -8,6 +8,9 @@ use Rattle.wire.specs.Number.{getLe, putLe}
 abbrev pub bookSize : ℕ
 bookSize = 5428
 
+abbrev pub bookWords : ℕ
+bookWords = 1357
+
 -- a fresh book is all zero
 abbrev pub freshBook : List ℕ
 freshBook = replicate bookSize 0
@@ -31,6 +34,13 @@ lastOutOf book = word book 2
 -- for rider r (0 holder, 1..10 adults, 11..20 children) and area a, words 3+64r+2a and the next
 abbrev pub pairPlace : ℕ → ℕ → ℕ
 pairPlace rider area = 3 + 64 * rider + 2 * area
+
+-- the 21 × 32 pairs stand one after another
+abbrev pub pairs : ℕ
+pairs = 672
+
+abbrev pub pairAt : ℕ → ℕ
+pairAt number = 3 + 2 * number
 
 -- charges in second class, and in all classes
 abbrev pub secondSum : List ℕ → ℕ → ℕ → ℕ

@@ -21,14 +21,14 @@ ghost use Prim.Native.Nat.{_+_, _≤_, _<_};
 ghost use lib.ListN.{length};
 ghost use lib.Seq.{sets};
 ghost use Rattle.tariff.specs.Areas.{Read};
-ghost use Rattle.book.specs.Words.{bookSize, Word};
+ghost use Rattle.book.specs.Words.{bookSize, bookWords, Word};
 ghost use Rattle.book.specs.Windows.{inWindow};
 ghost use Rattle.book.specs.Caps.{Places};
 ghost use Rattle.book.specs.Charging.{Rideable, cappedAtLink, ChargeBy, NewCover, BicycleCharge, riderCharges, bicycleCharges, chargesOf};
 
 // A word of the book, which is 0 in a new window.
 fn get_in(book: &[u8], current: bool, place: usize) -> u32
-    requires { ⌜ (length (now book) ≡ bookSize) × (place < 1357) ⌝ }
+    requires { ⌜ (length (now book) ≡ bookSize) × (place < bookWords) ⌝ }
     ensures { λ r. ⌜ Word (inWindow current (now (book .entry))) place r ⌝ }
 {
     if current { get(book, place) } else { 0 }

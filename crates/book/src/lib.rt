@@ -16,8 +16,8 @@ pub mod sound;
 pub mod windows;
 pub mod words;
 
-// The window that a trip falls into: the one that the book has open, or the next, opened at the trip's check-in; and the trips in it with
-// this one.
+// The window that a trip falls into: the one that the book has open, or the next, opened at the trip's check-in; and the trips that it has
+// before this one.
 pub struct Window {
     pub current: bool,
     pub opening: Minutes,

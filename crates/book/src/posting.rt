@@ -20,6 +20,7 @@ ghost use Prim.Native.Nat.{_≤_, _<_};
 ghost use lib.ListN.{length};
 ghost use Rattle.tariff.specs.Areas.{Read};
 ghost use Rattle.tariff.specs.Rules.{levelOf};
+ghost use Rattle.fare.specs.Prices.{mostPrice};
 ghost use Rattle.book.specs.Words.{bookSize, freshBook};
 ghost use Rattle.book.specs.Windows.{inWindow};
 ghost use Rattle.book.specs.Posting.{FreshOrUsed, Room, RoomHere, Adding, Covering, Postable, addHere, addUp, addList, coverBicycles, opened, posted};
@@ -37,21 +38,21 @@ fn clear(book: &mut [u8])
 // The trip's window: cleared if it is new, unless the book is fresh and there is nothing to clear; word 0 the trips with this one, word 1
 // the opening, word 2 the check-out.
 fn open_window(book: &mut [u8], window: Window, checkout: Minutes)
-    requires { ⌜ (length (now book) ≡ bookSize) × FreshOrUsed (now book) ⌝ }
+    requires { ⌜ (length (now book) ≡ bookSize) × (FreshOrUsed (now book) × (window .trips ≤ 255)) ⌝ }
     ensures { λ _. ⌜ now (book .exit) ≡ opened window (checkout .0) (inWindow (window .current) (now (book .entry))) ⌝ }
 {
     if !window.current & (get(book, TRIPS) != 0) {
         clear(book);
     }
     let opening = window.opening;
-    put(book, TRIPS, window.trips);
+    put(book, TRIPS, window.trips + 1);
     put(book, OPENING, opening.0);
     put(book, LAST_OUT, checkout.0);
 }
 
 // A charge added to a rider's sums in one area: in all classes, and in second class if that is the class.
 fn add_here(book: &mut [u8], rider: usize, class: u8, at: usize, amount: u32)
-    requires { ⌜ ((length (now book) ≡ bookSize) × (rider < 21)) × ((at < 32) × ((amount ≤ 3790000) × RoomHere (now book) rider at)) ⌝ }
+    requires { ⌜ ((length (now book) ≡ bookSize) × (rider < 21)) × ((at < 32) × ((amount ≤ mostPrice) × RoomHere (now book) rider at)) ⌝ }
     ensures { λ _. ⌜ now (book .exit) ≡ addHere (now (book .entry)) rider class at amount ⌝ }
 {
     let place = pair(rider, at);
@@ -73,7 +74,7 @@ fn add_up(
     at: usize,
     amount: u32,
 )
-    requires { ⌜ ((length (now book) ≡ bookSize) × (rider < 21)) × ((Read (now tariff) counts × (at < counts .areas)) × ((amount ≤ 3790000) × Room (now book) rider)) ⌝ }
+    requires { ⌜ ((length (now book) ≡ bookSize) × (rider < 21)) × ((Read (now tariff) counts × (at < counts .areas)) × ((amount ≤ mostPrice) × Room (now book) rider)) ⌝ }
     ensures { λ _. ⌜ now (book .exit) ≡ addUp (levelOf (now (tariff .entry)) counts at) (now (tariff .entry)) counts (now (book .entry)) rider class at amount ⌝ }
 {
     let mut up = at;

@@ -2,19 +2,20 @@
 // The loops have no early way out, so that the compiler can take many words at a time.
 use crate::words::LAST_OUT;
 use crate::words::OPENING;
+use crate::words::PAIRS;
 use crate::words::SIZE;
 use crate::words::TRIPS;
 use crate::words::WORDS;
 use crate::words::cover;
 use crate::words::get;
+use crate::words::pair_at;
 use calendar::Stamp;
+use fare::prices::MOST_PRICE;
+use units::DAY;
 ghost use mathlib.Core.Path.{_≡_};
 ghost use lib.ListN.{length};
 ghost use Rattle.book.specs.Words.{bookSize};
 ghost use Rattle.book.specs.Sound.{allZero, pairsSound, coversSound, headSound, sound};
-
-// The most that a rider is charged for a trip.
-pub const MOST: u32 = 3_790_000;
 
 // No word has a bit set: one look at them all together, at the end.
 fn all_zero(book: &[u8]) -> bool
@@ -34,9 +35,10 @@ fn pairs_sound(book: &[u8], most: u32) -> bool
     ensures { λ r. ⌜ r ≡ pairsSound (now (book .entry)) most ⌝ }
 {
     let mut right = true;
-    for i in 0..672usize {
-        let second = get(book, 3 + 2 * i);
-        let all = get(book, 3 + 2 * i + 1);
+    for i in 0..PAIRS {
+        let place = pair_at(i);
+        let second = get(book, place);
+        let all = get(book, place + 1);
         right = right & (second <= all) & (all <= most);
     }
     right
@@ -61,7 +63,7 @@ fn head_sound(trips: u32, opening: u32, last: u32) -> bool
         & (trips <= 256)
         & (opening <= last)
         & (last <= Stamp::LAST_MINUTE)
-        & (last as u64 <= opening as u64 + 1_440)
+        & (last as u64 <= opening as u64 + DAY as u64)
 }
 
 pub fn is_sound(book: &[u8], areas: usize) -> bool
@@ -77,5 +79,5 @@ pub fn is_sound(book: &[u8], areas: usize) -> bool
     if !head_sound(trips, get(book, OPENING), get(book, LAST_OUT)) {
         return false;
     }
-    pairs_sound(book, trips * MOST) & covers_sound(book, areas)
+    pairs_sound(book, trips * MOST_PRICE) & covers_sound(book, areas)
 }

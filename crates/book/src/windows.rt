@@ -4,9 +4,11 @@ use crate::words::LAST_OUT;
 use crate::words::OPENING;
 use crate::words::TRIPS;
 use crate::words::get;
+use units::DAY;
 use units::Minutes;
 ghost use mathlib.Core.Path.{_≡_};
 ghost use mathlib.Core.Bool.{true};
+ghost use Prim.Native.Nat.{_≤_};
 ghost use lib.ListN.{length};
 ghost use Rattle.book.specs.Words.{bookSize};
 ghost use Rattle.book.specs.Sound.{sound};
@@ -23,21 +25,21 @@ pub fn too_early(book: &[u8], checkin: Minutes) -> bool
 // A trip belongs to the open window when its check-out is at most 1,440 minutes after the opening; otherwise it opens the next.
 pub fn window_of(book: &[u8], areas: usize, checkin: Minutes, checkout: Minutes) -> Window
     requires { ⌜ sound (now book) areas ≡ true ⌝ }
-    ensures { λ r. ⌜ r ≡ windowOf (now (book .entry)) (checkin .0) (checkout .0) ⌝ }
+    ensures { λ r. ⌜ (r ≡ windowOf (now (book .entry)) (checkin .0) (checkout .0)) × (r .trips ≤ 256) ⌝ }
 {
     let trips = get(book, TRIPS);
     let opening = get(book, OPENING);
-    if (trips != 0) & (checkout.0 <= opening + 1_440) {
+    if (trips != 0) & (checkout.0 <= opening + DAY) {
         Window {
             current: true,
             opening: Minutes(opening),
-            trips: trips + 1,
+            trips: trips,
         }
     } else {
         Window {
             current: false,
             opening: checkin,
-            trips: 1,
+            trips: 0,
         }
     }
 }

@@ -3,6 +3,7 @@ use Prim.Native.Nat.{ℕ, _+_, _*_, _≤_, _<_}
 use mathlib.Core.Path.{_≡_}
 use mathlib.Core.Bool.{Bool, cond, _&&_}
 use lib.Dec.{leb}
+use Rattle.units.specs.Day.{dayMinutes}
 use Rattle.calendar.specs.Days.{leap, monthDays, dayNumber}
 use Rattle.calendar.specs.declared.Stamp.{Stamp}
 use Rattle.calendar.specs.declared.Made.{Made}
@@ -29,7 +30,7 @@ stampOf y m d h n =
 
 -- minute 0 is 2000-01-01 00:00; every day has 1,440 minutes
 unfoldable pub minuteNumber : Stamp → ℕ
-minuteNumber s = 1440 * dayNumber (s .year) (s .month) (s .day) + 60 * s .hour + s .minute
+minuteNumber s = dayMinutes * dayNumber (s .year) (s .month) (s .day) + 60 * s .hour + s .minute
 
 -- 2099-12-31 23:59
 abbrev pub lastMinute : ℕ

@@ -1,5 +1,6 @@
 // Stamps and minute numbers: a moment of 2000 to 2099 as its date and clock time, and as minutes since 2000-01-01 00:00.
 // Every day has 1,440 minutes. The days before each month stand as a table, one row for common and one for leap years.
+use units::DAY;
 use units::Minutes;
 ghost use mathlib.Core.Path.{_≡_};
 ghost use mathlib.Core.Bool.{true};
@@ -110,6 +111,6 @@ impl Stamp {
         ensures { λ r. ⌜ MinuteNumber self (r .0) ⌝ }
     {
         let day = day_number(self.year, self.month, self.day);
-        Minutes(1440 * day + 60 * self.hour as u32 + self.minute as u32)
+        Minutes(DAY * day + 60 * self.hour as u32 + self.minute as u32)
     }
 }

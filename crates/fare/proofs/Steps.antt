@@ -6,13 +6,14 @@ use native.Mathlib.Omega.{arith}
 use mathlib.Core.Path.{_≡_, refl}
 use mathlib.Core.Bool.{Bool, true, false, cond}
 use lib.Dec.{eqb}
+use Rattle.units.specs.Day.{dayMinutes}
 use Rattle.units.specs.Rounding.{periods, raisedBy}
 use Rattle.units.proofs.Rounding.{periods-least, raised-most, reduced-most}
 use Rattle.units.proofs.Caps.{capped-most}
 use Rattle.tariff.specs.declared.Area.{Area}
 use Rattle.tariff.specs.Areas.{AreaRanges}
 use Rattle.fare.specs.declared.Ride.{Ride}
-use Rattle.fare.specs.Prices.{step1, step2, step3, step4, tripCap, priceOf, Step1, Step2, Step3, Priceable, Price}
+use Rattle.fare.specs.Prices.{mostFar, mostPrice, step1, step2, step3, step4, tripCap, priceOf, Step1, Step2, Step3, Priceable, Price}
 
 -- Step 1's two products: at most 48 periods, and at most 1,415 kilometres.
 pub base-most : (area : Area) (n : ℕ) → AreaRanges area → n ≤ 48 → area .base .0 * n ≤ 480000
@@ -21,7 +22,7 @@ base-most area n ranges few = mul-le-mul (ranges .base) few
 pub rate-most : (area : Area) (km : ℕ) → AreaRanges area → km ≤ 1415 → area .rate .0 * km ≤ 1415000
 rate-most area km ranges near = mul-le-mul (ranges .rate) near
 
-pub step1-most : (area : Area) (minutes km : ℕ) → AreaRanges area → minutes ≤ 1440 → km ≤ 1415 → step1 area minutes km ≤ 1895000
+pub step1-most : (area : Area) (minutes km : ℕ) → AreaRanges area → minutes ≤ dayMinutes → km ≤ 1415 → step1 area minutes km ≤ mostFar
 unfolding step1
 step1-most area minutes km ranges short near =
     let n = periods minutes (area .validity .0) in
@@ -56,8 +57,8 @@ priced {area} {ride} child {far} {trip} {adult} {r} first second third fourth =
       range = omega (arith, step4-most area child adult);
     }
 
--- No price is above 3,790,000 cents.
-pub price-most : (area : Area) (ride : Ride) (child : Bool) → Priceable area ride → priceOf area ride child ≤ 3790000
+-- No price is above the most.
+pub price-most : (area : Area) (ride : Ride) (child : Bool) → Priceable area ride → priceOf area ride child ≤ mostPrice
 unfolding priceOf
 price-most area ride child ok =
     priced {ride = ride} child (record { value = refl; range = step1-most area _ _ (ok .ranges) (ok .minutes) (ok .km) })

@@ -3,6 +3,7 @@ use Prim.Native.Nat.{ℕ, _+_, _*_, _≤_}
 use mathlib.Core.Path.{_≡_}
 use mathlib.Core.Bool.{Bool, cond}
 use lib.Dec.{leb, eqb}
+use Rattle.units.specs.Day.{dayMinutes}
 use Rattle.units.specs.Rounding.{periods, raisedBy, reducedBy}
 use Rattle.units.specs.Caps.{cappedBy}
 use Rattle.units.specs.declared.Cap.{Cap}
@@ -14,6 +15,13 @@ use Rattle.tariff.specs.declared.Area.{Area}
 use Rattle.tariff.specs.Levels.{levelCap}
 use Rattle.tariff.specs.Areas.{AreaRanges}
 use Rattle.fare.specs.declared.Ride.{Ride}
+
+-- the most that step 1 comes to, with 48 periods of 10,000 cents and 1,415 kilometres of 1,000; and no price is above twice that
+abbrev pub mostFar : ℕ
+mostFar = 1895000
+
+abbrev pub mostPrice : ℕ
+mostPrice = 3790000
 
 -- 1. Base price × periods + km price × km
 unfoldable pub step1 : Area → ℕ → ℕ → ℕ
@@ -51,7 +59,7 @@ priceOf area ride child =
 
 pub record Step1 (area : Area) (minutes km r : ℕ) : Type 0 where
   pub value : r ≡ step1 area minutes km
-  pub range : r ≤ 1895000
+  pub range : r ≤ mostFar
 
 pub record Step2 (area : Area) (minutes level amount r : ℕ) : Type 0 where
   pub value : r ≡ step2 area minutes level amount
@@ -64,9 +72,9 @@ pub record Step3 (area : Area) (class amount r : ℕ) : Type 0 where
 -- an area of a faultless tariff, and a ride of at most a day across the plane
 pub record Priceable (area : Area) (ride : Ride) : Type 0 where
   pub ranges : AreaRanges area
-  pub minutes : ride .minutes .0 ≤ 1440
+  pub minutes : ride .minutes .0 ≤ dayMinutes
   pub km : ride .km .0 ≤ 1415
 
 pub record Price (area : Area) (ride : Ride) (child : Bool) (r : ℕ) : Type 0 where
   pub value : r ≡ priceOf area ride child
-  pub range : r ≤ 3790000
+  pub range : r ≤ mostPrice

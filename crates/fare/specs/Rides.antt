@@ -5,6 +5,7 @@ use mathlib.Core.Path.{_≡_}
 use mathlib.Core.List.{List}
 use mathlib.Core.Bool.{Bool, true}
 use lib.ListN.{length}
+use Rattle.units.specs.Day.{dayMinutes}
 use Rattle.tariff.specs.declared.Counts.{Counts}
 use Rattle.tariff.specs.declared.Stop.{Stop}
 use Rattle.tariff.specs.Areas.{Read, StopRanges, stopAt, liesWithin, smallestOf}
@@ -66,4 +67,4 @@ pub record RideOf (tariff : List ℕ) (counts : Counts) (bytes : List ℕ) (trip
   pub value : r ≡ rideOf tariff counts bytes trip
   pub there : r .area < counts .areas
   pub km : r .km .0 ≤ 1415
-  pub minutes : r .minutes .0 ≤ 1440
+  pub minutes : r .minutes .0 ≤ dayMinutes

@@ -14,12 +14,16 @@ use units::reduced;
 use units::started_periods;
 ghost use mathlib.Core.Path.{_≡_};
 ghost use Prim.Native.Nat.{_≤_};
+ghost use Rattle.units.specs.Day.{dayMinutes};
 ghost use Rattle.tariff.specs.Areas.{AreaRanges};
-ghost use Rattle.fare.specs.Prices.{Step1, Step2, Step3, tripCap, Price, Priceable};
+ghost use Rattle.fare.specs.Prices.{mostFar, Step1, Step2, Step3, tripCap, Price, Priceable};
+
+// No price is above this.
+pub const MOST_PRICE: u32 = 3_790_000;
 
 // 1. Base price × periods + km price × km.
 fn distance_price(area: Area, minutes: Minutes, km: Km) -> Cents
-    requires { ⌜ AreaRanges area × ((minutes .0 ≤ 1440) × (km .0 ≤ 1415)) ⌝ }
+    requires { ⌜ AreaRanges area × ((minutes .0 ≤ dayMinutes) × (km .0 ≤ 1415)) ⌝ }
     ensures { λ r. ⌜ Step1 area (minutes .0) (km .0) (r .0) ⌝ }
 {
     let base = area.base;
@@ -59,7 +63,7 @@ fn trip_capped(area: Area, amount: Cents, minutes: Minutes, level: u8) -> Cents
 
 // 3. First class: raised by the surcharge. Second class: unchanged.
 fn in_class(area: Area, amount: Cents, class: u8) -> Cents
-    requires { ⌜ AreaRanges area × (amount .0 ≤ 1895000) ⌝ }
+    requires { ⌜ AreaRanges area × (amount .0 ≤ mostFar) ⌝ }
     ensures { λ r. ⌜ Step3 area class (amount .0) (r .0) ⌝ }
 {
     if class == 1 {

@@ -187,7 +187,7 @@ module _ (tariff : List ℕ) (counts : Counts) where
   unfolding opened
   opened-alike window window′ checkout checkout′ same trips =
       put-between 4
-      (put-between 4 (rw trips (put-alike 4 same (4 * 0) (window .trips))) (4 * 1) (window .opening .0) (window′ .opening .0) (omega arith) (omega arith))
+      (put-between 4 (rw trips (put-alike 4 same (4 * 0) (window .trips + 1))) (4 * 1) (window .opening .0) (window′ .opening .0) (omega arith) (omega arith))
       (4 * 2) checkout checkout′ (omega arith) (omega arith)
 
   -- the book after a ride, by the words that count

@@ -169,7 +169,7 @@ module _ (tariff book bytes : List ℕ) (room : ℕ) where
       let counts = a .counts in
       let trip = a .trip in
       let g = good-read bytes (counts .stops) trip (a .good) in
-      let at-most : windowOf book (checkinOf bytes) (checkoutOf bytes) .trips ≤ 256 = rw (← g .from, ← g .to, ← a .window-is) (a .few) in
+      let at-most : windowOf book (checkinOf bytes) (checkoutOf bytes) .trips + 1 ≤ 256 = rw (← g .from, ← g .to, ← a .window-is) (a .few) in
       let fits : recordSize (partyAt bytes 0) ≤ room = rw (← g .party) (a .fits) in
       let below : NoneBelow tariff book bytes room 13 =
       next tariff book bytes room 12
@@ -211,7 +211,7 @@ module _ (tariff book bytes : List ℕ) (room : ℕ) where
           let counts = a .counts in
           let trip = a .trip in
           let window = windowOf book (trip .checkin .0) (trip .checkout .0) in
-          let few : window .trips ≤ 256 = rw (← a .window-is) (a .few) in
+          let few : window .trips + 1 ≤ 256 = rw (← a .window-is) (a .few) in
           accepted-way tariff book bytes room counts (a .read) trip window
           (sound-way counts book bytes room (a .sound-book) (Good trip) (a .good)
           ∙ sym (clear-way book trip room (a .on-time) window refl few (a .fits)))

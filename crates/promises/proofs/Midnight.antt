@@ -41,14 +41,14 @@ module _ (book : List ℕ) (checkin checkout : ℕ) where
   -- The new window opens at the trip's check-in, and the trip is its first.
   pub new-window-opens :
       windowOf book checkin checkout .current ≡ false
-      → (windowOf book checkin checkout .opening .0 ≡ checkin) × (windowOf book checkin checkout .trips ≡ 1)
+      → (windowOf book checkin checkout .opening .0 ≡ checkin) × (windowOf book checkin checkout .trips ≡ 0)
   unfolding windowOf
   new-window-opens e = (rw e, rw e)
 
-  -- In the open window the opening stays, and the trip is one more.
+  -- In the open window the opening stays, and the book's trips are before this one.
   pub same-window-stays :
       windowOf book checkin checkout .current ≡ true
-      → (windowOf book checkin checkout .opening .0 ≡ openingOf book) × (windowOf book checkin checkout .trips ≡ tripsOf book + 1)
+      → (windowOf book checkin checkout .opening .0 ≡ openingOf book) × (windowOf book checkin checkout .trips ≡ tripsOf book)
   unfolding windowOf
   same-window-stays e = (rw e, rw e)
 

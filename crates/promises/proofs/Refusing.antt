@@ -161,7 +161,7 @@ module _ (tariff book bytes : List ℕ) (room : ℕ) where
       decided : decidedUnder counts book bytes room ≡ decidedTrip book trip room
       decided = sound-way counts book bytes room s (Good trip) e
 
-      of-room : tooEarly book (trip .checkin .0) ≡ false → window .trips ≤ 256 → NoneBelow tariff book bytes room 12 → Said
+      of-room : tooEarly book (trip .checkin .0) ≡ false → window .trips + 1 ≤ 256 → NoneBelow tariff book bytes room 12 → Said
       unfolding condition acceptedTrip
       of-room on-time few before =
           elim (decLt room (recordSize (trip .party))) [
@@ -193,9 +193,9 @@ module _ (tariff book bytes : List ℕ) (room : ℕ) where
       of-window : tooEarly book (trip .checkin .0) ≡ false → NoneBelow tariff book bytes room 11 → Said
       unfolding condition
       of-window on-time before =
-          elim (decLt 256 (window .trips)) [
+          elim (decLt 256 (window .trips + 1)) [
             | yes full ↦
-                let too-many : 256 < windowOf book (checkinOf bytes) (checkoutOf bytes) .trips = rw (← g .from, ← g .to) full in
+                let too-many : 256 < windowOf book (checkinOf bytes) (checkoutOf bytes) .trips + 1 = rw (← g .from, ← g .to) full in
                 first 11 (omega arith) (omega arith) (given 11 (decided ∙ sym (full-way book trip room on-time window refl full))) too-many before
             | no few ↦ of-room on-time (omega arith) (next 11 before (rw (← g .from, ← g .to) few))
           ]

@@ -174,14 +174,14 @@ kept-window {tariff} {counts} {rider} false k = kept-fresh tariff counts rider
 
 -- where the window has at most 256 trips with this one, the book has at most 255
 one-more :
-    (book : List ℕ) (checkin checkout : ℕ) → windowOf book checkin checkout .trips ≤ 256 → windowOf book checkin checkout .current ≡ true
+    (book : List ℕ) (checkin checkout : ℕ) → windowOf book checkin checkout .trips + 1 ≤ 256 → windowOf book checkin checkout .current ≡ true
     → tripsOf book ≤ 255
 unfolding windowOf
 one-more book checkin checkout few current = omega (arith, rw current at few)
 
 module _ {tariff : List ℕ} {counts : Counts} {rider : ℕ} {book : List ℕ} {rides : List ChargedRide} (read : Read tariff counts) (known : rider < 21)
     (k : Kept tariff counts rider book rides) (bytes : List ℕ) (trip : Trip) (is : readTrip bytes (counts .stops) ≡ Good trip)
-    (on-time : tooEarly book (trip .checkin .0) ≡ false) (few : windowOf book (trip .checkin .0) (trip .checkout .0) .trips ≤ 256) where
+    (on-time : tooEarly book (trip .checkin .0) ≡ false) (few : windowOf book (trip .checkin .0) (trip .checkout .0) .trips + 1 ≤ 256) where
   abbrev window : Window
   window = windowOf book (trip .checkin .0) (trip .checkout .0)
 

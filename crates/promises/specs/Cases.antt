@@ -144,7 +144,7 @@ cases =
 
 -- the window that the rides of a case are in: the book's own words count
 abbrev pub oneWindow : Window
-oneWindow = record { current = true; opening = record { 0 = 0 }; trips = 1 }
+oneWindow = record { current = true; opening = record { 0 = 0 }; trips = 0 }
 
 -- two lists are the same
 unfoldable pub sameList : List ℕ → List ℕ → Bool

@@ -121,7 +121,7 @@ condition tariff book trip room n =
     (cond (eqb n 8) (WrongStamp trip)
     (cond (eqb n 9) (WrongOrder trip)
     (cond (eqb n 10) (TooEarly book trip)
-    (cond (eqb n 11) (256 < windowOf book (checkinOf trip) (checkoutOf trip) .trips)
+    (cond (eqb n 11) (256 < windowOf book (checkinOf trip) (checkoutOf trip) .trips + 1)
     (cond (eqb n 12) (room < recordSize (partyAt trip 0))
     ⊥)))))))))))
 
@@ -146,7 +146,7 @@ pub record AcceptedBy (tariff book bytes : List ℕ) (room : ℕ) (new entry : L
   pub good : readTrip bytes (counts .stops) ≡ Good trip
   pub on-time : tooEarly book (trip .checkin .0) ≡ false
   pub window-is : window ≡ windowOf book (trip .checkin .0) (trip .checkout .0)
-  pub few : window .trips ≤ 256
+  pub few : window .trips + 1 ≤ 256
   pub fits : recordSize (trip .party) ≤ room
   pub new-is : new ≡ posted tariff counts book window (trip .checkout .0) (rideOf tariff counts bytes trip)
   pub entry-is :

@@ -69,7 +69,7 @@ after-reading book room number BadStamp e = told 8 number (omega arith) e
 after-reading book room number BadOrder e = told 9 number (omega arith) e
 after-reading book room number (Good fields) e =
     let window = windowOf book (fields .checkin .0) (fields .checkout .0) in
-    after-tests (tooEarly book (fields .checkin .0)) (ltb 256 (window .trips)) (ltb room (recordSize (fields .party))) fields window number e
+    after-tests (tooEarly book (fields .checkin .0)) (ltb 256 (window .trips + 1)) (ltb room (recordSize (fields .party))) fields window number e
 
 -- What settling comes to under a faultless tariff and on a sound book.
 module _ (tariff : List ℕ) (counts : Counts) (book trip : List ℕ) (read : Read tariff counts) (is : sound book (counts .areas) ≡ true) where

@@ -21,7 +21,7 @@ use Rattle.book.specs.Charging.{Rideable, Charged, chargesOf}
 use Rattle.book.specs.Posting.{Postable, posted}
 use Rattle.book.proofs.SoundLaws.{sound-has}
 use Rattle.book.proofs.ChargeLaws.{charges-length}
-use Rattle.book.proofs.SoundAgain.{WindowRight, window-right, window-room, sound-again}
+use Rattle.book.proofs.SoundAgain.{WindowRight, window-right, sound-again}
 use Rattle.settle.specs.Record.{recordOf, Recordable}
 use Rattle.settle.specs.Outcome.{acceptedTrip, SettledSound, AllClear}
 
@@ -111,7 +111,7 @@ module _ (tariff : List ℕ) (counts : Counts) (book bytes : List ℕ) (trip : T
           }
 
       pub postable : Postable tariff counts book window ride amounts
-      postable = record { rideable = rideable; few = window-room window-fits; charged = charged }
+      postable = record { rideable = rideable; trips = window-fits .trips; few = omega (arith, clear .few); charged = charged }
 
       -- What was written is the accepted outcome, and the book left behind is sound again.
       pub written :

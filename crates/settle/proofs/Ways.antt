@@ -36,17 +36,17 @@ module _ (book : List ℕ) (trip : Trip) (room : ℕ) where
   early-way flag is e = sym (early (sym is ∙ e))
 
   module _ (on-time : tooEarly book (trip .checkin .0) ≡ false) (window : Window) (is : window ≡ windowOf book (trip .checkin .0) (trip .checkout .0)) where
-    pub full-way : 256 < window .trips → Refused 11 ≡ decidedTrip book trip room
+    pub full-way : 256 < window .trips + 1 → Refused 11 ≡ decidedTrip book trip room
     unfolding decidedTrip
-    full-way full = rw (on-time, ← is, lt-ltb 256 (window .trips) full)
+    full-way full = rw (on-time, ← is, lt-ltb 256 (window .trips + 1) full)
 
-    pub short-way : window .trips ≤ 256 → room < recordSize (trip .party) → Refused 12 ≡ decidedTrip book trip room
+    pub short-way : window .trips + 1 ≤ 256 → room < recordSize (trip .party) → Refused 12 ≡ decidedTrip book trip room
     unfolding decidedTrip
-    short-way few short = rw (on-time, ← is, le-ltb 256 (window .trips) few, lt-ltb room (recordSize (trip .party)) short)
+    short-way few short = rw (on-time, ← is, le-ltb 256 (window .trips + 1) few, lt-ltb room (recordSize (trip .party)) short)
 
-    pub clear-way : window .trips ≤ 256 → recordSize (trip .party) ≤ room → Clear trip window ≡ decidedTrip book trip room
+    pub clear-way : window .trips + 1 ≤ 256 → recordSize (trip .party) ≤ room → Clear trip window ≡ decidedTrip book trip room
     unfolding decidedTrip
-    clear-way few fits = rw (on-time, ← is, le-ltb 256 (window .trips) few, le-ltb room (recordSize (trip .party)) fits)
+    clear-way few fits = rw (on-time, ← is, le-ltb 256 (window .trips + 1) few, le-ltb room (recordSize (trip .party)) fits)
 
 -- ---- 5 to 12, on a sound book: what reading the trip gives decides.
 
@@ -77,7 +77,7 @@ pub record TripClear (book : List ℕ) (trip : Trip) (room : ℕ) (trip′ : Tri
   pub same : trip ≡ trip′
   pub on-time : tooEarly book (trip .checkin .0) ≡ false
   pub window-is : windowOf book (trip .checkin .0) (trip .checkout .0) ≡ window
-  pub few : window .trips ≤ 256
+  pub few : window .trips + 1 ≤ 256
   pub fits : recordSize (trip .party) ≤ room
 
 refused-clear : {A : Type 0} (n : ℕ) (trip : Trip) (window : Window) → Refused n ≡ Clear trip window → A
@@ -100,13 +100,13 @@ unfolding decidedTrip
 trip-clear book trip room trip′ window e =
     let here = windowOf book (trip .checkin .0) (trip .checkout .0) in
     let told =
-    none-holds (tooEarly book (trip .checkin .0)) (ltb 256 (here .trips)) (ltb room (recordSize (trip .party))) trip trip′ here window e
+    none-holds (tooEarly book (trip .checkin .0)) (ltb 256 (here .trips + 1)) (ltb room (recordSize (trip .party))) trip trip′ here window e
     in
     record {
       same = told .1 .0;
       on-time = told .0 .0;
       window-is = told .1 .1;
-      few = subst (λ (w : Window). w .trips ≤ 256) (told .1 .1) (ltb-false 256 (here .trips) (told .0 .1));
+      few = subst (λ (w : Window). w .trips + 1 ≤ 256) (told .1 .1) (ltb-false 256 (here .trips + 1) (told .0 .1));
       fits = ltb-false room (recordSize (trip .party)) (told .0 .2);
     }
 
@@ -179,7 +179,7 @@ trip-refusal-most : (book : List ℕ) (trip : Trip) (room n : ℕ) → decidedTr
 unfolding decidedTrip
 trip-refusal-most book trip room n e =
     let here = windowOf book (trip .checkin .0) (trip .checkout .0) in
-    go (tooEarly book (trip .checkin .0)) (ltb 256 (here .trips)) (ltb room (recordSize (trip .party))) here e
+    go (tooEarly book (trip .checkin .0)) (ltb 256 (here .trips + 1)) (ltb room (recordSize (trip .party))) here e
   where
     go :
         (a b c : Bool) (here : Window) → cond a (Refused 10) (cond b (Refused 11) (cond c (Refused 12) (Clear trip here))) ≡ Refused n → n ≤ 12

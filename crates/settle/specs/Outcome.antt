@@ -34,7 +34,7 @@ unfoldable pub decidedTrip : List ℕ → Trip → ℕ → Decision
 decidedTrip book trip room =
     let window = windowOf book (trip .checkin .0) (trip .checkout .0) in
     cond (tooEarly book (trip .checkin .0)) (Refused 10)
-    (cond (ltb 256 (window .trips)) (Refused 11)
+    (cond (ltb 256 (window .trips + 1)) (Refused 11)
     (cond (ltb room (recordSize (trip .party))) (Refused 12)
     (Clear trip window)))
 
@@ -105,5 +105,5 @@ pub record AllClear (tariff : List ℕ) (counts : Counts) (book bytes : List ℕ
   pub good : readTrip bytes (counts .stops) ≡ Good trip
   pub window-is : window ≡ windowOf book (trip .checkin .0) (trip .checkout .0)
   pub on-time : tooEarly book (trip .checkin .0) ≡ false
-  pub few : window .trips ≤ 256
+  pub few : window .trips + 1 ≤ 256
   pub room : recordSize (trip .party) ≤ length statement

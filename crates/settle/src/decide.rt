@@ -31,7 +31,7 @@ fn decide_trip(counts: Counts, book: &[u8], trip: Trip, room: usize) -> Decision
         return Decision::Refused(10);
     }
     let window = window_of(book, counts.areas, checkin, checkout);
-    if 256 < window.trips {
+    if 256 < window.trips + 1 {
         return Decision::Refused(11);
     }
     if room < record_size(party) {

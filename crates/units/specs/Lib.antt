@@ -1,2 +1,3 @@
 pub mod Caps
+pub mod Day
 pub mod Rounding

@@ -13,6 +13,9 @@ pub struct Metres(pub u32);
 
 pub struct Minutes(pub u32);
 
+// Every day has 1,440 minutes.
+pub const DAY: u32 = 1_440;
+
 // A limit on an amount, where there is one.
 pub enum Cap {
     NoCap,

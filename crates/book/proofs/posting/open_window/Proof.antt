@@ -21,17 +21,20 @@ joined :
 joined c =
     let p = c .before .before .before .before .before .pre in
     ⊎-elim (λ w. window-cleared _ (c .before .get .result) (w .0 .taken) (w .5 ∙ w .2 .ensures))
-    (λ w. window-left _ (c .before .get .result) (p .0) (p .1) (c .before .get .ensures .value) (w .0 .left) (w .1)) (c .if1 .came)
+    (λ w. window-left _ (c .before .get .result) (p .0) (p .1 .0) (c .before .get .ensures .value) (w .0 .left) (w .1)) (c .if1 .came)
+
+add-put : tie.Need-add-put
+add-put c = search needs
 
 put-requires : tie.Need-put-requires
-put-requires c κs = (joined (c .before .before) .size, omega arith)
+put-requires c κs = (joined (c .before .before .before) .size, omega arith)
 
 put-requires-2 : tie.Need-put-requires-2
-put-requires-2 c κs = (c .before .before .before .put .kept .0 ∙ joined (c .before .before .before .before .before .before) .size, omega arith)
+put-requires-2 c κs = (c .before .before .before .put .kept .0 ∙ joined (c .before .before .before .before .before .before .before) .size, omega arith)
 
 put-requires-3 : tie.Need-put-requires-3
 put-requires-3 c κs = (
-  c .before .before .before .put2 .kept .0 ∙ c .before .before .before .before .before .before .before .put .kept .0 ∙ joined (c .before .before .before .before .before .before .before .before .before .before) .size,
+  c .before .before .before .put2 .kept .0 ∙ c .before .before .before .before .before .before .before .put .kept .0 ∙ joined (c .before .before .before .before .before .before .before .before .before .before .before) .size,
   omega arith,
 )
 
@@ -39,16 +42,16 @@ same-length : tie.Need-same-length
 same-length c =
     let s = c .before .before .before .before .before .before .before .before .before .before in
     c .before .before .put3 .kept .0 ∙ c .before .before .before .before .before .before .put2 .kept .0 ∙ s .put .kept .0
-    ∙ joined (s .before .before .before) .size ∙ sym (s .before .before .before .before .before .before .before .before .pre .0)
+    ∙ joined (s .before .before .before .before) .size ∙ sym (s .before .before .before .before .before .before .before .before .before .pre .0)
 
 returns : tie.Need-returns
 returns c =
     let s = c .before .before .before .before .before .before .before .before .before .before in
-    let a = s .before .before .before .before .before .before .before .before .args in
-    three-put (a .window) (a .checkout .0) (joined (s .before .before .before) .value) (s .put .ensures)
+    let a = s .before .before .before .before .before .before .before .before .before .args in
+    three-put (a .window) (a .checkout .0) (joined (s .before .before .before .before) .value) (s .put .ensures)
     (c .before .before .before .before .before .before .put2 .ensures) (c .before .before .put3 .ensures)
 
 pub open-window-spec : {M : Type 1} → statement M
 open-window-spec =
     tie.close
-    (tie.spec get-requires clear-requires put-requires put-requires-2 put-requires-3 same-length returns)
+    (tie.spec get-requires clear-requires add-put put-requires put-requires-2 put-requires-3 same-length returns)

@@ -18,7 +18,9 @@ cast-children c = search needs
 
 open-window-requires : tie.Need-open-window-requires
 open-window-requires c κs =
-    let has = sound-has _ _ (c .before .before .before .before .before .before .before .pre .rideable .sound-book) in (has .size, fresh-is has)
+    let p = c .before .before .before .before .before .before .before .pre in
+    let has = sound-has _ _ (p .rideable .sound-book) in
+    (has .size, (fresh-is has, p .few))
 
 add-riders-requires : tie.Need-add-riders-requires
 add-riders-requires c κs =

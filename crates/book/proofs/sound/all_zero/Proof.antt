@@ -7,16 +7,17 @@ use borrow.Author.Needs.{needs}
 use lib.Dec.{eqb}
 use Rattle.wire.specs.Each.{each}
 use Rattle.wire.proofs.Each.{each-none}
+use Rattle.book.specs.Words.{bookWords}
 use Rattle.book.specs.Sound.{allZero}
 use Rattle.book.proofs.SoundLaws.{zeroRight, or-zero, one-more, all-done}
 use Rattle.book.proofs.sound.all_zero.Statement.{statement}
 use Rattle.book.proofs.sound.all_zero.Tie as tie
 
 abbrev Inv-loop : tie.InvT-loop
-Inv-loop book bits₀ i₀ bits i = (i ≤ 1357) × (eqb bits 0 ≡ each i (zeroRight book))
+Inv-loop book bits₀ i₀ bits i = (i ≤ bookWords) × (eqb bits 0 ≡ each i (zeroRight book))
 
 abbrev μ-loop : tie.MeasureT-loop
-μ-loop book bits₀ i₀ bits i = 1357 - i
+μ-loop book bits₀ i₀ bits i = bookWords - i
 
 loop-holds : tie.Need-loop-holds Inv-loop μ-loop
 loop-holds c = (omega arith, sym (each-none (zeroRight (c .before .args .book .now))))
@@ -41,7 +42,7 @@ loop-again c = (
 returns : tie.Need-returns Inv-loop μ-loop
 unfolding allZero
 returns c =
-    all-done 1357 _ (zeroRight (c .before .before .before .args .book .now)) _
+    all-done bookWords _ (zeroRight (c .before .before .before .args .book .now)) _
     (c .before .loop .inv .0)
     (c .loop-test .left)
     (c .before .loop .inv .1)

@@ -6,37 +6,29 @@ use mathlib.Core.Path.{_≡_, sym}
 use borrow.Author.Needs.{needs}
 use Rattle.wire.specs.Each.{each}
 use Rattle.wire.proofs.Each.{each-none}
+use Rattle.book.specs.Words.{pairs}
 use Rattle.book.specs.Sound.{pairsSound}
 use Rattle.book.proofs.SoundLaws.{pairRight, one-pair-more, all-done}
 use Rattle.book.proofs.sound.pairs_sound.Statement.{statement}
 use Rattle.book.proofs.sound.pairs_sound.Tie as tie
 
 abbrev Inv-loop : tie.InvT-loop
-Inv-loop book most right₀ i₀ right i = (i ≤ 672) × (right ≡ each i (pairRight book most))
+Inv-loop book most right₀ i₀ right i = (i ≤ pairs) × (right ≡ each i (pairRight book most))
 
 abbrev μ-loop : tie.MeasureT-loop
-μ-loop book most right₀ i₀ right i = 672 - i
+μ-loop book most right₀ i₀ right i = pairs - i
 
 loop-holds : tie.Need-loop-holds Inv-loop μ-loop
 loop-holds c = (omega arith, sym (each-none (pairRight (c .before .args .book .now) (c .before .args .most))))
 
-mul-get : tie.Need-mul-get Inv-loop μ-loop
-mul-get c = omega arith
-
-add-get : tie.Need-add-get Inv-loop μ-loop
-add-get c = omega arith
+pair-at-requires : tie.Need-pair-at-requires Inv-loop μ-loop
+pair-at-requires c κs = omega arith
 
 get-requires : tie.Need-get-requires Inv-loop μ-loop
 get-requires c κs = search needs
 
-mul-get-2 : tie.Need-mul-get-2 Inv-loop μ-loop
-mul-get-2 c = omega arith
-
-add-get-2 : tie.Need-add-get-2 Inv-loop μ-loop
-add-get-2 c = omega arith
-
-add-get-3 : tie.Need-add-get-3 Inv-loop μ-loop
-add-get-3 c = omega arith
+add-get : tie.Need-add-get Inv-loop μ-loop
+add-get c = search needs
 
 get-requires-2 : tie.Need-get-requires-2 Inv-loop μ-loop
 get-requires-2 c κs = search needs
@@ -50,7 +42,8 @@ loop-less c = omega arith
 loop-again : tie.Need-loop-again Inv-loop μ-loop
 loop-again c = (
   omega arith,
-  one-pair-more (c .before .before .before .before .before .args .book .now) _ _ _ _ _ (c .before .before .before .loop .inv .1)
+  one-pair-more (c .before .before .before .before .before .before .args .book .now) _ _ _ _ _ _ (c .before .before .before .before .loop .inv .1)
+      (c .before .before .pair-at .ensures .0)
       (c .before .get .ensures .value)
       (c .get2 .ensures .value),
 )
@@ -58,7 +51,7 @@ loop-again c = (
 returns : tie.Need-returns Inv-loop μ-loop
 unfolding pairsSound
 returns c =
-    all-done 672 _ (pairRight (c .before .before .before .args .book .now) (c .before .before .before .args .most)) _
+    all-done pairs _ (pairRight (c .before .before .before .args .book .now) (c .before .before .before .args .most)) _
     (c .before .loop .inv .0)
     (c .loop-test .left)
     (c .before .loop .inv .1)
@@ -70,12 +63,9 @@ pairs-sound-spec =
     Inv-loop
     μ-loop
     loop-holds
-    mul-get
-    add-get
+    pair-at-requires
     get-requires
-    mul-get-2
-    add-get-2
-    add-get-3
+    add-get
     get-requires-2
     add-i
     loop-less

@@ -1,5 +1,5 @@
--- `book::windows::window_of` meets its contract: the test is the definition's. A sound book's opening is a minute of the calendar and its
--- trips are at most 256, so neither sum wraps.
+-- `book::windows::window_of` meets its contract: the test is the definition's. A sound book's opening is a minute of the calendar, so the sum
+-- does not wrap, and its trips are at most 256.
 -- Assumes nothing.
 use native.Mathlib.Omega.{arith}
 use Rattle.book.proofs.SoundLaws.{sound-has, opening-most}
@@ -16,16 +16,17 @@ get-requires-2 c κs = (sound-has _ _ (c .before .before .pre) .size, omega arit
 add-if1 : tie.Need-add-if1
 add-if1 c = omega (arith, opening-most _ _ (c .before .before .before .pre))
 
-add-t13 : tie.Need-add-t13
-add-t13 c = omega (arith, sound-has _ _ (c .before .before .before .before .before .pre) .trips)
-
 returns : tie.Need-returns
-returns c =
-    same-window _ _ _ _ _ (c .before .before .before .get .ensures .value) (c .before .before .get2 .ensures .value) (c .if1 .taken)
+returns c = (
+  same-window _ _ _ _ _ (c .before .before .before .get .ensures .value) (c .before .before .get2 .ensures .value) (c .if1 .taken),
+  omega (arith, sound-has _ _ (c .before .before .before .before .before .pre) .trips, c .before .before .before .get .ensures .value),
+)
 
 returns-2 : tie.Need-returns-2
-returns-2 c =
-    next-window _ _ _ _ _ (c .before .before .before .get .ensures .value) (c .before .before .get2 .ensures .value) (c .if1 .left)
+returns-2 c = (
+  next-window _ _ _ _ _ (c .before .before .before .get .ensures .value) (c .before .before .get2 .ensures .value) (c .if1 .left),
+  omega arith,
+)
 
 pub window-of-spec : {M : Type 1} → statement M
-window-of-spec = tie.close (tie.spec get-requires get-requires-2 add-if1 add-t13 returns returns-2)
+window-of-spec = tie.close (tie.spec get-requires get-requires-2 add-if1 returns returns-2)

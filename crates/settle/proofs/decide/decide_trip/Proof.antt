@@ -17,10 +17,13 @@ returns c = early-way _ _ _ _ (c .before .too-early .ensures) (c .if1 .taken)
 window-of-requires : tie.Need-window-of-requires
 window-of-requires c κs = search needs
 
+add-if2 : tie.Need-add-if2
+add-if2 c = search needs
+
 returns-2 : tie.Need-returns-2
 returns-2 c =
     let past = c .before .before .before in
-    full-way _ _ _ (sym (past .before .too-early .ensures) ∙ past .if1 .left) _ (c .before .before .window-of .ensures) (c .if2 .taken)
+    full-way _ _ _ (sym (past .before .too-early .ensures) ∙ past .if1 .left) _ (c .before .before .window-of .ensures .0) (c .if2 .taken)
 
 record-size-requires : tie.Need-record-size-requires
 record-size-requires c κs = search needs
@@ -28,13 +31,13 @@ record-size-requires c κs = search needs
 returns-3 : tie.Need-returns-3
 returns-3 c =
     let past = c .before .before .before .before .before in
-    short-way _ _ _ (sym (past .before .too-early .ensures) ∙ past .if1 .left) _ (c .before .before .before .before .window-of .ensures)
+    short-way _ _ _ (sym (past .before .too-early .ensures) ∙ past .if1 .left) _ (c .before .before .before .before .window-of .ensures .0)
     (c .before .before .if2 .left) (omega (arith, c .before .record-size .ensures))
 
 returns-4 : tie.Need-returns-4
 returns-4 c =
     let past = c .before .before .before .before .before in
-    clear-way _ _ _ (sym (past .before .too-early .ensures) ∙ past .if1 .left) _ (c .before .before .before .before .window-of .ensures)
+    clear-way _ _ _ (sym (past .before .too-early .ensures) ∙ past .if1 .left) _ (c .before .before .before .before .window-of .ensures .0)
     (c .before .before .if2 .left) (omega (arith, c .before .record-size .ensures))
 
 pub decide-trip-spec : {M : Type 1} → statement M
@@ -44,6 +47,7 @@ decide-trip-spec =
     too-early-requires
     returns
     window-of-requires
+    add-if2
     returns-2
     record-size-requires
     returns-3
