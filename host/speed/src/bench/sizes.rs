@@ -9,21 +9,23 @@ use std::{env, fs};
 pub fn report(programs: &Programs) -> Result<(), String> {
     println!("\n## Sizes in bytes\n");
     let mut table = Table::of(["file", "all", "code and constants"]);
-    let archive = archive();
-    for (name, file) in
-        [("libsettle.a", &archive)].into_iter().chain(programs.names.iter().copied().zip(&programs.paths))
-    {
+    for file in [&archive()?].into_iter().chain(&programs.paths) {
+        let name = file.file_name().unwrap_or_default().to_string_lossy().to_string();
         let all = fs::metadata(file).map_err(|error| format!("{}: {error}", file.display()))?.len();
-        table.row([name.to_string(), with_commas(all), text_of(file).map_or(NONE.to_string(), with_commas)]);
+        table.row([name, with_commas(all), text_of(file).map_or(NONE.to_string(), with_commas)]);
     }
     print!("{table}");
     Ok(())
 }
 
-/// MILECOPPER_LIB_DIR is its directory, seen from this package's; ../../target/staticlib unless set.
-fn archive() -> PathBuf {
-    let directory = env::var("MILECOPPER_LIB_DIR").unwrap_or("../../target/staticlib".to_string());
-    package().join(directory).join("libsettle.a")
+/// The one archive of its directory. MILECOPPER_LIB_DIR is that, seen from this package's; ../../target/staticlib unless
+/// set.
+fn archive() -> Result<PathBuf, String> {
+    let directory = package().join(env::var("MILECOPPER_LIB_DIR").unwrap_or("../../target/staticlib".to_string()));
+    let files = fs::read_dir(&directory).map_err(|error| format!("{}: {error}", directory.display()))?;
+    let mut archives =
+        files.flatten().map(|file| file.path()).filter(|file| file.extension().is_some_and(|a| a == "a"));
+    archives.next().ok_or(format!("no archive in {}", directory.display()))
 }
 
 /// What the tool `size` calls text, of all members; nothing where there is no such tool.
