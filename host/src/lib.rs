@@ -1,6 +1,7 @@
 //! The Rust host of Milecopper.
 //!
-//! - [`model`] is an implementation of the paper, written from the paper alone in the plainest Rust, to be read beside it.
+//! - [`model`] is an implementation of the rules, written from them alone in the plainest Rust, to be read beside
+//!   docs/RULES.md.
 //! - [`maker`] makes tariffs, trips and whole case files from a readable text.
 //! - [`numbers`] reads and puts little-endian numbers, for both.
 //! - [`answer`] takes the number that settling answers apart.

@@ -1,4 +1,4 @@
-//! The paper's rules in the plainest Rust. One file a subject, in the paper's order:
+//! The rules of docs/RULES.md in the plainest Rust. One file a subject:
 //!
 //! - [`record`]: the frame of a record, and its fields one after another;
 //! - [`tariff`]: areas and stops, refusals 1 to 3, the smallest area containing some;
@@ -9,7 +9,7 @@
 //! - [`charge`]: windows, caps, charges, bicycles and the charge record;
 //! - [`roll`]: what the program prints.
 //!
-//! This file holds settling itself: the refusals in the order of the paper's table, then the writing.
+//! This file holds settling itself: the refusals in the order of their table, then the writing.
 
 pub mod book;
 pub mod charge;

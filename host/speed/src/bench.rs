@@ -1,4 +1,4 @@
-//! The benchmark: the proved library and the program beside the plain implementation of the paper and the tuned one,
+//! The benchmark: the proved library and the program beside the plain implementation of the rules and the tuned one,
 //! which is the yardstick. It prints a page of tables in Markdown.
 //!
 //! - [`sides`]: those that settle; [`agree`]: all make the same of every case before anything is measured;

@@ -1,4 +1,4 @@
-//! `model_roll TARIFF ROLL`: what the paper's program prints for these files, by the plain implementation of the paper.
+//! `model_roll TARIFF ROLL`: what the program has to print for these files, by the plain implementation of the rules.
 
 use std::{env, fs, process};
 

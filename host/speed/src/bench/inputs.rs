@@ -26,7 +26,7 @@ pub fn largest() -> Network {
     Network { name: "largest", tariff: made(&(areas(MOST_AREAS) + &spread_stops(MOST_STOPS))), stops: largest_stops }
 }
 
-/// The paper's sample: 7 areas, 28 stops.
+/// samples/tariff.bin: 7 areas, 28 stops.
 pub fn sample() -> Network {
     Network { name: "sample", tariff: include_bytes!("../../../../samples/tariff.bin").to_vec(), stops: sample_stops }
 }
