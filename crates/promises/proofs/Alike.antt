@@ -6,13 +6,13 @@ use native.Mathlib.Omega.{arith}
 use native.Mathlib.Decide.{ℕ-discrete, decLt}
 use mathlib.Core.Path.{_≡_, refl, sym, ap, _∙_}
 use mathlib.Core.Logic.{_⊎_, inl, inr, ⊎-elim}
-use mathlib.Core.List.{List, _++_, append-assoc}
+use mathlib.Core.List.{List, _++_}
 use mathlib.Core.Bool.{Bool, true, false, cond}
-use lib.ListN.{length, getD, set, length-set, length-append, List·getD-append}
-use lib.Seq.{getD-set-same, getD-set-other, set-out, getD-append-add}
+use lib.ListN.{length, getD, set, length-set}
+use lib.Seq.{getD-set-same, getD-set-other, set-out}
 use lib.Dec.{eqb}
-use Rattle.wire.specs.Number.{getLe, putLe, bytesOf}
-use Rattle.wire.proofs.Number.{length-put, byte-other, get-same, length-bytes}
+use Rattle.wire.specs.Number.{getLe, putLe}
+use Rattle.wire.proofs.Number.{length-put, byte-other, get-same}
 use Rattle.tariff.specs.declared.Counts.{Counts}
 use Rattle.tariff.specs.Rules.{levelOf}
 use Rattle.tariff.specs.Areas.{areaAt, parentOf}
@@ -23,7 +23,6 @@ use Rattle.book.specs.Words.{freshBook, word, putWord, pairPlace, secondSum, al
 use Rattle.book.specs.Windows.{inWindow}
 use Rattle.book.specs.Charging.{cappedAt, chargeUp, riderCharge, riderCharges, newCover, bicycleCharges, chargesOf}
 use Rattle.book.specs.Posting.{addHere, addUp, addList, coverBicycles, opened, posted}
-use Rattle.settle.specs.Record.{headBytes, amountBytes, recordOf}
 use Rattle.promises.specs.Moved.{AlikeBut}
 
 -- ---- Bytes.
@@ -226,48 +225,3 @@ module _ (tariff : List ℕ) (counts : Counts) where
       (rw current (words-alike (window .current) same)) trips)
 
 -- ---- The record.
-
--- three parts of which the middle ones have one length
-middle-alike :
-    (front mid mid′ back : List ℕ) (n m : ℕ) → length front ≡ n → length mid ≡ m → length mid′ ≡ m
-    → AlikeBut n (n + m) (front ++ (mid ++ back)) (front ++ (mid′ ++ back))
-middle-alike front mid mid′ back n m e k k′ =
-    record {
-      size = simp (length-append) (omega arith);
-      rest = λ i. ⊎-elim (before i) (behind i);
-    }
-  where
-    before : (i : ℕ) → i < n → getD (front ++ (mid′ ++ back)) i 0 ≡ getD (front ++ (mid ++ back)) i 0
-    before i h =
-        List·getD-append front (mid′ ++ back) 0 i (omega arith) ∙ sym (List·getD-append front (mid ++ back) 0 i (omega arith))
-
-    past : (part : List ℕ) (j : ℕ) → length part ≡ m → getD (front ++ (part ++ back)) (n + (m + j)) 0 ≡ getD back j 0
-    past part j k″ = rw (← e, ← k″) (getD-append-add front (part ++ back) (length part + j) 0 ∙ getD-append-add part back j 0)
-
-    behind : (i : ℕ) → n + m ≤ i → getD (front ++ (mid′ ++ back)) i 0 ≡ getD (front ++ (mid ++ back)) i 0
-    behind i h =
-        let j = i - (n + m) in
-        let place : i ≡ n + (m + j) = omega arith in
-        rw place (past mid′ j k′ ∙ sym (past mid j k))
-
--- what stands behind the opening
-abbrev behindOpening : Ride → List ℕ → List ℕ
-behindOpening ride charges = bytesOf 1 (ride .area) ++ (bytesOf 2 (ride .km .0) ++ (bytesOf 2 (ride .minutes .0) ++ amountBytes charges))
-
-laid-out :
-    (opening : ℕ) (ride : Ride) (charges : List ℕ)
-    → recordOf opening ride charges
-    ≡ (bytesOf 2 (11 + 4 * length charges) ++ bytesOf 2 4) ++ (bytesOf 4 opening ++ behindOpening ride charges)
-unfolding recordOf headBytes
-laid-out opening ride charges = simp append-assoc
-
--- Two records of one ride and its charges are alike but for the opening.
-pub record-alike :
-    (opening opening′ : ℕ) (ride : Ride) (charges : List ℕ) → AlikeBut 4 8 (recordOf opening ride charges) (recordOf opening′ ride charges)
-record-alike opening opening′ ride charges =
-    rw (laid-out opening, laid-out opening′)
-    (middle-alike (bytesOf 2 (11 + 4 * length charges) ++ bytesOf 2 4) (bytesOf 4 opening) (bytesOf 4 opening′)
-    (behindOpening ride charges) 4 4 two (length-bytes 4 opening) (length-bytes 4 opening′))
-  where
-    two : length (bytesOf 2 (11 + 4 * length charges) ++ bytesOf 2 4) ≡ 4
-    two = length-append (bytesOf 2 (11 + 4 * length charges)) (bytesOf 2 4) ∙ omega (arith, length-bytes 2 (11 + 4 * length charges), length-bytes 2 4)

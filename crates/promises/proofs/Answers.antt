@@ -4,11 +4,10 @@ use Prim.Native.Nat.{ℕ, _+_, _-_, _*_, _/_, _%_, _^_, _≤_, _<_}
 use native.Mathlib.Nat.{zero-add}
 use native.Mathlib.Omega.{arith}
 use native.Mathlib.Decide.{decLt}
-use mathlib.Core.Path.{_≡_, refl, sym, _∙_}
+use mathlib.Core.Path.{_≡_, refl, sym, ap, _∙_}
 use mathlib.Core.Logic.{_↔_, ⊎-elim}
-use mathlib.Core.List.{List}
+use mathlib.Core.List.{List, [], _∷_, append-nil}
 use lib.ListN.{length, getD}
-use Rattle.wire.specs.Number.{getLe, bytesOf}
 use Rattle.calendar.specs.Stamps.{lastMinute}
 use Rattle.tariff.specs.declared.Counts.{Counts}
 use Rattle.tariff.specs.Scan.{FaultSays}
@@ -27,12 +26,18 @@ use Rattle.fare.specs.Rides.{Riding, rideOf}
 use Rattle.fare.proofs.Distance.{km-holds, km-least, km-range}
 use Rattle.fare.proofs.Stops.{stop-there, area-of-stops}
 use Rattle.book.specs.Windows.{windowOf, inWindow}
-use Rattle.book.specs.Charging.{chargesOf}
+use Rattle.book.specs.Charging.{Rideable, chargesOf}
+use Rattle.book.specs.Posting.{posted}
 use Rattle.book.proofs.SoundLaws.{sound-has}
 use Rattle.book.proofs.SoundAgain.{WindowRight, window-right}
 use Rattle.book.proofs.ChargeLaws.{charges-length, adult-stands, child-stands, bicycle-stands, charges-most}
-use Rattle.settle.specs.Record.{recordSize, headBytes, recordOf}
-use Rattle.settle.specs.Outcome.{Outcome, refused, accepted, acceptedTrip, settled, answerOf, Settled}
+use Rattle.statement.specs.Record.{Part, sizeWith, recordSize, recordOf, statementOf, Recordable}
+use Rattle.statement.specs.Reading.{chargeIn}
+use Rattle.statement.specs.Contracts.{StandsAt}
+use Rattle.statement.proofs.Charges.{length-record, one-part as one-record}
+use Rattle.statement.proofs.Records.{long-is, kind-is, opening-is, area-is, km-is, minutes-is, charge-is}
+use Rattle.settle.specs.Outcome.{Outcome, refused, accepted, partOf, acceptedTrip, settled, answerOf, Settled}
+use Rattle.settle.proofs.Parts.{one-part, one-posted}
 use Rattle.settle.proofs.Ways.{sound-way, clear-way, fault-way, accepted-way}
 use Rattle.promises.specs.Conditions.{checkinOf, checkoutOf, condition, RefusedBy, by-tariff, by-others, AcceptedBy, RecordSays}
 use Rattle.promises.proofs.TripConditions.{good-read}
@@ -48,54 +53,72 @@ use Rattle.promises.proofs.Refusing.{
   no-more,
   early-not,
 }
-use Rattle.promises.proofs.Records.{record-length, charge-at, opening-at, area-at, km-at, minutes-at}
 use Rattle.promises.proofs.GoodRides.{apart-most, good-ride}
 
 -- ---- What the record says.
 
 -- the window of an accepted trip
 pub right-window :
-    {tariff book bytes : List ℕ} {room : ℕ} {new entry : List ℕ} (a : AcceptedBy tariff book bytes room new entry)
+    {tariff book bytes : List ℕ} {room : ℕ} {new : List ℕ} {parts : List Part} (a : AcceptedBy tariff book bytes room new parts)
     → WindowRight book (a .window) (a .trip .checkout .0)
 right-window {tariff} {book} {bytes} a =
     let times = offered.good-times bytes (a .counts .stops) (a .trip) (offered.good bytes (a .counts .stops) (a .trip) (a .good)) in
     window-right (sound-has book (a .counts .areas) (a .sound-book)) (times .forward) (times .short) (times .range) (a .on-time) (a .window)
     (a .window-is) (a .few)
 
-module _ (tariff bytes w : List ℕ) (counts : Counts) (trip : Trip) (opens : ℕ) (entry : List ℕ) (read : Read tariff counts)
-    (good : readTrip bytes (counts .stops) ≡ Good trip) (in-range : opens ≤ lastMinute)
-    (most : (i : ℕ) → getD (chargesOf tariff counts w (rideOf tariff counts bytes trip)) i 0 ≤ 3790000)
-    (is :
-    entry
-    ≡ recordOf opens (rideOf tariff counts bytes trip) (chargesOf tariff counts w (rideOf tariff counts bytes trip))) where
+-- an accepted trip's part, and its record at the start of the bytes written
+module _ {tariff book bytes : List ℕ} {room : ℕ} {new : List ℕ} {parts : List Part} (a : AcceptedBy tariff book bytes room new parts) where
   abbrev ride : Ride
-  ride = rideOf tariff counts bytes trip
+  ride = rideOf tariff (a .counts) bytes (a .trip)
 
-  abbrev charges : List ℕ
-  charges = chargesOf tariff counts w ride
+  abbrev w : List ℕ
+  w = inWindow (a .window .current) book
 
-  -- charge i stands at 13 + 4i
-  charge-stands : (i : ℕ) → i < length charges → getLe 4 entry (13 + 4 * i) ≡ getD charges i 0
-  charge-stands i h = rw is (charge-at opens ride charges i h (omega (arith, most i)))
+  abbrev part : Part
+  part = partOf tariff (a .counts) book (a .window) ride
 
-  -- the record's length and kind
-  long-at : 11 + 4 * length charges < 65536 → getLe 2 (recordOf opens ride charges) 0 ≡ 11 + 4 * length charges
-  unfolding recordOf headBytes bytesOf getLe
-  long-at small = omega arith
+  pub parts-are : parts ≡ part ∷ []
+  parts-are = a .parts-is ∙ one-part tariff (a .counts) book bytes (a .trip) (a .window)
 
-  kind-at : getLe 2 (recordOf opens ride charges) 2 ≡ 4
-  unfolding recordOf headBytes bytesOf getLe
-  kind-at = refl
+  pub new-posted : new ≡ posted tariff (a .counts) book (a .window) (a .trip .checkout .0) ride
+  new-posted = a .new-is ∙ one-posted tariff (a .counts) book bytes (a .trip) (a .window)
 
-  said : RecordSays tariff bytes w counts opens (trip .stops - 1) ride entry
-  unfolding rideOf
+  rideable : Rideable tariff (a .counts) book ride
+  rideable = good-ride tariff (a .counts) book bytes (a .trip) (a .read) (a .sound-book) (a .good)
+
+  recordable : Recordable part
+  unfolding partOf
+  recordable =
+      let head = right-window a .head in
+      let few = faultless tariff (a .counts) (a .read) .few-areas in
+      let count = charges-length tariff (a .counts) w ride in
+      record {
+        opening = omega arith;
+        area = omega (arith, rideable .area);
+        km = omega (arith, rideable .km);
+        minutes = omega (arith, rideable .minutes);
+        few = omega (arith, rideable .adults, rideable .children, rideable .bicycles);
+        charges = λ i. omega (arith, charges-most rideable (a .window .current) i);
+      }
+
+  stands : StandsAt part (statementOf parts) 0
+  stands = record { rest = []; is = ap statementOf parts-are ∙ one-record part ∙ sym (append-nil (recordOf part)) }
+
+  -- charge i stands at its place
+  charge-stands : (i : ℕ) → i < length (chargesOf tariff (a .counts) w ride) → chargeIn (statementOf parts) 0 i ≡ getD (chargesOf tariff (a .counts) w ride) i 0
+  unfolding partOf
+  charge-stands i h = charge-is part (statementOf parts) 0 stands recordable i h
+
+  said : RecordSays tariff bytes w (a .counts) (a .window .opening .0) (a .trip .stops - 1) ride (statementOf parts)
+  unfolding rideOf partOf
   said =
-      let facts = offered.good bytes (counts .stops) trip good in
-      let g = good-read bytes (counts .stops) trip good in
+      let counts = a .counts in
+      let trip = a .trip in
+      let facts = offered.good bytes (counts .stops) trip (a .good) in
+      let g = good-read bytes (counts .stops) trip (a .good) in
       let party = party-ranges (trip .class) (trip .level) (trip .party) (trip .stops) (facts .right) in
-      let times = offered.good-times bytes (counts .stops) trip facts in
       let riding : Riding tariff counts bytes (trip .stops) =
-      record { read = read; known = facts .known-stops; fits = omega (arith, facts .size) }
+      record { read = a .read; known = facts .known-stops; fits = omega (arith, facts .size) }
       in
       let last = trip .stops - 1 in
       let there : last < trip .stops = omega arith in
@@ -103,33 +126,34 @@ module _ (tariff bytes w : List ℕ) (counts : Counts) (trip : Trip) (opens : �
       let from = stop-there riding 0 (omega arith) in
       let to = stop-there riding last there in
       let near = apart-most _ _ (from .ranges) (to .ranges) in
-      let small : ride .area < 256 = omega (arith, smallest .there, faultless tariff counts read .few-areas) in
-      let count = charges-length tariff counts w ride in
+      let count = charges-length tariff (a .counts) w ride in
+      let s = statementOf parts in
+      let long : length s ≡ sizeWith (length (chargesOf tariff (a .counts) w ride)) = ap length (ap statementOf parts-are ∙ one-record part) ∙ length-record part in
       record {
-        size = rw is (omega (arith, record-length opens ride charges));
-        long = rw (is, record-length opens ride charges) (omega (arith, long-at (omega arith)));
-        kind = rw is kind-at;
-        opening = rw is (opening-at opens ride charges (omega arith));
-        area = rw (is, area-at opens ride charges small) smallest;
-        km = rw (is, km-at opens ride charges (omega (arith, km-range _ near)))
+        size = omega arith;
+        long = rw (long-is part s 0 stands recordable) (omega arith);
+        kind = kind-is part s 0 stands recordable;
+        opening = opening-is part s 0 stands recordable;
+        area = rw (area-is part s 0 stands recordable) smallest;
+        km = rw (km-is part s 0 stands recordable)
             (record { value = refl; holds = km-holds _ near; least = km-least _ near; range = km-range _ near });
-        minutes = rw (is, ← g .from, ← g .to) (minutes-at opens ride charges (omega arith));
-        holder = charge-stands 0 (omega arith) ∙ adult-stands tariff counts w ride 0 (omega arith);
-        adults = λ i h. charge-stands (1 + i) (omega arith) ∙ adult-stands tariff counts w ride (1 + i) (omega arith);
-        children = λ i h. charge-stands (1 + ride .party .adults + i) (omega arith) ∙ child-stands tariff counts w ride i h;
+        minutes = rw (← g .from, ← g .to) (minutes-is part s 0 stands recordable);
+        holder = charge-stands 0 (omega arith) ∙ adult-stands tariff (a .counts) w ride 0 (omega arith);
+        adults = λ i h. charge-stands (1 + i) (omega arith) ∙ adult-stands tariff (a .counts) w ride (1 + i) (omega arith);
+        children = λ i h. charge-stands (1 + ride .party .adults + i) (omega arith) ∙ child-stands tariff (a .counts) w ride i h;
         bicycles = λ i h.
-            charge-stands (1 + ride .party .adults + ride .party .children + i) (omega arith) ∙ bicycle-stands tariff counts w ride i h;
+            charge-stands (1 + ride .party .adults + ride .party .children + i) (omega arith) ∙ bicycle-stands tariff (a .counts) w ride i h;
       }
 
 -- ---- The answers.
 
 module _ (tariff book bytes : List ℕ) (room : ℕ) where
   -- What an acceptance says: the tariff is faultless, the book is sound, the trip is good, on time and at most the 256th of its window,
-  -- there is room for its record; the new book and the record are those of its ride.
-  pub accepted-is : {new entry : List ℕ} → settled tariff book bytes room ≡ accepted new entry → AcceptedBy tariff book bytes room new entry
-  accepted-is {new} {entry} e = met (rw e at (answered tariff book bytes room))
+  -- there is room for its record; the new book and the parts are those of its rides.
+  pub accepted-is : {new : List ℕ} {parts : List Part} → settled tariff book bytes room ≡ accepted new parts → AcceptedBy tariff book bytes room new parts
+  accepted-is {new} {parts} e = met (rw e at (answered tariff book bytes room))
     where
-      met : Answered tariff book bytes room (accepted new entry) → AcceptedBy tariff book bytes room new entry
+      met : Answered tariff book bytes room (accepted new parts) → AcceptedBy tariff book bytes room new parts
       met (accepting says) = says
 
   -- What a refusal says. 1 to 3: every record before its place is faultless, and the one there is faulty in the way of the number, where 1
@@ -154,16 +178,16 @@ module _ (tariff book bytes : List ℕ) (room : ℕ) where
   -- Where none of the twelve conditions holds, the trip is accepted.
   pub accepts :
       ((n : ℕ) → condition tariff book bytes room n → ⊥)
-      → (new : List ℕ) × (entry : List ℕ) × (settled tariff book bytes room ≡ accepted new entry)
+      → (new : List ℕ) × (parts : List Part) × (settled tariff book bytes room ≡ accepted new parts)
   accepts none = go (settled tariff book bytes room) refl
     where
       go : (o : Outcome) → settled tariff book bytes room ≡ o
-          → (new : List ℕ) × (entry : List ℕ) × (settled tariff book bytes room ≡ accepted new entry)
+          → (new : List ℕ) × (parts : List Part) × (settled tariff book bytes room ≡ accepted new parts)
       go (refused n place) e = absurd (none n (refused-holds (refused-is e)))
-      go (accepted new entry) e = (new, entry, e)
+      go (accepted new parts) e = (new, parts, e)
 
   -- And an accepted trip meets none of the twelve.
-  pub accepted-meets-none : {new entry : List ℕ} → AcceptedBy tariff book bytes room new entry → (n : ℕ) → condition tariff book bytes room n → ⊥
+  pub accepted-meets-none : {new : List ℕ} {parts : List Part} → AcceptedBy tariff book bytes room new parts → (n : ℕ) → condition tariff book bytes room n → ⊥
   unfolding condition
   accepted-meets-none a n =
       let counts = a .counts in
@@ -185,28 +209,21 @@ module _ (tariff book bytes : List ℕ) (room : ℕ) where
   -- The record of an accepted trip says the window's opening, the smallest area containing all its stops, the least kilometres between
   -- the first and the last, check-out less check-in, and the charges in the order holder, adults, children, bicycles.
   pub record-says :
-      {new entry : List ℕ} (a : AcceptedBy tariff book bytes room new entry)
+      {new : List ℕ} {parts : List Part} (a : AcceptedBy tariff book bytes room new parts)
       → RecordSays tariff bytes (inWindow (a .window .current) book) (a .counts) (a .window .opening .0) (a .trip .stops - 1)
-      (rideOf tariff (a .counts) bytes (a .trip)) entry
-  record-says {entry = entry} a =
-      let counts = a .counts in
-      let trip = a .trip in
-      let head = right-window a .head in
-      let rideable = good-ride tariff counts book bytes trip (a .read) (a .sound-book) (a .good) in
-      said tariff bytes (inWindow (a .window .current) book) counts trip (a .window .opening .0) entry (a .read) (a .good)
-      (omega arith)
-      (charges-most rideable (a .window .current)) (a .entry-is)
+      (rideOf tariff (a .counts) bytes (a .trip)) (statementOf parts)
+  record-says a = said a
 
   -- An acceptance is given exactly when what it says holds.
-  pub accepted-exactly : (new entry : List ℕ) → settled tariff book bytes room ≡ accepted new entry ↔ AcceptedBy tariff book bytes room new entry
+  pub accepted-exactly : (new : List ℕ) (parts : List Part) → settled tariff book bytes room ≡ accepted new parts ↔ AcceptedBy tariff book bytes room new parts
   unfolding acceptedTrip
-  accepted-exactly new entry = (accepted-is, back)
+  accepted-exactly new parts = (accepted-is, back)
     where
-      made : (a : AcceptedBy tariff book bytes room new entry)
-          → acceptedTrip tariff (a .counts) book bytes (a .trip) (windowOf book (a .trip .checkin .0) (a .trip .checkout .0)) ≡ accepted new entry
-      made a = rw (a .new-is, a .entry-is, a .window-is)
+      made : (a : AcceptedBy tariff book bytes room new parts)
+          → acceptedTrip tariff (a .counts) book bytes (a .trip) (windowOf book (a .trip .checkin .0) (a .trip .checkout .0)) ≡ accepted new parts
+      made a = rw (a .new-is, a .parts-is, a .window-is)
 
-      back : AcceptedBy tariff book bytes room new entry → settled tariff book bytes room ≡ accepted new entry
+      back : AcceptedBy tariff book bytes room new parts → settled tariff book bytes room ≡ accepted new parts
       back a =
           let counts = a .counts in
           let trip = a .trip in
@@ -219,7 +236,7 @@ module _ (tariff book bytes : List ℕ) (room : ℕ) where
 
   -- A trip is accepted exactly when none of the twelve conditions holds.
   pub accepts-exactly :
-      ((new : List ℕ) × (entry : List ℕ) × (settled tariff book bytes room ≡ accepted new entry))
+      ((new : List ℕ) × (parts : List Part) × (settled tariff book bytes room ≡ accepted new parts))
       ↔ ((n : ℕ) → condition tariff book bytes room n → ⊥)
   accepts-exactly = (λ w. accepted-meets-none (accepted-is (w .2)), accepts)
 
@@ -248,7 +265,7 @@ module _ (tariff book bytes : List ℕ) (room : ℕ) where
           absurd (no-fault tariff counts read m at soFar (found .passed) says)
       met (refused m at) (refusing (by-others counts′ read′ none′ low high holds′ before′)) counts read none holds before =
           same m at holds before holds′ before′ none none′
-      met (accepted new entry) (accepting a) counts read none holds before = absurd (accepted-meets-none a n holds)
+      met (accepted new parts) (accepting a) counts read none holds before = absurd (accepted-meets-none a n holds)
 
       back : RefusedBy tariff book bytes room n place → settled tariff book bytes room ≡ refused n place
       back (by-tariff soFar found says) =
@@ -289,9 +306,9 @@ module _ (tariff book bytes : List ℕ) (room : ℕ) where
 
   -- An acceptance answers the bytes written, 17 to 137.
   pub accepted-answer :
-      {new entry : List ℕ} → settled tariff book bytes room ≡ accepted new entry
+      {new : List ℕ} {parts : List Part} → settled tariff book bytes room ≡ accepted new parts
       → (17 ≤ answerOf (settled tariff book bytes room)) × (answerOf (settled tariff book bytes room) ≤ 137)
-  accepted-answer {new} {entry} e =
+  accepted-answer {new} {parts} e =
       let a = accepted-is e in
       let size = record-says a .size in
       let carried = good-ride tariff (a .counts) book bytes (a .trip) (a .read) (a .sound-book) (a .good) in

@@ -7,6 +7,5 @@ pub mod TripConditions
 pub mod Shifts
 pub mod Alike
 pub mod RunLaws
-pub mod Records
 pub mod GoodRides
 pub mod Trees

@@ -18,7 +18,7 @@ use Rattle.promises.specs.Runs.{Offer, bookOf}
 use Rattle.promises.specs.Conditions.{RefusedBy, by-tariff, by-others}
 use Rattle.promises.specs.Moved.{MovedTrip, MovedBook, MovedOutcome, both-refused, both-accepted, MovedRun, moved-none, moved-more}
 use Rattle.promises.proofs.Answers.{accepted-is, accepts, accepted-meets-none, refused-is, refused-exactly}
-use Rattle.promises.proofs.Shifts.{Shifted, shifted-back, conditions-alike, moved-record, moved-book}
+use Rattle.promises.proofs.Shifts.{Shifted, shifted-back, conditions-alike, moved-parts, moved-book}
 use Rattle.promises.proofs.Alike.{alike-self}
 
 -- ---- Windows.
@@ -91,14 +91,14 @@ module _ (tariff : List ℕ) (room d : ℕ) {book bytes book′ bytes′ : List 
       go : (o : Outcome) → settled tariff book bytes room ≡ o → MovedOutcome d (settled tariff book bytes room) (settled tariff book′ bytes′ room)
       go (refused n place) e =
           rw (e, refused-exactly tariff book′ bytes′ room n place .1 (refused-too (refused-is tariff book bytes room e))) (both-refused n place)
-      go (accepted new entry) e =
+      go (accepted new parts) e =
           let a = accepted-is tariff book bytes room e in
-          let (new′, entry′, e′) =
+          let (new′, parts′, e′) =
           accepts tariff book′ bytes′ room
           (λ n w. accepted-meets-none tariff book bytes room a n (conditions-alike (shifted-back s) tariff room n w))
           in
           let a′ = accepted-is tariff book′ bytes′ room e′ in
-          rw (e, e′) (both-accepted (moved-book s a a′) (moved-record s a a′))
+          rw (e, e′) (both-accepted (moved-book s a a′) (moved-parts s a a′))
 
 -- the same of a trip offered with room for its record
 offer-moved :
@@ -110,7 +110,7 @@ offer-moved tariff {d} {o} trip room books = rw room (moved-alike tariff (o .roo
 book-after :
     {d : ℕ} {o o′ : Outcome} {book book′ : List ℕ} → MovedOutcome d o o′ → MovedBook d book book′ → MovedBook d (bookAfter o book) (bookAfter o′ book′)
 book-after (both-refused n place) before = before
-book-after (both-accepted books entries) before = books
+book-after (both-accepted books parts) before = books
 
 -- a fresh book is a fresh book, whenever
 fresh-moved : (d : ℕ) → MovedBook d freshBook freshBook

@@ -3,7 +3,7 @@
 -- A run is any list of trips, offered one after another to `settled`, the definition that the exported function's contract cites, from a
 -- fresh book under one faultless tariff. A rider is the account holder (0), a carried adult (1 to 10) or a carried child (11 to 20). A
 -- rider's rides are those in the window that is open at the run's end, the latest first; a ride's area, class and price are those of the
--- accepted trip, and its charge is the number at the rider's place in the record that was written (specs/Runs.antt). Every beginning of a
+-- accepted trip's part, and its charge is the one at the rider's place among the part's (specs/Runs.antt). Every beginning of a
 -- run is a run: so what is said here of every run holds after each of its trips, and in each of its windows.
 -- Assumes nothing.
 use Prim.Native.Nat.{ℕ, _≤_, _<_}

@@ -28,7 +28,7 @@ use Rattle.book.specs.Words.{tripsOf, lastOutOf}
 use Rattle.book.specs.Sound.{sound}
 use Rattle.book.specs.Windows.{tooEarly, windowOf}
 use Rattle.settle.specs.declared.decide.Decision.the-variants.{Refused}
-use Rattle.settle.specs.Record.{recordSize}
+use Rattle.statement.specs.Record.{Part, recordSize}
 use Rattle.settle.specs.Outcome.{Outcome, refused, accepted, decidedTrip, decidedUnder, acceptedTrip, settled}
 use Rattle.settle.proofs.Ways.{early-way, full-way, short-way, clear-way, sound-way, fault-way, unsound-way, refused-way, accepted-way}
 use Rattle.promises.specs.Conditions.{countsOf, checkinOf, checkoutOf, condition, RefusedBy, by-tariff, by-others, AcceptedBy}
@@ -50,7 +50,7 @@ use Rattle.promises.proofs.TripConditions.{
 
 pub data Answered (tariff book bytes : List ℕ) (room : ℕ) : Outcome → Type 0 where
   refusing : {n place : ℕ} → RefusedBy tariff book bytes room n place → Answered tariff book bytes room (refused n place)
-  accepting : {new entry : List ℕ} → AcceptedBy tariff book bytes room new entry → Answered tariff book bytes room (accepted new entry)
+  accepting : {new : List ℕ} {parts : List Part} → AcceptedBy tariff book bytes room new parts → Answered tariff book bytes room (accepted new parts)
 
 -- 10, by its test
 early-is : (book : List ℕ) (checkin : ℕ) → tooEarly book checkin ≡ true → (tripsOf book ≡ 0 → ⊥) × (checkin < lastOutOf book)
@@ -186,7 +186,7 @@ module _ (tariff book bytes : List ℕ) (room : ℕ) where
                   few = few;
                   fits = room-for;
                   new-is = refl;
-                  entry-is = refl;
+                  parts-is = refl;
                 }))
           ]
 

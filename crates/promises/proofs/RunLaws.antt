@@ -10,7 +10,6 @@ use mathlib.Core.List.{List, [], _∷_}
 use borrow.Author.Tests.{ltb-true, ltb-false, leb-true, leb-false}
 use lib.ListN.{getD}
 use lib.Dec.{leb, ltb}
-use Rattle.wire.specs.Number.{getLe}
 use Rattle.caps.specs.Limits.{cappedHere}
 use Rattle.caps.specs.Tree.{Tree, foldUp, within, chargeIn}
 use Rattle.caps.specs.Rides.{ChargedRide, ChargedInTurn, none, more, allTotal, secondTotal}
@@ -29,22 +28,23 @@ use Rattle.book.specs.declared.Window.{Window}
 use Rattle.book.specs.Caps.{capsHere}
 use Rattle.book.specs.Words.{freshBook, tripsOf, pairPlace, secondSum, allSum}
 use Rattle.book.specs.Sound.{sound}
-use Rattle.book.specs.Windows.{tooEarly, windowOf, inWindow}
+use Rattle.book.specs.Windows.{tooEarly, belongs, windowOf, inWindow}
 use Rattle.book.specs.Charging.{Rideable, cappedAt, chargeUp, riderCharge, chargesOf}
 use Rattle.book.specs.Posting.{posted}
 use Rattle.book.proofs.WordLaws.{word-fresh}
 use Rattle.book.proofs.SoundLaws.{fresh-sound}
 use Rattle.book.proofs.SumLaws.{sumOf, counted}
-use Rattle.book.proofs.ChargeLaws.{charges-length, adult-stands, child-stands, charges-most}
+use Rattle.book.proofs.ChargeLaws.{adult-stands, child-stands}
 use Rattle.book.proofs.PostedLaws.{NotCarried, added, posted-adult, posted-child, posted-none}
 use Rattle.book.proofs.SoundAgain.{sound-again}
-use Rattle.settle.specs.Record.{recordOf}
-use Rattle.settle.specs.Outcome.{Outcome, refused, accepted, settled, bookAfter}
+use Rattle.statement.specs.Record.{Part}
+use Rattle.settle.specs.Outcome.{Outcome, refused, accepted, partOf, settled, bookAfter}
+use Rattle.promises.specs.Conditions.{checkoutOf}
 use Rattle.promises.specs.Runs.{Offer, bookOf, isChild, carries, placeOf, entryOf, ridesWith, ridesAfter, ridesOf, treeOf}
 use Rattle.promises.proofs.Trees.{lies-within}
-use Rattle.promises.proofs.Records.{charge-at}
+use Rattle.promises.proofs.TripConditions.{good-read}
 use Rattle.promises.proofs.GoodRides.{good-ride}
-use Rattle.promises.proofs.Answers.{accepted-is}
+use Rattle.promises.proofs.Answers.{accepted-is, parts-are, new-posted}
 
 -- ---- What a rider is charged goes by the sums alone.
 
@@ -198,8 +198,8 @@ module _ {tariff : List ℕ} {counts : Counts} {rider : ℕ} {book : List ℕ} {
   abbrev new : List ℕ
   new = posted tariff counts book window (trip .checkout .0) ride
 
-  abbrev entry : List ℕ
-  entry = recordOf (window .opening .0) ride (chargesOf tariff counts w ride)
+  abbrev part : Part
+  part = partOf tariff counts book window ride
 
   ok : Rideable tariff counts book ride
   ok = good-ride tariff counts book bytes trip read (k .sound-book) is
@@ -229,39 +229,31 @@ module _ {tariff : List ℕ} {counts : Counts} {rider : ℕ} {book : List ℕ} {
       }
 
   -- a rider who is carried has one more
-  riding :
-      carries (trip .party) rider ≡ true → Kept tariff counts rider new (entryOf tariff counts rider bytes trip entry ∷ before)
-  unfolding rideOf entryOf riderCharge
+  riding : carries (trip .party) rider ≡ true → Kept tariff counts rider new (entryOf tariff counts rider part ∷ before)
+  unfolding rideOf entryOf riderCharge partOf
   riding on =
       let c = carried ok window (trip .checkout .0) room rider on in
-      let place = placeOf (trip .party) rider in
-      let written : getLe 4 entry (13 + 4 * place) ≡ getD (chargesOf tariff counts w ride) place 0 =
-      charge-at (window .opening .0) ride (chargesOf tariff counts w ride) place
-      (omega (arith, c .there, charges-length tariff counts w ride))
-      (omega (arith, charges-most ok (window .current) place))
-      in
       record {
         sound-book = new-sound;
         sums = λ which x h.
             c .sums which x (omega (arith, faultless tariff counts read .few-areas))
-            ∙ rw (words .sums which x h, ← written, lies-within tariff counts read (isChild rider) (ride .area) x (ok .area)) (sym (total-more which (treeOf tariff counts (isChild rider)) x _ before));
+            ∙ rw (words .sums which x h, lies-within tariff counts read (isChild rider) (ride .area) x (ok .area)) (sym (total-more which (treeOf tariff counts (isChild rider)) x _ before));
         charged =
             more (words .charged) (ok .area)
-            (written ∙ c .charge
+            (c .charge
             ∙ charge-same tariff counts read w rider (isChild rider) (trip .class) _ _ (words .sums true) (words .sums false)
             (ride .area) _ (ok .area));
       }
 
   -- So the new book is kept with the rider's rides after the trip.
   kept-with :
-      (after written : List ℕ) → after ≡ new → written ≡ entry
-      → Kept tariff counts rider after (ridesWith tariff counts rider book bytes trip written rides)
-  unfolding ridesWith windowOf
-  kept-with after written after-is written-is = rw (after-is, written-is) (go (carries (trip .party) rider) refl)
+      (after : List ℕ) (parts : List Part) (checkout : ℕ) → after ≡ new → parts ≡ part ∷ [] → trip .checkout .0 ≡ checkout
+      → Kept tariff counts rider after (ridesWith tariff counts rider parts (cond (belongs book checkout) rides []))
+  unfolding ridesWith windowOf partOf rideOf
+  kept-with after parts checkout after-is parts-are checkout-is =
+      rw (after-is, parts-are, ← checkout-is) (go (carries (trip .party) rider) refl)
     where
-      go :
-          (on : Bool) → carries (trip .party) rider ≡ on
-          → Kept tariff counts rider new (cond on (entryOf tariff counts rider bytes trip entry ∷ before) before)
+      go : (on : Bool) → carries (trip .party) rider ≡ on → Kept tariff counts rider new (cond on (entryOf tariff counts rider part ∷ before) before)
       go true e = riding e
       go false e = without e
 
@@ -274,14 +266,14 @@ kept-after :
     → Kept tariff counts rider (bookAfter outcome book) (ridesAfter tariff counts rider book bytes outcome rides)
 unfolding ridesAfter
 kept-after read known k bytes room (refused number place) e = k
-kept-after {tariff} {counts} {rider} {book} {rides} read known k bytes room (accepted after written) e =
+kept-after {tariff} {counts} {rider} {book} {rides} read known k bytes room (accepted after parts) e =
     let a = accepted-is tariff book bytes room e in
     let same = read-one tariff (a .counts) counts (a .read) read in
     let is = rw same at (a .good) in
-    rw (is, ridesAfter)
-    (kept-with read known k bytes (a .trip) is (a .on-time) (rw (a .window-is) at (a .few)) after written
-    (rw (same, a .window-is) at (a .new-is))
-    (rw (same, a .window-is) at (a .entry-is)))
+    kept-with read known k bytes (a .trip) is (a .on-time) (rw (a .window-is) at (a .few)) after parts (checkoutOf bytes)
+    (rw (same, a .window-is) at (new-posted a))
+    (rw (same, a .window-is) at (parts-are a))
+    (good-read bytes (counts .stops) (a .trip) is .to)
 
 -- Whatever is settled from a fresh book, one trip after another.
 pub kept :

@@ -50,12 +50,14 @@ use Rattle.promises.specs.Conditions.{
   AcceptedBy,
 }
 use Rattle.promises.specs.Conditions as conditions
-use Rattle.promises.specs.Moved.{AlikeBut, MovedBook, MovedRecord}
+use Rattle.statement.specs.Record.{Part}
+use Rattle.settle.specs.Outcome.{partOf}
+use Rattle.promises.specs.Moved.{AlikeBut, MovedBook, MovedParts, one-part, no-part}
 use Rattle.promises.proofs.TripConditions.{GoodRead, good-read}
 use Rattle.promises.proofs.GoodRides.{good-ride}
 use Rattle.promises.proofs.Refusing.{no-more}
-use Rattle.promises.proofs.Answers.{right-window, record-says}
-use Rattle.promises.proofs.Alike.{alike-back, get-alike, sums-alike, words-alike, charges-alike, posted-alike, record-alike}
+use Rattle.promises.proofs.Answers.{right-window, parts-are, new-posted}
+use Rattle.promises.proofs.Alike.{alike-back, get-alike, sums-alike, words-alike, charges-alike, posted-alike}
 
 -- no trip belongs to a window where none is open
 unopened : (book : List ℕ) (checkout : ℕ) → tripsOf book ≡ 0 → belongs book checkout ≡ false
@@ -316,7 +318,7 @@ record Left (new : List ℕ) (trips opening out : ℕ) : Type 0 where
   out-is : lastOutOf new ≡ out
 
 left :
-    {tariff book bytes : List ℕ} {room : ℕ} {new entry : List ℕ} (a : AcceptedBy tariff book bytes room new entry)
+    {tariff book bytes : List ℕ} {room : ℕ} {new : List ℕ} {parts : List Part} (a : AcceptedBy tariff book bytes room new parts)
     → Left new (a .window .trips) (a .window .opening .0) (a .trip .checkout .0)
 left {tariff} {book} {bytes} a =
     let ok = good-ride tariff (a .counts) book bytes (a .trip) (a .read) (a .sound-book) (a .good) in
@@ -324,7 +326,7 @@ left {tariff} {book} {bytes} a =
     let head = right .head in
     let room = window-room right in
     let out = a .trip .checkout .0 in
-    rw (a .new-is)
+    rw (new-posted a)
     (record {
       used = λ none. omega (arith, posted-trips ok (a .window) out room (omega arith));
       opening-is = posted-opening ok (a .window) out room (omega arith);
@@ -332,8 +334,8 @@ left {tariff} {book} {bytes} a =
     })
 
 -- two acceptances so moved
-module _ {tariff : List ℕ} {room d : ℕ} {book bytes book′ bytes′ : List ℕ} (s : Shifted 0 d book bytes book′ bytes′) {new entry new′ entry′ : List ℕ}
-    (a : AcceptedBy tariff book bytes room new entry) (a′ : AcceptedBy tariff book′ bytes′ room new′ entry′) where
+module _ {tariff : List ℕ} {room d : ℕ} {book bytes book′ bytes′ : List ℕ} (s : Shifted 0 d book bytes book′ bytes′) {new new′ : List ℕ} {parts parts′ : List Part}
+    (a : AcceptedBy tariff book bytes room new parts) (a′ : AcceptedBy tariff book′ bytes′ room new′ parts′) where
   counts-same : a′ .counts ≡ a .counts
   counts-same = read-one tariff (a′ .counts) (a .counts) (a′ .read) (a .read)
 
@@ -374,16 +376,10 @@ module _ {tariff : List ℕ} {room d : ℕ} {book bytes book′ bytes′ : List 
       (charges-alike tariff (a .counts) (inWindow (a .window .current) book) (inWindow (a .window .current) book′)
       (sums-alike (words-alike tariff (a .counts) (a .window .current) (s .others))) (rideOf tariff (a .counts) bytes (a .trip)))
 
-  pub moved-record : MovedRecord d entry entry′
-  moved-record =
-      record {
-        alike =
-            rw (a .entry-is, a′ .entry-is, same-charges, one-ride)
-            (record-alike (a .window .opening .0) (a′ .window .opening .0) (rideOf tariff (a .counts) bytes (a .trip))
-            (chargesOf tariff (a .counts) (inWindow (a .window .current) book) (rideOf tariff (a .counts) bytes (a .trip))));
-        opening =
-            omega (arith, record-says tariff book bytes room a .opening, record-says tariff book′ bytes′ room a′ .opening, later-opening);
-      }
+  pub moved-parts : MovedParts d parts parts′
+  unfolding partOf
+  moved-parts =
+      rw (parts-are a, parts-are a′) (one-part (record { ride = one-ride; charges = same-charges; opening = later-opening }) no-part)
 
   pub moved-book : MovedBook d new new′
   moved-book =
@@ -392,7 +388,7 @@ module _ {tariff : List ℕ} {room d : ℕ} {book bytes book′ bytes′ : List 
       let head = right-window a′ .head in
       record {
         alike =
-            rw (a .new-is, a′ .new-is, one-ride, counts-same)
+            rw (new-posted a, new-posted a′, one-ride, counts-same)
             (posted-alike tariff (a .counts) (a .window) (a′ .window) (a .trip .checkout .0) (a′ .trip .checkout .0)
             (rideOf tariff (a .counts) bytes (a .trip)) (s .others) same-current same-trips);
         opening = rw (ne-eqb (tripsOf new) 0 (l .used)) (omega (arith, l .opening-is, l′ .opening-is, later-opening));

@@ -21,14 +21,15 @@ use Rattle.trip.specs.Record.{countAt, classAt, levelAt, partyAt, stopNumber}
 use Rattle.trip.specs.Trips.{readTrip}
 use Rattle.fare.specs.declared.Ride.{Ride}
 use Rattle.fare.specs.Distance.{apart, LeastKm}
-use Rattle.fare.specs.Rides.{stopOf, AreaOfStops, rideOf}
+use Rattle.fare.specs.Rides.{stopOf, AreaOfStops}
 use Rattle.book.specs.declared.Window.{Window}
 use Rattle.book.specs.Words.{tripsOf, lastOutOf, coverWord}
 use Rattle.book.specs.Sound.{sound}
-use Rattle.book.specs.Windows.{tooEarly, windowOf, inWindow}
-use Rattle.book.specs.Charging.{riderCharge, bicycleCharge, chargesOf}
-use Rattle.book.specs.Posting.{posted}
-use Rattle.settle.specs.Record.{recordSize, recordOf}
+use Rattle.book.specs.Windows.{tooEarly, windowOf}
+use Rattle.book.specs.Charging.{riderCharge, bicycleCharge}
+use Rattle.statement.specs.Record.{Part, recordSize, chargeKind}
+use Rattle.statement.specs.Reading.{longIn, kindIn, openingIn, areaIn, kmIn, minutesIn, chargeIn}
+use Rattle.settle.specs.Outcome.{ridesOf, partsOf, postedAll}
 
 -- ---- What the conditions speak of.
 
@@ -136,8 +137,8 @@ pub data RefusedBy (tariff book trip : List ℕ) (room n place : ℕ) : Type 0 w
       → ((m : ℕ) → m < n → condition tariff book trip room m → ⊥) → RefusedBy tariff book trip room n place
 
 -- an acceptance: the tariff is faultless, the book sound, the trip good and on time, its window not full, and there is room for the
--- record; the new book is the posted one, and the record the ride's
-pub record AcceptedBy (tariff book bytes : List ℕ) (room : ℕ) (new entry : List ℕ) : Type 0 where
+-- record; the new book and the parts are those of the trip's rides
+pub record AcceptedBy (tariff book bytes : List ℕ) (room : ℕ) (new : List ℕ) (parts : List Part) : Type 0 where
   pub counts : Counts
   pub trip : Trip
   pub window : Window
@@ -148,28 +149,25 @@ pub record AcceptedBy (tariff book bytes : List ℕ) (room : ℕ) (new entry : L
   pub window-is : window ≡ windowOf book (trip .checkin .0) (trip .checkout .0)
   pub few : window .trips + 1 ≤ 256
   pub fits : recordSize (trip .party) ≤ room
-  pub new-is : new ≡ posted tariff counts book window (trip .checkout .0) (rideOf tariff counts bytes trip)
-  pub entry-is :
-      entry
-      ≡ recordOf (window .opening .0) (rideOf tariff counts bytes trip)
-      (chargesOf tariff counts (inWindow (window .current) book) (rideOf tariff counts bytes trip))
+  pub new-is : new ≡ postedAll tariff counts book window (trip .checkout .0) (ridesOf tariff counts bytes trip)
+  pub parts-is : parts ≡ partsOf tariff counts book window (trip .checkout .0) (ridesOf tariff counts bytes trip)
 
 -- what the record of an accepted trip says, read off its bytes: the window's opening minute, the smallest area containing all the trip's
--- stops, the least kilometres between its first and last stop, check-out less check-in; then the charges, 4 bytes each, in the order
+-- stops, the least kilometres between its first and last stop, check-out less check-in; then the charges, in the order
 -- holder, adults, children, bicycles. w stands for the words that count: the book's own in the open window, a fresh book's in the next
 pub record RecordSays (tariff bytes w : List ℕ) (counts : Counts) (opens last : ℕ) (ride : Ride) (entry : List ℕ) : Type 0 where
   pub size : length entry ≡ recordSize (ride .party)
-  pub long : getLe 2 entry 0 + 2 ≡ length entry
-  pub kind : getLe 2 entry 2 ≡ 4
-  pub opening : getLe 4 entry 4 ≡ opens
-  pub area : AreaOfStops tariff counts bytes 0 last (getLe 1 entry 8)
-  pub km : LeastKm (apart (stopOf tariff counts bytes 0) (stopOf tariff counts bytes last)) (getLe 2 entry 9)
-  pub minutes : getLe 2 entry 11 ≡ checkoutOf bytes - checkinOf bytes
-  pub holder : getLe 4 entry 13 ≡ riderCharge tariff counts w ride false 0
-  pub adults : (i : ℕ) → i < ride .party .adults → getLe 4 entry (13 + 4 * (1 + i)) ≡ riderCharge tariff counts w ride false (1 + i)
+  pub long : longIn entry 0 + 2 ≡ length entry
+  pub kind : kindIn entry 0 ≡ chargeKind
+  pub opening : openingIn entry 0 ≡ opens
+  pub area : AreaOfStops tariff counts bytes 0 last (areaIn entry 0)
+  pub km : LeastKm (apart (stopOf tariff counts bytes 0) (stopOf tariff counts bytes last)) (kmIn entry 0)
+  pub minutes : minutesIn entry 0 ≡ checkoutOf bytes - checkinOf bytes
+  pub holder : chargeIn entry 0 0 ≡ riderCharge tariff counts w ride false 0
+  pub adults : (i : ℕ) → i < ride .party .adults → chargeIn entry 0 (1 + i) ≡ riderCharge tariff counts w ride false (1 + i)
   pub children :
       (i : ℕ) → i < ride .party .children
-      → getLe 4 entry (13 + 4 * (1 + ride .party .adults + i)) ≡ riderCharge tariff counts w ride true (11 + i)
+      → chargeIn entry 0 (1 + ride .party .adults + i) ≡ riderCharge tariff counts w ride true (11 + i)
   pub bicycles :
       (i : ℕ) → i < ride .party .bicycles
-      → getLe 4 entry (13 + 4 * (1 + ride .party .adults + ride .party .children + i)) ≡ bicycleCharge tariff counts (ride .area) (coverWord w i)
+      → chargeIn entry 0 (1 + ride .party .adults + ride .party .children + i) ≡ bicycleCharge tariff counts (ride .area) (coverWord w i)

@@ -1,4 +1,4 @@
--- Nights moved on the calendar: trips, books, records and outcomes that are alike but for their minutes, which are all d later.
+-- Nights moved on the calendar: trips, books, parts and outcomes that are alike but for their minutes, which are all d later.
 use Prim.Native.Nat.{ℕ, _+_, _≤_, _<_}
 use mathlib.Core.Path.{_≡_}
 use mathlib.Core.Logic.{_⊎_}
@@ -6,9 +6,9 @@ use mathlib.Core.List.{List, [], _∷_}
 use mathlib.Core.Bool.{true, cond}
 use lib.ListN.{length, getD}
 use lib.Dec.{eqb}
-use Rattle.wire.specs.Number.{getLe}
 use Rattle.calendar.specs.Stamps.{isStamp, lastMinute}
 use Rattle.book.specs.Words.{tripsOf, openingOf, lastOutOf}
+use Rattle.statement.specs.Record.{Part}
 use Rattle.settle.specs.Outcome.{Outcome, refused, accepted}
 use Rattle.promises.specs.Conditions.{checkinStamp, checkoutStamp, checkinOf, checkoutOf}
 use Rattle.promises.specs.Runs.{Offer}
@@ -36,17 +36,22 @@ pub record MovedBook (d : ℕ) (book book′ : List ℕ) : Type 0 where
   pub last : lastOutOf book′ ≡ lastOutOf book + cond (eqb (tripsOf book) 0) 0 d
   pub in-calendar : lastOutOf book′ ≤ lastMinute
 
--- two charge records alike but for the window's opening minute, bytes 4 to 7, which is d later in the second: area, kilometres, minutes and
--- every charge are the same
-pub record MovedRecord (d : ℕ) (entry entry′ : List ℕ) : Type 0 where
-  pub alike : AlikeBut 4 8 entry entry′
-  pub opening : getLe 4 entry′ 4 ≡ getLe 4 entry 4 + d
+-- two parts alike but for the window's opening minute, which is d later in the second: the ride and every charge are the same
+pub record MovedPart (d : ℕ) (part part′ : Part) : Type 0 where
+  pub ride : part′ .ride ≡ part .ride
+  pub charges : part′ .charges ≡ part .charges
+  pub opening : part′ .opening ≡ part .opening + d
 
--- two outcomes alike: both refused with one number and place, or both accepted, with books and records so moved
+pub data MovedParts (d : ℕ) : List Part → List Part → Type 0 where
+  no-part : MovedParts d [] []
+  one-part : {part part′ : Part} {more more′ : List Part} → MovedPart d part part′ → MovedParts d more more′
+      → MovedParts d (part ∷ more) (part′ ∷ more′)
+
+-- two outcomes alike: both refused with one number and place, or both accepted, with books and parts so moved
 pub data MovedOutcome (d : ℕ) : Outcome → Outcome → Type 0 where
   both-refused : (n place : ℕ) → MovedOutcome d (refused n place) (refused n place)
-  both-accepted : {new new′ entry entry′ : List ℕ} → MovedBook d new new′ → MovedRecord d entry entry′
-      → MovedOutcome d (accepted new entry) (accepted new′ entry′)
+  both-accepted : {new new′ : List ℕ} {parts parts′ : List Part} → MovedBook d new new′ → MovedParts d parts parts′
+      → MovedOutcome d (accepted new parts) (accepted new′ parts′)
 
 -- two runs, trip by trip alike but for their stamps, which are d minutes later in the second
 pub data MovedRun (d : ℕ) : List Offer → List Offer → Type 0 where

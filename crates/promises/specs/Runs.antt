@@ -1,26 +1,24 @@
 -- Runs: trips settled one after another from a fresh book under one tariff, the latest first; and a rider's rides in the window that is
--- open at the run's end, read off the trips and the records that were written. Every window of a longer run is the window open at the end
+-- open at the run's end, read off the parts that they were charged in. Every window of a longer run is the window open at the end
 -- of one of its beginnings.
 use Prim.Native.Nat.{ℕ, _+_, _-_, _*_}
 use mathlib.Core.List.{List, [], _∷_}
 use mathlib.Core.Bool.{Bool, cond}
+use lib.ListN.{getD}
 use lib.Dec.{leb, ltb}
-use Rattle.wire.specs.Number.{getLe}
 use Rattle.caps.specs.Tree.{Tree}
 use Rattle.caps.specs.Rides.{ChargedRide}
 use Rattle.tariff.specs.declared.Counts.{Counts}
 use Rattle.tariff.specs.Rules.{levelOf}
 use Rattle.tariff.specs.Areas.{areaAt, parentOf}
-use Rattle.trip.specs.declared.Trip.{Trip}
 use Rattle.trip.specs.declared.Party.{Party}
-use Rattle.trip.specs.declared.Offered.the-variants.{Good, BadRecord, BadParty, UnknownStop, BadStamp, BadOrder}
-use Rattle.trip.specs.Trips.{readTrip}
-use Rattle.fare.specs.Rides.{rideOf}
 use Rattle.fare.specs.Prices.{priceOf}
 use Rattle.book.specs.Words.{freshBook}
 use Rattle.book.specs.Windows.{belongs}
 use Rattle.book.specs.Caps.{capsHere}
+use Rattle.statement.specs.Record.{Part}
 use Rattle.settle.specs.Outcome.{Outcome, refused, accepted, settled, bookAfter}
+use Rattle.promises.specs.Conditions.{checkoutOf}
 
 -- a trip offered: its bytes, and the room for its record
 pub record Offer : Type 0 where
@@ -44,38 +42,28 @@ carries party rider = cond (isChild rider) (ltb (rider - 11) (party .children)) 
 abbrev pub placeOf : Party → ℕ → ℕ
 placeOf party rider = cond (isChild rider) (1 + party .adults + (rider - 11)) rider
 
--- a rider's ride: its area, class and price, and the 4-byte number at the rider's place in the written record
-unfoldable pub entryOf : List ℕ → Counts → ℕ → List ℕ → Trip → List ℕ → ChargedRide
-entryOf tariff counts rider bytes trip entry =
-    let ride = rideOf tariff counts bytes trip in
+-- a rider's ride: the area, class and price of a part's ride, and the charge at the rider's place
+unfoldable pub entryOf : List ℕ → Counts → ℕ → Part → ChargedRide
+entryOf tariff counts rider part =
+    let ride = part .ride in
     record {
       area = ride .area;
-      class = trip .class;
+      class = ride .class;
       price = priceOf (areaAt tariff counts (ride .area)) ride (isChild rider);
-      charge = getLe 4 entry (13 + 4 * placeOf (trip .party) rider);
+      charge = getD (part .charges) (placeOf (ride .party) rider) 0;
     }
 
--- the rider's rides so far, with an accepted trip: one more where it carries the rider; and none from before where it opens a window
-unfoldable pub ridesWith : List ℕ → Counts → ℕ → List ℕ → List ℕ → Trip → List ℕ → List ChargedRide → List ChargedRide
-ridesWith tariff counts rider book bytes trip entry before =
-    let kept = cond (belongs book (trip .checkout .0)) before [] in
-    cond (carries (trip .party) rider) (entryOf tariff counts rider bytes trip entry ∷ kept) kept
+-- the rider's rides so far, with some parts: one more for each that carries the rider
+unfoldable pub ridesWith : List ℕ → Counts → ℕ → List Part → List ChargedRide → List ChargedRide
+ridesWith tariff counts rider [] before = before
+ridesWith tariff counts rider (part ∷ parts) before =
+    ridesWith tariff counts rider parts (cond (carries (part .ride .party) rider) (entryOf tariff counts rider part ∷ before) before)
 
--- the rider's rides so far, with an outcome: a refusal leaves them
+-- the rider's rides so far, with an outcome: a refusal leaves them, and an accepted trip that opens a window begins anew
 unfoldable pub ridesAfter : List ℕ → Counts → ℕ → List ℕ → List ℕ → Outcome → List ChargedRide → List ChargedRide
-ridesAfter tariff counts rider book bytes outcome before =
-    elim outcome [
-      | refused number place ↦ before
-      | accepted new entry ↦
-          elim (readTrip bytes (counts .stops)) [
-            | Good trip ↦ ridesWith tariff counts rider book bytes trip entry before
-            | BadRecord ↦ before
-            | BadParty ↦ before
-            | UnknownStop ↦ before
-            | BadStamp ↦ before
-            | BadOrder ↦ before
-          ]
-    ]
+ridesAfter tariff counts rider book bytes (refused number place) before = before
+ridesAfter tariff counts rider book bytes (accepted new parts) before =
+    ridesWith tariff counts rider parts (cond (belongs book (checkoutOf bytes)) before [])
 
 -- a rider's rides in the window that is open at the run's end, the latest first
 unfoldable pub ridesOf : List ℕ → Counts → ℕ → List Offer → List ChargedRide

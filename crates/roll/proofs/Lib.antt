@@ -1,4 +1,3 @@
-pub mod Sums
 pub mod Starts
 pub mod Outcomes
 pub mod Pieces

@@ -20,7 +20,8 @@ use Rattle.settle.specs.Outcome.{bookAfter}
 use Rattle.roll.specs.declared.Line.{Line}
 use Rattle.roll.specs.declared.Step.{Step}
 use Rattle.roll.specs.declared.Step.the-variants.{End, More, Record, Broken}
-use Rattle.roll.specs.Lines.{unfinished, outcomeAt, lineOf, stepOf, bookStep, SettledLine, Stepped}
+use Rattle.roll.specs.Lines.{unfinished, outcomeAt, lineOf, stepOf, bookStep}
+use Rattle.roll.specs.Contracts.{SettledLine, Stepped}
 
 -- Fewer than 4 bytes are not a whole record yet.
 pub few-unfinished : (piece : List ℕ) → length piece < 4 → true ≡ unfinished piece

@@ -17,6 +17,7 @@ use Rattle.trip.specs.declared.Offered.the-variants.{BadRecord}
 use Rattle.trip.proofs.Shapes.{other-kind, no-trip-given}
 use Rattle.trip.proofs.Ways.{no-record}
 use Rattle.book.specs.Sound.{sound}
+use Rattle.statement.specs.Record.{largestSize}
 use Rattle.settle.specs.Outcome.{refused}
 use Rattle.settle.proofs.Ways.{sound-way, refused-way}
 use Rattle.roll.specs.declared.Line.the-variants.{Refused}
@@ -43,7 +44,7 @@ module _ (tariff : List ℕ) (counts : Counts) (book piece : List ℕ) (more : B
   refused-alone kind body e other =
       let alone = take (4 + body) piece in
       let bad = no-record alone (counts .stops) (no-trip-given alone 0 (other-kind kind body (frame-alone piece kind body e) other)) in
-      refused-way tariff book alone 137 counts read 5 (sound-way counts book alone 137 is BadRecord bad)
+      refused-way tariff book alone largestSize counts read 5 (sound-way counts book alone largestSize is BadRecord bad)
 
   pub wrong-kind :
       (kind body : ℕ) → frameAt piece 0 ≡ frame.Whole kind body → (kind ≡ 3 → ⊥)

@@ -1,6 +1,5 @@
 -- Paper 01, "The program": what each record of a roll comes to, and what its line says.
-use Prim.Native.Nat.{ℕ, zero, suc, _+_, _-_, _*_, _/_, _^_, _≤_}
-use mathlib.Core.Path.{_≡_}
+use Prim.Native.Nat.{ℕ, zero, suc, _+_}
 use mathlib.Core.List.{List, [], _∷_, _++_}
 use mathlib.Core.Bool.{Bool, true, false, cond, not, _&&_, _||_}
 use lib.ListN.{length, take, drop}
@@ -8,30 +7,24 @@ use lib.Dec.{leb, ltb, eqb}
 use Rattle.wire.specs.Number.{getLe}
 use Rattle.wire.specs.Frame.{frameAt}
 use Rattle.wire.specs.declared.Frame.the-variants as frame
-use Rattle.tariff.specs.declared.Counts.{Counts}
-use Rattle.tariff.specs.Areas.{Read}
-use Rattle.book.specs.Words.{bookSize, freshBook}
-use Rattle.book.specs.Sound.{sound}
+use Rattle.statement.specs.Record.{Part, largestSize}
+use Rattle.statement.specs.Reading.{sumOf}
 use Rattle.settle.specs.Outcome.{Outcome, refused, accepted, settled, bookAfter}
 use Rattle.roll.specs.declared.Line.{Line}
 use Rattle.roll.specs.declared.Line.the-variants.{Charged, Refused}
 use Rattle.roll.specs.declared.Step.{Step}
 use Rattle.roll.specs.declared.Step.the-variants.{End, More, Record, Broken}
 
--- the sum of a charge record's first so many charges
-unfoldable pub centsOf : List ℕ → ℕ → ℕ
-centsOf entry zero = 0
-centsOf entry (suc n) = centsOf entry n + getLe 4 entry (13 + 4 * n)
+-- a part's line: area, km, minutes, opening minute, sum of its charges
+unfoldable pub partLine : Part → Line
+partLine part =
+    Charged (part .ride .area) (part .ride .km .0) (part .ride .minutes .0) (part .opening) (sumOf (part .charges))
 
--- a record's line: area, km, minutes, opening minute, sum of its charges; the record has `size` bytes
-unfoldable pub chargedLine : List ℕ → ℕ → Line
-chargedLine entry size =
-    Charged (getLe 1 entry 8) (getLe 2 entry 9) (getLe 2 entry 11) (getLe 4 entry 4) (centsOf entry ((size - 13) / 4))
-
--- the line of an outcome
+-- the line of an outcome: its refusal, or its part. There is no acceptance without a part
 unfoldable pub lineOf : Outcome → Line
 lineOf (refused number place) = Refused number
-lineOf (accepted book entry) = chargedLine entry (length entry)
+lineOf (accepted book []) = Refused 0
+lineOf (accepted book (part ∷ more)) = partLine part
 
 -- a piece ends before its first record does: fewer than 4 bytes, or a length that more bytes could fill
 unfoldable pub unfinished : List ℕ → Bool
@@ -41,7 +34,7 @@ unfinished piece =
 
 -- what the record at the start of a piece comes to, on a book; the statement has room for the largest record
 unfoldable pub outcomeAt : List ℕ → List ℕ → List ℕ → ℕ → Outcome
-outcomeAt tariff book piece used = settled tariff book (take used piece) 137
+outcomeAt tariff book piece used = settled tariff book (take used piece) largestSize
 
 -- what stands at the start of a piece, where the roll may go on behind it or not
 unfoldable pub stepOf : List ℕ → List ℕ → List ℕ → Bool → Step
@@ -113,50 +106,3 @@ fedLines (suc records) tariff book kept pieces =
       | Record line used ↦
           line ∷ fedLines records tariff (bookStep tariff book (come .kept) (come .more)) (drop used (come .kept)) (come .pieces)
     ]
-
--- ---- The contracts.
-
--- the cents of a line, and of a step's
-abbrev pub lineCents : Line → ℕ
-lineCents (Charged area km minutes opening cents) = cents
-lineCents (Refused number) = 0
-
-abbrev pub stepCents : Step → ℕ
-stepCents End = 0
-stepCents More = 0
-stepCents Broken = 0
-stepCents (Record line used) = lineCents line
-
--- the most that a line can say: 31 charges of 4 bytes each
-abbrev pub mostCents : ℕ
-mostCents = 31 * 2 ^ 32
-
-pub record Fresh (book : List ℕ) : Type 0 where
-  pub is : book ≡ freshBook
-  pub size : bookSize ≡ length book
-  pub sound-book : (areas : ℕ) → sound book areas ≡ true
-
--- what settling a roll asks: the tariff is faultless, with these counts, and the book is sound under it
-pub record Ready (tariff : List ℕ) (counts : Counts) (book : List ℕ) : Type 0 where
-  pub read : Read tariff counts
-  pub sound-book : sound book (counts .areas) ≡ true
-
-pub record Cents (entry : List ℕ) (charges r : ℕ) : Type 0 where
-  pub value : r ≡ centsOf entry charges
-  pub range : r ≤ charges * 2 ^ 32
-
-pub record Charges (entry : List ℕ) (size : ℕ) (r : Line) : Type 0 where
-  pub value : r ≡ chargedLine entry size
-  pub range : lineCents r ≤ mostCents
-
-pub record SettledLine (tariff : List ℕ) (areas : ℕ) (book trip book′ : List ℕ) (r : Line) : Type 0 where
-  pub line : r ≡ lineOf (settled tariff book trip 137)
-  pub book-is : book′ ≡ bookAfter (settled tariff book trip 137) book
-  pub sound-again : sound book′ areas ≡ true
-  pub range : lineCents r ≤ mostCents
-
-pub record Stepped (tariff : List ℕ) (areas : ℕ) (book piece : List ℕ) (more : Bool) (book′ : List ℕ) (r : Step) : Type 0 where
-  pub found : r ≡ stepOf tariff book piece more
-  pub book-is : book′ ≡ bookStep tariff book piece more
-  pub sound-again : sound book′ areas ≡ true
-  pub range : stepCents r ≤ mostCents

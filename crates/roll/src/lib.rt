@@ -1,20 +1,23 @@
 // A roll of trips, settled one record after another on one book, piece by piece: whoever reads the roll hands over what has come so far,
 // and is told what stands at its start and how many bytes that took.
 use book::words::SIZE;
+use settle::Answer;
 use settle::settle_next;
+use statement::LARGEST;
+use statement::reading::area_at;
+use statement::reading::cents_at;
+use statement::reading::km_at;
+use statement::reading::minutes_at;
+use statement::reading::opening_at;
 use tariff::Counts;
 use wire::Frame;
-use wire::four_at;
 use wire::frame_at;
-use wire::one_at;
 use wire::two_at;
 ghost use mathlib.Core.Path.{_≡_};
-ghost use Prim.Native.Nat.{_+_, _*_, _≤_};
-ghost use lib.ListN.{length};
-ghost use Rattle.roll.specs.Lines.{Cents, Charges, Fresh, Ready, SettledLine, Stepped, unfinished};
-
-// The largest charge record: 13 bytes, and 4 for each of a party of 31.
-const LARGEST: usize = 137;
+ghost use Rattle.statement.specs.Contracts.{RecordAt};
+ghost use Rattle.settle.specs.Contracts.{Ready};
+ghost use Rattle.roll.specs.Lines.{unfinished};
+ghost use Rattle.roll.specs.Contracts.{Fresh, LineIn, SettledLine, Stepped};
 
 // At most so many records of a roll are settled.
 pub const MOST_RECORDS: u32 = 65_535;
@@ -53,29 +56,17 @@ pub fn fresh_book() -> [u8; SIZE]
     [0u8; SIZE]
 }
 
-// The charges of a record, added up.
-fn cents_of(entry: &[u8], charges: usize) -> u64
-    requires { ⌜ (13 + 4 * charges ≤ length (now entry)) × (charges ≤ 31) ⌝ }
-    ensures { λ r. ⌜ Cents (now (entry .entry)) charges r ⌝ }
-{
-    let mut cents: u64 = 0;
-    for i in 0..charges {
-        cents = cents + four_at(entry, 13 + 4 * i) as u64;
-    }
-    cents
-}
-
-// The line of a charge record, which stands at the start of a statement.
-fn charged_line(statement: &[u8], size: usize) -> Line
-    requires { ⌜ (13 ≤ size) × ((size ≤ 137) × (length (now statement) ≡ 137)) ⌝ }
-    ensures { λ r. ⌜ Charges (now (statement .entry)) size r ⌝ }
+// The line of the charge record at a place of a statement.
+fn charged_line(statement: &[u8], place: usize) -> Line
+    requires { ⌜ RecordAt (now statement) place ⌝ }
+    ensures { λ r. ⌜ LineIn (now (statement .entry)) place r ⌝ }
 {
     Line::Charged {
-        area: one_at(statement, 8),
-        km: two_at(statement, 9),
-        minutes: two_at(statement, 11),
-        opening: four_at(statement, 4),
-        cents: cents_of(statement, (size - 13) / 4),
+        area: area_at(statement, place),
+        km: km_at(statement, place),
+        minutes: minutes_at(statement, place),
+        opening: opening_at(statement, place),
+        cents: cents_at(statement, place),
     }
 }
 
@@ -85,12 +76,9 @@ fn settle_line(tariff: &[u8], counts: Counts, book: &mut [u8], trip: &[u8]) -> L
     ensures { λ r. ⌜ SettledLine (now (tariff .entry)) (counts .areas) (now (book .entry)) (now (trip .entry)) (now (book .exit)) r ⌝ }
 {
     let mut statement = [0u8; LARGEST];
-    let answer = settle_next(tariff, counts, book, trip, &mut statement);
-    let number = answer / 4_294_967_296;
-    if number == 0 {
-        charged_line(&statement, answer as usize)
-    } else {
-        Line::Refused(number)
+    match settle_next(tariff, counts, book, trip, &mut statement) {
+        Answer::Refused { number, place: _ } => Line::Refused(number as u64),
+        Answer::Written(_) => charged_line(&statement, 0),
     }
 }
 

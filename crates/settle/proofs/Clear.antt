@@ -1,11 +1,11 @@
 -- Where all twelve conditions are clear: what each step of writing asks is there, and what is written is the accepted outcome.
 -- Assumes nothing.
-use Prim.Native.Nat.{ℕ, _+_, _≤_}
-use native.Mathlib.Nat.{le-of-eq}
+use Prim.Native.Nat.{ℕ, _+_, _^_, _≤_, _<_}
+use native.Mathlib.Nat.{le-of-eq, zero-add}
 use native.Mathlib.Omega.{arith}
-use mathlib.Core.Path.{_≡_, refl, ap, _∙_}
-use mathlib.Core.List.{List, _++_}
-use lib.ListN.{length, take, drop}
+use mathlib.Core.Path.{_≡_, refl, sym, ap, _∙_}
+use mathlib.Core.List.{List, [], _∷_, _++_}
+use lib.ListN.{length, getD, take, drop}
 use lib.Seq.{sets, sets-eq, length-sets, take-append-seam}
 use Rattle.tariff.specs.declared.Counts.{Counts}
 use Rattle.tariff.proofs.Faultless.{faultless}
@@ -20,19 +20,92 @@ use Rattle.book.specs.Windows.{inWindow}
 use Rattle.book.specs.Charging.{Rideable, Charged, chargesOf}
 use Rattle.book.specs.Posting.{Postable, posted}
 use Rattle.book.proofs.SoundLaws.{sound-has}
-use Rattle.book.proofs.ChargeLaws.{charges-length}
-use Rattle.book.proofs.SoundAgain.{WindowRight, window-right, sound-again}
-use Rattle.settle.specs.Record.{recordOf, Recordable}
-use Rattle.settle.specs.Outcome.{acceptedTrip, SettledSound, AllClear}
+use Rattle.book.proofs.ChargeLaws.{charges-length, charges-most}
+use Rattle.book.proofs.SoundAgain.{WindowRight, window-right, posted-sound}
+use Rattle.statement.specs.Record.{recordSize, recordOf, statementOf, Recordable}
+use Rattle.statement.specs.Contracts.{Writable, Wrote, none, more}
+use Rattle.statement.proofs.Charges.{length-record, one-part}
+use Rattle.settle.specs.declared.Answer.the-variants.{Written}
+use Rattle.settle.specs.Outcome.{ridesOf, partOf, partsOf, postedAll, acceptedTrip}
+use Rattle.settle.specs.Contracts.{AllClear, Chargeable, RideCharged, ToldSound}
+
+-- what was stored at the start of a list is what it starts with
+starts-with : (l vs : List ℕ) → length vs ≤ length l → take (length vs) (sets l 0 vs) ≡ vs
+starts-with l vs fits = rw (sets-eq vs l 0 (omega arith)) (take-append-seam vs _)
+
+-- ---- One ride.
+
+module _ {tariff : List ℕ} {counts : Counts} {book : List ℕ} {window : Window} {checkout : ℕ} {ride : Ride} {statement : List ℕ} {place : ℕ}
+    (ok : Chargeable tariff counts book window checkout ride statement place) where
+  -- one charge for each of the party
+  abbrev charges : List ℕ
+  charges = chargesOf tariff counts (inWindow (window .current) book) ride
+
+  count-is : length charges ≡ 1 + ride .party .adults + ride .party .children + ride .party .bicycles
+  count-is = charges-length tariff counts (inWindow (window .current) book) ride
+
+  fits : length charges ≤ 31
+  fits = omega (arith, count-is, ok .rideable .adults, ok .rideable .children, ok .rideable .bicycles)
+
+  can-record : Recordable (partOf tariff counts book window ride)
+  unfolding partOf
+  can-record =
+      let few = faultless tariff counts (ok .rideable .read) .few-areas in
+      let head = ok .right .head in
+      record {
+        opening = omega (arith, head .order, head .last);
+        area = omega (arith, ok .rideable .area);
+        km = omega (arith, ok .rideable .km);
+        minutes = omega (arith, ok .rideable .minutes);
+        few = fits;
+        charges = λ i. omega (arith, charges-most (ok .rideable) (window .current) i);
+      }
+
+  -- stored at the start of an array of 31
+  module _ (start amounts : List ℕ) (count : ℕ) (full : length start ≡ 31)
+      (made : (count ≡ length charges) × (amounts ≡ sets start 0 charges)) where
+    charged : Charged tariff counts (inWindow (window .current) book) ride amounts
+    charged =
+        record {
+          size = rw (made .1) (length-sets start 0 charges ∙ full);
+          value = rw (made .1) (starts-with start charges (rw full fits));
+        }
+
+    listed : take count amounts ≡ charges
+    listed = rw (made .0) (charged .value)
+
+    pub writable : Writable statement place (window .opening .0) ride amounts count
+    unfolding partOf
+    writable =
+        record {
+          there = omega (arith, fits, made .0, charged .size);
+          room = omega (arith, count-is, made .0, ok .room);
+          recordable = rw listed can-record;
+        }
+
+    pub postable : Postable tariff counts book window ride amounts
+    postable = record { rideable = ok .rideable; trips = ok .right .trips; few = omega (arith, ok .right .head .few); charged = charged }
+
+    pub ride-charged :
+        (book′ statement′ : List ℕ) (r : ℕ)
+        → Wrote (recordOf (record { opening = window .opening .0; ride = ride; charges = take count amounts })) statement place statement′ r
+        → book′ ≡ posted tariff counts book window checkout ride
+        → RideCharged tariff counts book window checkout ride statement place book′ statement′ r
+    unfolding partOf
+    ride-charged book′ statement′ r wrote post =
+        record {
+          wrote = rw listed at wrote;
+          recordable = can-record;
+          book-is = post;
+          sound-again = rw post (posted-sound (ok .rideable) (ok .right));
+        }
+
+-- ---- A trip.
 
 -- the ride's party is the trip's
 ride-party : (tariff : List ℕ) (counts : Counts) (bytes : List ℕ) (trip : Trip) → rideOf tariff counts bytes trip .party ≡ trip .party
 unfolding rideOf
 ride-party tariff counts bytes trip = refl
-
--- what was stored at the start of a list is what it starts with
-starts-with : (l vs : List ℕ) → length vs ≤ length l → take (length vs) (sets l 0 vs) ≡ vs
-starts-with l vs fits = rw (sets-eq vs l 0 (omega arith)) (take-append-seam vs _)
 
 module _ (tariff : List ℕ) (counts : Counts) (book bytes : List ℕ) (trip : Trip) (window : Window) (statement : List ℕ)
     (clear : AllClear tariff counts book bytes trip window statement) where
@@ -45,11 +118,6 @@ module _ (tariff : List ℕ) (counts : Counts) (book bytes : List ℕ) (trip : T
   times : Times (trip .checkin .0) (trip .checkout .0)
   times = good-times bytes (counts .stops) trip fields
 
-  window-fits : WindowRight book window (trip .checkout .0)
-  window-fits =
-      window-right (sound-has book (counts .areas) (clear .sound-book)) (times .forward) (times .short) (times .range) (clear .on-time) window
-      (clear .window-is) (clear .few)
-
   pub riding : Riding tariff counts bytes (trip .stops)
   riding = record { read = clear .read; known = fields .known-stops; fits = le-of-eq (fields .size) }
 
@@ -60,71 +128,52 @@ module _ (tariff : List ℕ) (counts : Counts) (book bytes : List ℕ) (trip : T
     party : ride .party ≡ trip .party
     party = ap (λ (r : Ride). r .party) (is .value) ∙ ride-party tariff counts bytes trip
 
-    pub rideable : Rideable tariff counts book ride
-    rideable =
+    pub chargeable : Chargeable tariff counts book window (trip .checkout .0) ride statement 0
+    chargeable =
         record {
-          read = clear .read;
-          sound-book = clear .sound-book;
-          area = is .there;
-          km = is .km;
-          minutes = is .minutes;
-          adults = rw party (ranges .adults);
-          children = rw party (ranges .children);
-          bicycles = rw party (ranges .bicycles);
+          rideable =
+              record {
+                read = clear .read;
+                sound-book = clear .sound-book;
+                area = is .there;
+                km = is .km;
+                minutes = is .minutes;
+                adults = rw party (ranges .adults);
+                children = rw party (ranges .children);
+                bicycles = rw party (ranges .bicycles);
+              };
+          right =
+              window-right (sound-has book (counts .areas) (clear .sound-book)) (times .forward) (times .short) (times .range) (clear .on-time)
+              window (clear .window-is) (clear .few);
+          room = rw party (omega (arith, clear .room));
         }
 
-    -- one charge for each of the party
-    abbrev charges : List ℕ
-    charges = chargesOf tariff counts (inWindow (window .current) book) ride
-
-    charge-count : length charges ≡ 1 + trip .party .adults + trip .party .children + trip .party .bicycles
-    charge-count =
-        charges-length tariff counts (inWindow (window .current) book) ride
-        ∙ ap (λ (p : Party). 1 + p .adults + p .children + p .bicycles) party
-
-    -- stored at the start of an array of 31
-    module _ (start amounts : List ℕ) (count : ℕ) (full : length start ≡ 31)
-        (made : (count ≡ length charges) × (amounts ≡ sets start 0 charges)) where
-      fits : length charges ≤ 31
-      fits = omega (arith, charge-count, ranges .adults, ranges .children, ranges .bicycles)
-
-      charged : Charged tariff counts (inWindow (window .current) book) ride amounts
-      charged =
-          record {
-            size = rw (made .1) (length-sets start 0 charges ∙ full);
-            value = rw (made .1) (starts-with start charges (rw full fits));
-          }
-
-      listed : take count amounts ≡ charges
-      listed = rw (made .0) (charged .value)
-
-      pub recordable : Recordable statement ride amounts count
-      recordable =
-          let few = faultless tariff counts (clear .read) .few-areas in
-          record {
-            there = omega (arith, fits, made .0, charged .size);
-            few = omega (arith, fits, made .0);
-            room = omega (arith, charge-count, made .0, clear .room);
-            area = omega (arith, is .there);
-            km = is .km;
-            minutes = is .minutes;
-          }
-
-      pub postable : Postable tariff counts book window ride amounts
-      postable = record { rideable = rideable; trips = window-fits .trips; few = omega (arith, clear .few); charged = charged }
-
-      -- What was written is the accepted outcome, and the book left behind is sound again.
-      pub written :
-          (book′ statement′ : List ℕ) (r : ℕ) → r ≡ length (recordOf (window .opening .0) ride (take count amounts))
-          → statement′
-          ≡ recordOf (window .opening .0) ride (take count amounts) ++ drop (length (recordOf (window .opening .0) ride (take count amounts))) statement
-          → book′ ≡ posted tariff counts book window (trip .checkout .0) ride
-          → SettledSound (acceptedTrip tariff counts book bytes trip window) (counts .areas) book book′ statement statement′ r
-      unfolding acceptedTrip
-      written book′ statement′ r size wrote post =
-          record {
-            settled-is = rw (← (is .value), ← listed) (record { answer = size; book-is = post; statement-is = wrote });
-            sound-again =
-                rw post
-                (sound-again rideable (clear .window-is) (clear .few) (times .forward) (times .short) (times .range) (clear .on-time));
-          }
+    -- What was written is the accepted outcome, and the book left behind is sound again.
+    pub written :
+        (book′ statement′ : List ℕ) (r : ℕ)
+        → RideCharged tariff counts book window (trip .checkout .0) ride statement 0 book′ statement′ r
+        → ToldSound (acceptedTrip tariff counts book bytes trip window) (counts .areas) book book′ statement statement′ (Written r)
+    unfolding acceptedTrip ridesOf partsOf postedAll partOf
+    written book′ statement′ r done =
+        let part = partOf tariff counts book window ride in
+        let size = length-record part in
+        let most = done .recordable .few in
+        let count = charges-length tariff counts (inWindow (window .current) book) ride in
+        let room = chargeable .room in
+        let long : length (recordOf part) ≤ length statement = omega arith in
+        let wrote : statement′ ≡ recordOf part ++ drop (length (recordOf part)) statement =
+        done .wrote .stored ∙ sets-eq (recordOf part) statement 0 (omega arith) ∙ rw zero-add
+        in
+        let told : r ≡ length (recordOf part) = done .wrote .next ∙ zero-add _ in
+        rw (← is .value)
+        (record {
+          told =
+              record {
+                answer = rw (one-part part, told);
+                fits = omega arith;
+                recordable = more (done .recordable) none;
+                book-is = done .book-is;
+                statement-is = rw (one-part part) wrote;
+              };
+          sound-again = done .sound-again;
+        })

@@ -1,4 +1,3 @@
-pub mod Head
-pub mod Amounts
 pub mod Ways
+pub mod Parts
 pub mod Clear

@@ -1,6 +1,6 @@
 -- Each way through the decision, and what each outcome leaves behind.
 -- Assumes nothing.
-use Prim.Native.Nat.{ℕ, zero, suc, _+_, _*_, _≤_, _<_}
+use Prim.Native.Nat.{ℕ, zero, suc, _^_, _≤_, _<_}
 use native.Mathlib.Omega.{arith}
 use mathlib.Core.Path.{_≡_, refl, sym, ap, subst, _∙_}
 use mathlib.Core.Logic.{⊎-elim}
@@ -20,10 +20,13 @@ use Rattle.trip.specs.Trips.{readTrip}
 use Rattle.book.specs.declared.Window.{Window}
 use Rattle.book.specs.Sound.{sound}
 use Rattle.book.specs.Windows.{tooEarly, windowOf}
+use Rattle.statement.specs.Record.{recordSize}
+use Rattle.statement.specs.Contracts.{none}
+use Rattle.settle.specs.declared.Answer.the-variants as answer
 use Rattle.settle.specs.declared.decide.Decision.{Decision}
 use Rattle.settle.specs.declared.decide.Decision.the-variants.{Refused, Clear}
-use Rattle.settle.specs.Record.{recordSize}
-use Rattle.settle.specs.Outcome.{Outcome, refused, accepted, decidedTrip, decidedUnder, acceptedTrip, settled, Settled, AllClear}
+use Rattle.settle.specs.Outcome.{Outcome, refused, accepted, decidedTrip, decidedUnder, acceptedTrip, settledUnder, settled}
+use Rattle.settle.specs.Contracts.{AllClear, Told, Ready}
 
 -- ---- 10 to 12.
 
@@ -133,46 +136,62 @@ abbrev afterDecision : List ℕ → Counts → List ℕ → List ℕ → Decisio
 afterDecision tariff counts book trip (Refused number) = refused number 0
 afterDecision tariff counts book trip (Clear fields window) = acceptedTrip tariff counts book trip fields window
 
+module _ (tariff : List ℕ) (counts : Counts) (book trip : List ℕ) (room : ℕ) where
+  by-decision : settledUnder tariff counts book trip room ≡ afterDecision tariff counts book trip (decidedUnder counts book trip room)
+  unfolding settledUnder
+  by-decision = same (decidedUnder counts book trip room)
+    where
+      same :
+          (d : Decision)
+          → (elim d as (λ x. Outcome) [
+            | Refused number ↦ refused number 0
+            | Clear fields window ↦ acceptedTrip tariff counts book trip fields window
+          ])
+          ≡ afterDecision tariff counts book trip d
+      same (Refused number) = refl
+      same (Clear fields window) = refl
+
+  pub unsound-under : sound book (counts .areas) ≡ false → settledUnder tariff counts book trip room ≡ refused 4 0
+  unfolding decidedUnder
+  unsound-under is = by-decision ∙ rw is
+
+  pub refused-under : (number : ℕ) → decidedUnder counts book trip room ≡ Refused number → settledUnder tariff counts book trip room ≡ refused number 0
+  refused-under number e = by-decision ∙ ap (afterDecision tariff counts book trip) e
+
+  pub accepted-under :
+      (fields : Trip) (window : Window) → decidedUnder counts book trip room ≡ Clear fields window
+      → settledUnder tariff counts book trip room ≡ acceptedTrip tariff counts book trip fields window
+  accepted-under fields window e = by-decision ∙ ap (afterDecision tariff counts book trip) e
+
 module _ (tariff book trip : List ℕ) (room : ℕ) where
   pub fault-way : (number at : ℕ) → readTariff tariff ≡ Fault number at → settled tariff book trip room ≡ refused number at
   unfolding settled
   fault-way number at e = rw (e, settled)
 
   module _ (counts : Counts) (read : Read tariff counts) where
-    by-decision : settled tariff book trip room ≡ afterDecision tariff counts book trip (decidedUnder counts book trip room)
+    pub faultless-way : settled tariff book trip room ≡ settledUnder tariff counts book trip room
     unfolding settled
-    by-decision = rw (read, settled) (same (decidedUnder counts book trip room))
-      where
-        same :
-            (d : Decision)
-            → (elim d as (λ x. Outcome) [
-              | Refused number ↦ refused number 0
-              | Clear fields window ↦ acceptedTrip tariff counts book trip fields window
-            ])
-            ≡ afterDecision tariff counts book trip d
-        same (Refused number) = refl
-        same (Clear fields window) = refl
+    faultless-way = rw (read, settled)
 
     pub unsound-way : sound book (counts .areas) ≡ false → settled tariff book trip room ≡ refused 4 0
-    unfolding decidedUnder
-    unsound-way is = by-decision ∙ rw is
+    unsound-way is = faultless-way ∙ unsound-under tariff counts book trip room is
 
     pub refused-way : (number : ℕ) → decidedUnder counts book trip room ≡ Refused number → settled tariff book trip room ≡ refused number 0
-    refused-way number e = by-decision ∙ ap (afterDecision tariff counts book trip) e
+    refused-way number e = faultless-way ∙ refused-under tariff counts book trip room number e
 
     pub accepted-way :
         (fields : Trip) (window : Window) → decidedUnder counts book trip room ≡ Clear fields window
         → settled tariff book trip room ≡ acceptedTrip tariff counts book trip fields window
-    accepted-way fields window e = by-decision ∙ ap (afterDecision tariff counts book trip) e
+    accepted-way fields window e = faultless-way ∙ accepted-under tariff counts book trip room fields window e
 
 -- A refusal's answer, with nothing written.
-pub refusal-settled :
-    (o : Outcome) (book statement : List ℕ) (number place r : ℕ) → o ≡ refused number place → r ≡ number * 4294967296 + place
-    → Settled o book book statement statement r
-refusal-settled o book statement number place r e is =
-    rw e (record { answer = is; book-is = refl; statement-is = refl })
+pub refusal-told :
+    (o : Outcome) (book statement : List ℕ) (number place : ℕ) → o ≡ refused number place → place < 2 ^ 32
+    → Told o book book statement statement (answer.Refused number place)
+refusal-told o book statement number place e near =
+    rw e (record { answer = refl; fits = near; recordable = none; book-is = refl; statement-is = refl })
 
--- ---- The answers fit 64 bits.
+-- ---- The answers fit.
 
 -- A refusal from 5 on is at most 12.
 trip-refusal-most : (book : List ℕ) (trip : Trip) (room n : ℕ) → decidedTrip book trip room ≡ Refused n → n ≤ 12
@@ -202,14 +221,13 @@ refusal-most counts book trip room n is e = go (readTrip trip (counts .stops)) r
 
 -- A clear decision is all that writing asks.
 pub all-clear :
-    (tariff : List ℕ) (counts : Counts) (book bytes : List ℕ) (trip : Trip) (window : Window) (statement : List ℕ) → Read tariff counts
-    → sound book (counts .areas) ≡ true → decidedUnder counts book bytes (length statement) ≡ Clear trip window
-    → AllClear tariff counts book bytes trip window statement
-all-clear tariff counts book bytes trip window statement read is e =
-    let (good, clear) = decision-clear counts book bytes (length statement) trip window is e in
+    (tariff : List ℕ) (counts : Counts) (book bytes : List ℕ) (trip : Trip) (window : Window) (statement : List ℕ) → Ready tariff counts book
+    → decidedUnder counts book bytes (length statement) ≡ Clear trip window → AllClear tariff counts book bytes trip window statement
+all-clear tariff counts book bytes trip window statement ready e =
+    let (good, clear) = decision-clear counts book bytes (length statement) trip window (ready .sound-book) e in
     record {
-      read = read;
-      sound-book = is;
+      read = ready .read;
+      sound-book = ready .sound-book;
       good = good;
       window-is = sym (clear .window-is);
       on-time = clear .on-time;

@@ -1,2 +1,2 @@
-pub mod Record
 pub mod Outcome
+pub mod Contracts

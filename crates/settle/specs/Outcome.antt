@@ -1,31 +1,31 @@
 -- Paper 01, "What comes back": the one outcome of settling a trip. The twelve refusals stand here in the table's order.
-use Prim.Native.Nat.{ℕ, _+_, _*_, _^_, _≤_}
+use Prim.Native.Nat.{ℕ, _+_, _*_, _^_}
 use mathlib.Core.Path.{_≡_}
-use mathlib.Core.List.{List, _++_}
-use mathlib.Core.Bool.{true, false, cond, not}
+use mathlib.Core.List.{List, [], _∷_, _++_}
+use mathlib.Core.Bool.{true, cond, not}
 use lib.ListN.{length, drop}
 use lib.Dec.{ltb}
 use Rattle.tariff.specs.declared.Counts.{Counts}
 use Rattle.tariff.specs.declared.Reading.the-variants.{Fault, Faultless}
 use Rattle.tariff.specs.Scan.{readTariff}
-use Rattle.tariff.specs.Areas.{Read}
 use Rattle.trip.specs.declared.Trip.{Trip}
 use Rattle.trip.specs.declared.Offered.the-variants.{Good, BadRecord, BadParty, UnknownStop, BadStamp, BadOrder}
 use Rattle.trip.specs.Trips.{readTrip}
+use Rattle.fare.specs.declared.Ride.{Ride}
 use Rattle.fare.specs.Rides.{rideOf}
 use Rattle.book.specs.declared.Window.{Window}
 use Rattle.book.specs.Sound.{sound}
 use Rattle.book.specs.Windows.{tooEarly, windowOf, inWindow}
 use Rattle.book.specs.Charging.{chargesOf}
 use Rattle.book.specs.Posting.{posted}
+use Rattle.statement.specs.Record.{Part, recordSize, statementOf}
 use Rattle.settle.specs.declared.decide.Decision.{Decision}
 use Rattle.settle.specs.declared.decide.Decision.the-variants.{Refused, Clear}
-use Rattle.settle.specs.Record.{recordSize, recordOf}
 
--- a refusal with its number and place; or the new book and the charge record
+-- a refusal with its number and place; or the new book and the parts that the trip was charged in
 pub data Outcome : Type 0 where
   refused : ℕ → ℕ → Outcome
-  accepted : List ℕ → List ℕ → Outcome
+  accepted : List ℕ → List Part → Outcome
 
 -- 10: check-in before the book's last check-out
 -- 11: the trip would be the 257th of its window
@@ -52,58 +52,78 @@ decidedUnder counts book trip room =
       | Good fields ↦ decidedTrip book fields room
     ])
 
--- what a trip that meets no refusal comes to
+-- ---- What a trip that meets no refusal comes to.
+
+-- the rides that a trip is charged as: one
+unfoldable pub ridesOf : List ℕ → Counts → List ℕ → Trip → List Ride
+ridesOf tariff counts bytes trip = rideOf tariff counts bytes trip ∷ []
+
+-- a ride charged in a window of the book
+unfoldable pub partOf : List ℕ → Counts → List ℕ → Window → Ride → Part
+partOf tariff counts book window ride =
+    record { opening = window .opening .0; ride = ride; charges = chargesOf tariff counts (inWindow (window .current) book) ride }
+
+-- the same window, which is open now, with one trip more
+unfoldable pub oneMore : Window → Window
+oneMore window = record { current = true; opening = window .opening; trips = window .trips + 1 }
+
+-- rides one after another: each is charged on the book that those before it left
+unfoldable pub partsOf : List ℕ → Counts → List ℕ → Window → ℕ → List Ride → List Part
+partsOf tariff counts book window checkout [] = []
+partsOf tariff counts book window checkout (ride ∷ more) =
+    partOf tariff counts book window ride ∷ partsOf tariff counts (posted tariff counts book window checkout ride) (oneMore window) checkout more
+
+-- the book that they leave
+unfoldable pub postedAll : List ℕ → Counts → List ℕ → Window → ℕ → List Ride → List ℕ
+postedAll tariff counts book window checkout [] = book
+postedAll tariff counts book window checkout (ride ∷ more) =
+    postedAll tariff counts (posted tariff counts book window checkout ride) (oneMore window) checkout more
+
 unfoldable pub acceptedTrip : List ℕ → Counts → List ℕ → List ℕ → Trip → Window → Outcome
 acceptedTrip tariff counts book bytes trip window =
-    let ride = rideOf tariff counts bytes trip in
-    accepted (posted tariff counts book window (trip .checkout .0) ride)
-    (recordOf (window .opening .0) ride (chargesOf tariff counts (inWindow (window .current) book) ride))
+    let rides = ridesOf tariff counts bytes trip in
+    accepted (postedAll tariff counts book window (trip .checkout .0) rides) (partsOf tariff counts book window (trip .checkout .0) rides)
 
--- the outcome of settling a trip on a book, under a tariff, with so many bytes of room for the record
--- 1 to 3: the tariff's first fault, at its record's offset. Then 4 to 12, which have no place. Then what is accepted
+-- ---- The outcome.
+
+-- of a trip on a book, under a tariff without fault, with so many bytes of room for the records. 4 to 12 have no place
+unfoldable pub settledUnder : List ℕ → Counts → List ℕ → List ℕ → ℕ → Outcome
+settledUnder tariff counts book trip room =
+    elim (decidedUnder counts book trip room) [
+      | Refused number ↦ refused number 0
+      | Clear fields window ↦ acceptedTrip tariff counts book trip fields window
+    ]
+
+-- under any byte string as a tariff. 1 to 3: the tariff's first fault, at its record's offset
 unfoldable pub settled : List ℕ → List ℕ → List ℕ → ℕ → Outcome
 settled tariff book trip room =
     elim (readTariff tariff) [
       | Fault number at ↦ refused number at
-      | Faultless counts ↦
-          elim (decidedUnder counts book trip room) [
-            | Refused number ↦ refused number 0
-            | Clear fields window ↦ acceptedTrip tariff counts book trip fields window
-          ]
+      | Faultless counts ↦ settledUnder tariff counts book trip room
     ]
 
 -- a refusal returns its number and a place; acceptance returns the bytes written
 abbrev pub answerOf : Outcome → ℕ
 answerOf (refused number place) = number * 2 ^ 32 + place
-answerOf (accepted book entry) = length entry
+answerOf (accepted new parts) = length (statementOf parts)
+
+-- a refused trip has no part
+abbrev pub partsIn : Outcome → List Part
+partsIn (refused number place) = []
+partsIn (accepted new parts) = parts
 
 -- a refusal leaves the book; acceptance replaces it
 abbrev pub bookAfter : Outcome → List ℕ → List ℕ
 bookAfter (refused number place) book = book
-bookAfter (accepted new entry) book = new
+bookAfter (accepted new parts) book = new
 
--- a refusal leaves the statement; acceptance puts the record at its start, and its further bytes stay
+-- a refusal leaves the statement; acceptance puts the parts' records at its start, and its further bytes stay
 abbrev pub statementAfter : Outcome → List ℕ → List ℕ
 statementAfter (refused number place) statement = statement
-statementAfter (accepted new entry) statement = entry ++ drop (length entry) statement
+statementAfter (accepted new parts) statement = statementOf parts ++ drop (length (statementOf parts)) statement
 
 -- the answer and every byte left behind are the outcome's
 pub record Settled (outcome : Outcome) (book book′ statement statement′ : List ℕ) (r : ℕ) : Type 0 where
   pub answer : r ≡ answerOf outcome
   pub book-is : book′ ≡ bookAfter outcome book
   pub statement-is : statement′ ≡ statementAfter outcome statement
-
--- and the book left behind is sound again
-pub record SettledSound (outcome : Outcome) (areas : ℕ) (book book′ statement statement′ : List ℕ) (r : ℕ) : Type 0 where
-  pub settled-is : Settled outcome book book′ statement statement′ r
-  pub sound-again : sound book′ areas ≡ true
-
--- what writing asks: all twelve conditions are clear
-pub record AllClear (tariff : List ℕ) (counts : Counts) (book bytes : List ℕ) (trip : Trip) (window : Window) (statement : List ℕ) : Type 0 where
-  pub read : Read tariff counts
-  pub sound-book : sound book (counts .areas) ≡ true
-  pub good : readTrip bytes (counts .stops) ≡ Good trip
-  pub window-is : window ≡ windowOf book (trip .checkin .0) (trip .checkout .0)
-  pub on-time : tooEarly book (trip .checkin .0) ≡ false
-  pub few : window .trips + 1 ≤ 256
-  pub room : recordSize (trip .party) ≤ length statement

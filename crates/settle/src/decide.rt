@@ -1,9 +1,9 @@
 // What is decided before anything is written: the refusals 5 to 12, in the paper's order. 1 to 4 go before, where the tariff is read and
 // the book is looked through.
-use crate::record::record_size;
 use book::Window;
 use book::windows::too_early;
 use book::windows::window_of;
+use statement::record_size;
 use tariff::Counts;
 use trip::Offered;
 use trip::Trip;

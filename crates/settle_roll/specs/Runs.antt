@@ -1,7 +1,7 @@
 -- What holds of a run from turn to turn, so that every sum fits, every line has room, and the run ends.
 use Prim.Native.Nat.{ℕ, _+_, _-_, _*_, _≤_, _<_}
 use mathlib.Core.Bool.{cond}
-use Rattle.roll.specs.Lines.{mostCents}
+use Rattle.statement.specs.Contracts.{mostCents}
 use Rattle.settle_roll.specs.declared.run.Tally.{Tally}
 use Rattle.settle_roll.specs.declared.run.Run.{Run}
 use Rattle.settle_roll.specs.declared.run.Turn.{Turn}

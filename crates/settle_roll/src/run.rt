@@ -18,7 +18,9 @@ ghost use mathlib.Core.Bool.{true};
 ghost use Prim.Native.Nat.{_+_, _≤_, _<_};
 ghost use lib.ListN.{length};
 ghost use Rattle.tariff.specs.Areas.{Read};
-ghost use Rattle.roll.specs.Lines.{Ready, lineCents, mostCents};
+ghost use Rattle.statement.specs.Contracts.{mostCents};
+ghost use Rattle.settle.specs.Contracts.{Ready};
+ghost use Rattle.roll.specs.Contracts.{lineCents};
 ghost use Rattle.settle_roll.specs.Runs.{records, CentsFit, InRange, Turned};
 
 // Room for the roll's bytes: a record has 1,026 at most.

@@ -5,7 +5,15 @@ use fare::prices::price;
 use fare::rides::ride_of;
 use libc::STDIN_FILENO;
 use libc::STDOUT_FILENO;
-use settle::milecopper_settle;
+use settle::Answer;
+use settle::settle;
+use statement::LARGEST;
+use statement::reading::area_at;
+use statement::reading::charge_at;
+use statement::reading::count_at;
+use statement::reading::km_at;
+use statement::reading::minutes_at;
+use statement::reading::opening_at;
 use tariff::Counts;
 use tariff::Reading;
 use tariff::areas::area;
@@ -14,14 +22,11 @@ use trip::Offered;
 use trip::Trip;
 use trip::read_trip;
 use wire::four_at;
-use wire::one_at;
-use wire::two_at;
 ghost use mathlib.Core.Path.{_≡_};
-ghost use Prim.Native.Nat.{_+_, _≤_};
-ghost use lib.ListN.{length};
 ghost use Rattle.tariff.specs.Areas.{Read};
 ghost use Rattle.trip.specs.Trips.{readTrip};
 ghost use Rattle.trip.specs.declared.Offered.the-variants.{Good};
+ghost use Rattle.statement.specs.Contracts.{RecordAt};
 
 const TARIFF: u8 = 84;
 
@@ -98,47 +103,36 @@ fn show_price(tariff: &[u8], trip: &[u8]) {
     }
 }
 
-fn show_charge(entry: &[u8], place: usize)
-    requires { ⌜ place + 4 ≤ length (now entry) ⌝ }
+fn show_charges(statement: &[u8])
+    requires { ⌜ RecordAt (now statement) 0 ⌝ }
 {
-    say_number(b" ", four_at(entry, place) as u64);
-}
-
-// The charges of a record that ends at a place.
-fn show_charges(entry: &[u8], end: usize)
-    requires { ⌜ length (now entry) ≡ 137 ⌝ }
-{
-    for i in 0..31usize {
-        let place = 13 + 4 * i;
-        if place < end {
-            show_charge(entry, place);
-        }
+    for i in 0..count_at(statement, 0) {
+        say_number(b" ", charge_at(statement, 0, i) as u64);
     }
 }
 
 // A charge record: the window's opening, area, kilometres, minutes, and each charge.
-fn show_entry(entry: &[u8])
-    requires { ⌜ length (now entry) ≡ 137 ⌝ }
+fn show_record(statement: &[u8])
+    requires { ⌜ RecordAt (now statement) 0 ⌝ }
 {
-    say_number(b"open ", four_at(entry, 4) as u64);
-    say_number(b" area ", one_at(entry, 8) as u64);
-    say_number(b" km ", two_at(entry, 9) as u64);
-    say_number(b" min ", two_at(entry, 11) as u64);
+    say_number(b"open ", opening_at(statement, 0) as u64);
+    say_number(b" area ", area_at(statement, 0) as u64);
+    say_number(b" km ", km_at(statement, 0) as u64);
+    say_number(b" min ", minutes_at(statement, 0) as u64);
     say(b" cents");
-    show_charges(entry, two_at(entry, 0) as usize + 2);
+    show_charges(statement);
     say(b"\n");
 }
 
 fn show_settled(tariff: &[u8], book: &mut [u8], trip: &[u8]) {
-    let mut statement = [0u8; 137];
-    let answer = milecopper_settle(tariff, book, trip, &mut statement);
-    let number = answer / 4_294_967_296;
-    if number == 0 {
-        show_entry(&statement);
-    } else {
-        say_number(b"refused ", number);
-        say_number(b" at ", answer % 4_294_967_296);
-        say(b"\n");
+    let mut statement = [0u8; LARGEST];
+    match settle(tariff, book, trip, &mut statement) {
+        Answer::Written(_) => show_record(&statement),
+        Answer::Refused { number, place } => {
+            say_number(b"refused ", number as u64);
+            say_number(b" at ", place as u64);
+            say(b"\n");
+        }
     }
 }
 

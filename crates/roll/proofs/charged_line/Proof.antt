@@ -1,52 +1,48 @@
--- `roll::charged_line` meets its contract: each number stands at its place in the record, and 31 charges are added at most.
+-- `roll::charged_line` meets its contract: each number is that of the record.
 -- Assumes nothing.
 use native.Mathlib.Omega.{arith}
 use borrow.Author.Needs.{needs}
-use Rattle.roll.specs.Lines.{chargedLine}
+use Rattle.roll.specs.Contracts.{lineIn}
 use Rattle.roll.proofs.charged_line.Statement.{statement}
 use Rattle.roll.proofs.charged_line.Tie as tie
 
-one-at-requires : tie.Need-one-at-requires
-one-at-requires c κs = search needs
+area-at-requires : tie.Need-area-at-requires
+area-at-requires c κs = search needs
 
-two-at-requires : tie.Need-two-at-requires
-two-at-requires c κs = search needs
+km-at-requires : tie.Need-km-at-requires
+km-at-requires c κs = search needs
 
-two-at-requires-2 : tie.Need-two-at-requires-2
-two-at-requires-2 c κs = search needs
+minutes-at-requires : tie.Need-minutes-at-requires
+minutes-at-requires c κs = search needs
 
-four-at-requires : tie.Need-four-at-requires
-four-at-requires c κs = search needs
+opening-at-requires : tie.Need-opening-at-requires
+opening-at-requires c κs = search needs
 
-sub-cents-of : tie.Need-sub-cents-of
-sub-cents-of c = search needs
-
-cents-of-requires : tie.Need-cents-of-requires
-cents-of-requires c κs = search needs
+cents-at-requires : tie.Need-cents-at-requires
+cents-at-requires c κs = search needs
 
 returns : tie.Need-returns
-unfolding chargedLine
+unfolding lineIn
 returns c =
     record {
       value =
           rw (
-            c .before .before .before .before .one-at .ensures .value,
-            c .before .before .before .two-at .ensures .value,
-            c .before .before .two-at2 .ensures .value,
-            c .before .four-at .ensures .value,
-            c .cents-of .ensures .value,
+            c .before .before .before .before .area-at .ensures,
+            c .before .before .before .km-at .ensures,
+            c .before .before .minutes-at .ensures,
+            c .before .opening-at .ensures,
+            c .cents-at .ensures .value,
           );
-      range = omega arith;
+      range = c .cents-at .ensures .range;
     }
 
 pub charged-line-spec : {M : Type 1} → statement M
 charged-line-spec =
     tie.close
     (tie.spec
-    one-at-requires
-    two-at-requires
-    two-at-requires-2
-    four-at-requires
-    sub-cents-of
-    cents-of-requires
+    area-at-requires
+    km-at-requires
+    minutes-at-requires
+    opening-at-requires
+    cents-at-requires
     returns)

@@ -1,27 +1,36 @@
--- `vectors::show_charges` is safe and ends: the last of the 31 places is 133, and its four bytes end the record's 137.
+-- `vectors::show_charges` is safe and ends: the record goes as far as its charges do.
 -- Assumes nothing.
 use Prim.Native.Nat.{_≤_, _-_}
+use native.Mathlib.Omega.{arith}
+use lib.ListN.{length}
 use borrow.Author.Needs.{needs}
+use Rattle.statement.specs.Record.{mostCharges, sizeWith}
 use Rattle.vectors.proofs.show_charges.Statement.{statement}
 use Rattle.vectors.proofs.show_charges.Tie as tie
 
 abbrev Inv-loop : tie.InvT-loop
-Inv-loop entry end i₀ i = i ≤ 31
+Inv-loop statement i₀ t3 i-end i = (i ≤ i-end) × (i-end ≤ mostCharges) × (sizeWith i-end ≤ length statement)
 
 abbrev μ-loop : tie.MeasureT-loop
-μ-loop entry end i₀ i = 31 - i
+μ-loop statement i₀ t3 i-end i = i-end - i
+
+count-at-requires : tie.Need-count-at-requires Inv-loop μ-loop
+count-at-requires c κs = search needs
 
 loop-holds : tie.Need-loop-holds Inv-loop μ-loop
-loop-holds c = search needs
+loop-holds c = (omega arith, omega arith, omega arith)
 
-mul-place : tie.Need-mul-place Inv-loop μ-loop
-mul-place c = search needs
+slice-aggregate-say-number : tie.Need-slice-aggregate-say-number Inv-loop μ-loop
+slice-aggregate-say-number c = search needs
 
-add-place : tie.Need-add-place Inv-loop μ-loop
-add-place c = search needs
+charge-at-requires : tie.Need-charge-at-requires Inv-loop μ-loop
+charge-at-requires c κs = search needs
 
-show-charge-requires : tie.Need-show-charge-requires Inv-loop μ-loop
-show-charge-requires c κs = search needs
+cast-say-number : tie.Need-cast-say-number Inv-loop μ-loop
+cast-say-number c = search needs
+
+say-number-requires : tie.Need-say-number-requires Inv-loop μ-loop
+say-number-requires c κs = search needs
 
 add-i : tie.Need-add-i Inv-loop μ-loop
 add-i c = search needs
@@ -41,10 +50,12 @@ show-charges-spec =
     (tie.spec
     Inv-loop
     μ-loop
+    count-at-requires
     loop-holds
-    mul-place
-    add-place
-    show-charge-requires
+    slice-aggregate-say-number
+    charge-at-requires
+    cast-say-number
+    say-number-requires
     add-i
     loop-less
     loop-again

@@ -5,7 +5,8 @@ use native.Mathlib.Omega.{arith}
 use mathlib.Core.Path.{subst}
 use borrow.Author.Needs.{needs}
 use Rattle.roll.specs.declared.Line.{Line}
-use Rattle.roll.specs.Lines.{lineCents, mostCents}
+use Rattle.statement.specs.Contracts.{mostCents}
+use Rattle.roll.specs.Contracts.{lineCents}
 use Rattle.settle_roll.proofs.run.counted.Statement.{statement}
 use Rattle.settle_roll.proofs.run.counted.Tie as tie
 

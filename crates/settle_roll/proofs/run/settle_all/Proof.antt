@@ -5,7 +5,7 @@ use Prim.Native.Nat.{_<_}
 use mathlib.Core.Path.{_≡_, refl, subst}
 use borrow.Author.Needs.{needs}
 use lib.ListN.{length}
-use Rattle.roll.specs.Lines.{Ready}
+use Rattle.settle.specs.Contracts.{Ready}
 use Rattle.settle_roll.specs.declared.run.Turn.{Turn}
 use Rattle.settle_roll.specs.Runs.{InRange, left, Turned}
 use Rattle.settle_roll.proofs.run.settle_all.Statement.{statement}

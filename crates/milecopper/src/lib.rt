@@ -1,0 +1,33 @@
+// What C is offered: each exported function takes plain byte strings, has the library do the work, and answers one number.
+use settle::Answer;
+use settle::settle;
+ghost use mathlib.Core.Path.{_≡_};
+ghost use lib.ListN.{length};
+ghost use Rattle.settle.specs.Outcome.{settled, Settled};
+ghost use Rattle.settle.specs.Contracts.{AnswerFits};
+ghost use Rattle.milecopper.specs.Contracts.{encodedAs};
+
+// An answer as one number. Written: the bytes, below 2^32. Refused: the refusal's number × 2^32 + its place.
+fn encoded(answer: Answer) -> u64
+    requires { ⌜ AnswerFits answer ⌝ }
+    ensures { λ r. ⌜ r ≡ encodedAs answer ⌝ }
+{
+    match answer {
+        Answer::Refused { number, place } => number as u64 * 4_294_967_296 + place as u64,
+        Answer::Written(size) => size as u64,
+    }
+}
+
+// Settles a trip: its charge record goes to the start of the statement, and the book is brought up to date.
+// Accepted: the number of bytes written. Refused: the refusal's number × 2^32 + its place, and neither slice is touched.
+#[no_mangle]
+pub extern "C" fn milecopper_settle(
+    tariff: &[u8],
+    book: &mut [u8],
+    trip: &[u8],
+    statement: &mut [u8],
+) -> u64
+    ensures { λ r. ⌜ Settled (settled (now (tariff .entry)) (now (book .entry)) (now (trip .entry)) (length (now (statement .entry)))) (now (book .entry)) (now (book .exit)) (now (statement .entry)) (now (statement .exit)) r ⌝ }
+{
+    encoded(settle(tariff, book, trip, statement))
+}

@@ -1,0 +1,4 @@
+pub mod Head
+pub mod Charges
+pub mod Sums
+pub mod Records
