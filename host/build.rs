@@ -1,4 +1,4 @@
-//! Feature `library`: links libsettle.a. Feature `planted`: makes the copies of the model that have an error planted.
+//! Feature `library`: links libmilecopper.a. Feature `planted`: makes the copies of the model that have an error planted.
 
 #[path = "src/planted/edits.rs"]
 mod edits;
@@ -22,11 +22,11 @@ fn main() {
 fn link_library(package: &Path) {
     println!("cargo::rerun-if-env-changed=MILECOPPER_LIB_DIR");
     let directory = package.join(env::var("MILECOPPER_LIB_DIR").unwrap_or("../target/staticlib".to_string()));
-    let archive = directory.join("libsettle.a");
+    let archive = directory.join("libmilecopper.a");
     println!("cargo::rerun-if-changed={}", archive.display());
     if archive.is_file() {
         println!("cargo::rustc-link-search=native={}", directory.display());
-        println!("cargo::rustc-link-lib=static=settle");
+        println!("cargo::rustc-link-lib=static=milecopper");
     } else {
         println!("cargo::error={} is not there: set MILECOPPER_LIB_DIR to its directory", archive.display());
     }

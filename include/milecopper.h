@@ -1,7 +1,7 @@
 /*
  * milecopper.h: prices one trip, charges it against an account's book and writes a charge record.
  *
- * For C99 and later and C++11 and later. Link with the static library `settle` (libsettle.a).
+ * For C99 and later and C++11 and later. Link with the static library `milecopper` (libmilecopper.a).
  *
  *     static uint8_t book[MILECOPPER_BOOK_BYTES];            // all zero: a fresh book, one for each account
  *     uint8_t statement[MILECOPPER_LARGEST_RECORD_BYTES];
