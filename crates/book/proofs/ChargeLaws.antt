@@ -17,11 +17,13 @@ use Rattle.caps.proofs.Cut.{here-most, here-again}
 use Rattle.tariff.specs.declared.Area.{Area}
 use Rattle.tariff.specs.declared.Counts.{Counts}
 use Rattle.tariff.specs.Rules.{levelOf}
-use Rattle.tariff.specs.Areas.{areaAt, parentOf, Read, FlatOf, Smallest, FaultlessTariff}
+use Rattle.tariff.specs.Areas.{areaAt, parentOf, Read, Smallest, FaultlessTariff}
+use Rattle.tariff.specs.Contracts.{FlatOf}
 use Rattle.tariff.proofs.Faultless.{faultless}
 use Rattle.tariff.proofs.Within.{area-flat, above-of, parent-there, parent-top, flat-within, smallest}
 use Rattle.fare.specs.declared.Ride.{Ride}
-use Rattle.fare.specs.Prices.{mostPrice, Priceable, priceOf}
+use Rattle.fare.specs.Prices.{mostPrice, priceOf}
+use Rattle.fare.specs.Contracts.{Priceable}
 use Rattle.fare.proofs.Steps.{price-most}
 use Rattle.book.specs.declared.limits.Chain.{Chain}
 use Rattle.book.specs.Words.{coverPlace, coverWord}
@@ -130,7 +132,7 @@ module _ (t : List ℕ) (counts : Counts) (a : ℕ) (read : Read t counts) (here
   bicycle-most old known =
       let f = faultless t counts read in
       let new = newCover t counts a old in
-      omega (arith, f .area new (cover-there f a old here known) .flat, area-flat t counts new)
+      omega (arith, f .area new (cover-there f a old here known) .bicycle-flat, area-flat t counts new)
 
 -- A list made one value after another.
 unfoldable pub listed : (ℕ → ℕ) → ℕ → List ℕ

@@ -14,7 +14,7 @@ use lib.Dec.{eqb}
 use Rattle.tariff.specs.declared.Counts.{Counts}
 use Rattle.tariff.specs.Rules.{levelOf}
 use Rattle.tariff.specs.Areas.{parentOf, FaultlessTariff}
-use Rattle.tariff.proofs.Tests.{both-left}
+use Rattle.wire.proofs.Tests.{both-left}
 use Rattle.tariff.proofs.Within.{above-of, parent-there}
 use Rattle.fare.specs.declared.Ride.{Ride}
 use Rattle.fare.specs.Prices.{mostPrice}

@@ -14,7 +14,7 @@ use Rattle.units.specs.Day.{dayMinutes}
 use Rattle.calendar.specs.Stamps.{lastMinute}
 use Rattle.tariff.specs.declared.Counts.{Counts}
 use Rattle.tariff.specs.Areas.{liesWithin}
-use Rattle.tariff.proofs.Tests.{both-left, both-right}
+use Rattle.wire.proofs.Tests.{both-left, both-right}
 use Rattle.fare.specs.declared.Ride.{Ride}
 use Rattle.fare.specs.Prices.{mostPrice}
 use Rattle.book.specs.declared.Window.{Window}

@@ -14,7 +14,7 @@ use lib.Bits.{bitOr, or-zero-l, or-add-and, and-le-r}
 use Rattle.units.specs.Day.{dayMinutes}
 use Rattle.wire.specs.Each.{each}
 use Rattle.wire.proofs.Each.{each-more, each-at, each-all}
-use Rattle.tariff.proofs.Tests.{both-left, both-right, told}
+use Rattle.wire.proofs.Tests.{both-left, both-right, told}
 use Rattle.calendar.specs.Stamps.{lastMinute}
 use Rattle.fare.specs.Prices.{mostPrice}
 use Rattle.book.specs.Words.{bookSize, bookWords, freshBook, word, tripsOf, openingOf, lastOutOf, pairPlace, pairs, pairAt, secondSum, allSum, coverPlace, coverWord}

@@ -16,13 +16,13 @@ use Rattle.book.specs.declared.limits.Chain.{Chain}
 
 -- an area's second-class cap is its day cap; for children reduced and rounded up as in step 4
 unfoldable pub secondCap : Area → Bool → Cap
-secondCap area child = elim (area .daily) [ NoCap ↦ NoCap | UpTo day ↦ UpTo (record { 0 = step4 area child (day .0) }) ]
+secondCap area child = elim (area .«day_cap») [ NoCap ↦ NoCap | UpTo day ↦ UpTo (record { 0 = step4 area child (day .0) }) ]
 
 -- its all-classes cap is that × (100 + surcharge) ÷ 100, rounded up; for children then reduced and rounded up as in step 4.
 -- An area without a day cap has neither
 unfoldable pub allCap : Area → Bool → Cap
 allCap area child =
-    elim (area .daily) [
+    elim (area .«day_cap») [
       | NoCap ↦ NoCap
       | UpTo day ↦ UpTo (record { 0 = step4 area child (raisedBy (area .surcharge) (day .0)) })
     ]

@@ -30,7 +30,7 @@ pub fn caps_of(area: Area, child: bool) -> Caps
     requires { ⌜ AreaRanges area ⌝ }
     ensures { λ r. ⌜ r ≡ capsHere area child ⌝ }
 {
-    let daily = area.daily;
+    let daily = area.day_cap;
     match daily {
         Cap::NoCap => Caps {
             second: Cap::NoCap,

@@ -9,7 +9,8 @@ use mathlib.Core.Path.{_≡_, refl}
 use mathlib.Core.Bool.{Bool, true, false}
 use borrow.Author.Tests.{leb-true, leb-false}
 use lib.Dec.{leb}
-use Rattle.fare.specs.Distance.{square, kmFrom, kmOf, LeastKm}
+use Rattle.tariff.specs.Rules.{mostMetres}
+use Rattle.fare.specs.Distance.{mostKm, square, kmFrom, kmOf, LeastKm}
 
 -- a number that does not reach lies below every number that does
 pub beyond : (d k j : ℕ) → square (1000 * k) < d → d ≤ square (1000 * j) → k < j
@@ -57,7 +58,7 @@ module _ (longer shorter : ℕ) (order : shorter ≤ longer) where
       )
 
   -- so the search may start at these two
-  pub near : longer ≤ 1000000 → Between (square longer + square shorter) ((longer + 999) / 1000) ((longer + shorter / 2) / 1000 + 1)
+  pub near : longer ≤ mostMetres → Between (square longer + square shorter) ((longer + 999) / 1000) ((longer + shorter / 2) / 1000 + 1)
   near most =
       record {
         reaches = far-enough (1000 * ((longer + shorter / 2) / 1000 + 1)) (omega arith);
@@ -90,10 +91,10 @@ counted d (suc more) k s =
     go false e later = later (leb-false _ _ e)
 
 -- Between any two stops of the plane, whose d is at most this:
-module _ (d : ℕ) (h : d ≤ square (1000 * 1415)) where
+module _ (d : ℕ) (h : d ≤ square (1000 * mostKm)) where
   km-between : Between d (kmOf d) (kmOf d)
   unfolding kmOf
-  km-between = counted d 1415 0 (at-first d 1415 h (omega arith))
+  km-between = counted d mostKm 0 (at-first d mostKm h (omega arith))
 
   -- The count's kilometres are enough, no fewer are, and they are at most 1,415.
   pub km-holds : d ≤ square (1000 * kmOf d)
@@ -102,21 +103,21 @@ module _ (d : ℕ) (h : d ≤ square (1000 * 1415)) where
   pub km-least : (j : ℕ) → d ≤ square (1000 * j) → kmOf d ≤ j
   km-least = km-between .least
 
-  pub km-range : kmOf d ≤ 1415
-  km-range = km-least 1415 h
+  pub km-range : kmOf d ≤ mostKm
+  km-range = km-least mostKm h
 
   -- Any k that is enough where no fewer are is the count's.
   pub km-unique : (k : ℕ) → d ≤ square (1000 * k) → ((j : ℕ) → d ≤ square (1000 * j) → k ≤ j) → k ≡ kmOf d
   km-unique k holds least = le-antisymm (least (kmOf d) km-holds) (km-least k holds)
 
 -- the contract of `least_km`, where the two numbers have met
-pub met : (d low high : ℕ) → d ≤ square (1000 * 1415) → Between d low high → high ≤ low → LeastKm d high
+pub met : (d low high : ℕ) → d ≤ square (1000 * mostKm) → Between d low high → high ≤ low → LeastKm d high
 met d low high h s together =
     let least : (j : ℕ) → d ≤ square (1000 * j) → high ≤ j = λ j reaches. omega (arith, s .least j reaches) in
-    record { value = km-unique d h high (s .reaches) least; holds = s .reaches; least = least; range = least 1415 h }
+    record { value = km-unique d h high (s .reaches) least; holds = s .reaches; least = least; range = least mostKm h }
 
 -- What lies between any two stops of the plane is less than what 1,415 kilometres reach.
-pub across : (m n : ℕ) → m ≤ 1000000 → n ≤ 1000000 → square m + square n ≤ 2000000000000
+pub across : (m n : ℕ) → m ≤ mostMetres → n ≤ mostMetres → square m + square n ≤ 2000000000000
 across m n h h′ = omega (arith, mul-le-mul h h, mul-le-mul h′ h′)
 
 -- 1,000 m are 1 km, 1,001 m are 2, and 0 m are none.

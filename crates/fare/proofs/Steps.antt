@@ -13,16 +13,18 @@ use Rattle.units.proofs.Caps.{capped-most}
 use Rattle.tariff.specs.declared.Area.{Area}
 use Rattle.tariff.specs.Areas.{AreaRanges}
 use Rattle.fare.specs.declared.Ride.{Ride}
-use Rattle.fare.specs.Prices.{mostFar, mostPrice, step1, step2, step3, step4, tripCap, priceOf, Step1, Step2, Step3, Priceable, Price}
+use Rattle.fare.specs.Distance.{mostKm}
+use Rattle.fare.specs.Prices.{mostFar, mostPrice, step1, step2, step3, step4, tripCap, priceOf}
+use Rattle.fare.specs.Contracts.{Step1, Step2, Step3, Priceable, Price}
 
 -- Step 1's two products: at most 48 periods, and at most 1,415 kilometres.
-pub base-most : (area : Area) (n : ℕ) → AreaRanges area → n ≤ 48 → area .base .0 * n ≤ 480000
-base-most area n ranges few = mul-le-mul (ranges .base) few
+pub base-most : (area : Area) (n : ℕ) → AreaRanges area → n ≤ 48 → area .«base_price» .0 * n ≤ 480000
+base-most area n ranges few = mul-le-mul (ranges .base-price) few
 
-pub rate-most : (area : Area) (km : ℕ) → AreaRanges area → km ≤ 1415 → area .rate .0 * km ≤ 1415000
-rate-most area km ranges near = mul-le-mul (ranges .rate) near
+pub rate-most : (area : Area) (km : ℕ) → AreaRanges area → km ≤ mostKm → area .«price_per_km» .0 * km ≤ 1415000
+rate-most area km ranges near = mul-le-mul (ranges .price-per-km) near
 
-pub step1-most : (area : Area) (minutes km : ℕ) → AreaRanges area → minutes ≤ dayMinutes → km ≤ 1415 → step1 area minutes km ≤ mostFar
+pub step1-most : (area : Area) (minutes km : ℕ) → AreaRanges area → minutes ≤ dayMinutes → km ≤ mostKm → step1 area minutes km ≤ mostFar
 unfolding step1
 step1-most area minutes km ranges short near =
     let n = periods minutes (area .validity .0) in
@@ -31,7 +33,7 @@ step1-most area minutes km ranges short near =
 
 pub step2-most : (area : Area) (minutes level amount : ℕ) → step2 area minutes level amount ≤ amount
 unfolding step2
-step2-most area minutes level amount = capped-most (tripCap (area .cap) minutes level) amount
+step2-most area minutes level amount = capped-most (tripCap (area .«trip_cap») minutes level) amount
 
 pub step3-most : (area : Area) (class amount : ℕ) → AreaRanges area → step3 area class amount ≤ 2 * amount
 unfolding step3

@@ -9,6 +9,7 @@ use mathlib.Core.Bool.{true, and-eq-true-iff}
 use mathlib.Core.List.{List}
 use borrow.Author.Tests.{leb-true, ltb-true}
 use lib.Dec.{leb, ltb}
+use Rattle.units.specs.Day.{dayMinutes}
 use Rattle.wire.proofs.Each.{each-at}
 use Rattle.tariff.specs.declared.Counts.{Counts}
 use Rattle.tariff.specs.declared.Stop.{Stop}
@@ -19,7 +20,8 @@ use Rattle.trip.specs.declared.Trip.{Trip}
 use Rattle.trip.specs.Record.{stopNumber}
 use Rattle.trip.specs.Trips.{stopsKnown}
 use Rattle.fare.specs.Distance.{apart, LeastKm}
-use Rattle.fare.specs.Rides.{Riding, InOrder, stopOf, StopOf, areaOfStops, AreaOfStops, rideOf, RideOf}
+use Rattle.fare.specs.Rides.{stopOf, areaOfStops, AreaOfStops, rideOf}
+use Rattle.fare.specs.Contracts.{Riding, InOrder, StopOf, RideOf}
 
 -- Of a trip with n stops, each of which the faultless tariff has:
 module _ {tariff : List ℕ} {counts : Counts} {trip : List ℕ} {n : ℕ} (riding : Riding tariff counts trip n) where
@@ -99,7 +101,7 @@ module _ {tariff : List ℕ} {counts : Counts} {trip : List ℕ} {n : ℕ} (ridi
       (least _ (s .contains)) (s .least r contains)
 
 -- Check-out is not before check-in, and at most a day after it.
-pub times : (trip : Trip) → InOrder trip → (trip .checkin .0 ≤ trip .checkout .0) × (trip .checkout .0 ≤ trip .checkin .0 + 1440)
+pub times : (trip : Trip) → InOrder trip → (trip .checkin .0 ≤ trip .checkout .0) × (trip .checkout .0 ≤ trip .checkin .0 + dayMinutes)
 times trip order =
     let both = and-eq-true-iff (leb (trip .checkin .0) (trip .checkout .0)) _ .0 (order .times) in
     (leb-true _ _ (both .0), leb-true _ _ (both .1))

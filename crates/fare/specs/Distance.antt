@@ -21,13 +21,17 @@ unfoldable pub kmFrom : ℕ → ℕ → ℕ → ℕ
 kmFrom zero k d = k
 kmFrom (suc more) k d = elim (leb d (square (1000 * k))) [ true ↦ k | false ↦ kmFrom more (k + 1) d ]
 
--- the least k: 1,415 kilometres reach across the whole plane
+-- 1,415 kilometres reach across the whole plane
+abbrev pub mostKm : ℕ
+mostKm = 1415
+
+-- the least k
 unfoldable pub kmOf : ℕ → ℕ
-kmOf d = kmFrom 1415 0 d
+kmOf d = kmFrom mostKm 0 d
 
 -- k kilometres are enough, and no fewer are
 pub record LeastKm (d k : ℕ) : Type 0 where
   pub value : k ≡ kmOf d
   pub holds : d ≤ square (1000 * k)
   pub least : (j : ℕ) → d ≤ square (1000 * j) → k ≤ j
-  pub range : k ≤ 1415
+  pub range : k ≤ mostKm

@@ -1,3 +1,4 @@
 pub mod Distance
 pub mod Rides
 pub mod Prices
+pub mod Contracts

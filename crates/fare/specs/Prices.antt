@@ -1,9 +1,7 @@
 -- Paper 01, "Price, in order".
-use Prim.Native.Nat.{ℕ, _+_, _*_, _≤_}
-use mathlib.Core.Path.{_≡_}
+use Prim.Native.Nat.{ℕ, _+_, _*_}
 use mathlib.Core.Bool.{Bool, cond}
 use lib.Dec.{leb, eqb}
-use Rattle.units.specs.Day.{dayMinutes}
 use Rattle.units.specs.Rounding.{periods, raisedBy, reducedBy}
 use Rattle.units.specs.Caps.{cappedBy}
 use Rattle.units.specs.declared.Cap.{Cap}
@@ -13,7 +11,6 @@ use Rattle.tariff.specs.declared.TripCap.the-variants as sort
 use Rattle.tariff.specs.declared.levels.LevelCap.the-variants as picked
 use Rattle.tariff.specs.declared.Area.{Area}
 use Rattle.tariff.specs.Levels.{levelCap}
-use Rattle.tariff.specs.Areas.{AreaRanges}
 use Rattle.fare.specs.declared.Ride.{Ride}
 
 -- the most that step 1 comes to, with 48 periods of 10,000 cents and 1,415 kilometres of 1,000; and no price is above twice that
@@ -25,7 +22,7 @@ mostPrice = 3790000
 
 -- 1. Base price × periods + km price × km
 unfoldable pub step1 : Area → ℕ → ℕ → ℕ
-step1 area minutes km = area .base .0 * periods minutes (area .validity .0) + area .rate .0 * km
+step1 area minutes km = area .«base_price» .0 * periods minutes (area .validity .0) + area .«price_per_km» .0 * km
 
 -- the trip cap: sort 1 applies up to its minutes; sort 2 by level, and level 0 has none; sorts 0 and 1 ignore the level
 unfoldable pub tripCap : TripCap → ℕ → ℕ → Cap
@@ -40,7 +37,7 @@ tripCap (sort.ByLevel k a b c d) minutes level =
 
 -- 2. The smaller of that and the trip cap
 unfoldable pub step2 : Area → ℕ → ℕ → ℕ → ℕ
-step2 area minutes level amount = cappedBy (tripCap (area .cap) minutes level) amount
+step2 area minutes level amount = cappedBy (tripCap (area .«trip_cap») minutes level) amount
 
 -- 3. Class 1: × (100 + surcharge) ÷ 100, rounded up. Class 2: unchanged
 unfoldable pub step3 : Area → ℕ → ℕ → ℕ
@@ -56,25 +53,3 @@ priceOf area ride child =
     step4 area child
     (step3 area (ride .class)
     (step2 area (ride .minutes .0) (ride .level) (step1 area (ride .minutes .0) (ride .km .0))))
-
-pub record Step1 (area : Area) (minutes km r : ℕ) : Type 0 where
-  pub value : r ≡ step1 area minutes km
-  pub range : r ≤ mostFar
-
-pub record Step2 (area : Area) (minutes level amount r : ℕ) : Type 0 where
-  pub value : r ≡ step2 area minutes level amount
-  pub range : r ≤ amount
-
-pub record Step3 (area : Area) (class amount r : ℕ) : Type 0 where
-  pub value : r ≡ step3 area class amount
-  pub range : r ≤ 2 * amount
-
--- an area of a faultless tariff, and a ride of at most a day across the plane
-pub record Priceable (area : Area) (ride : Ride) : Type 0 where
-  pub ranges : AreaRanges area
-  pub minutes : ride .minutes .0 ≤ dayMinutes
-  pub km : ride .km .0 ≤ 1415
-
-pub record Price (area : Area) (ride : Ride) (child : Bool) (r : ℕ) : Type 0 where
-  pub value : r ≡ priceOf area ride child
-  pub range : r ≤ mostPrice

@@ -16,18 +16,20 @@ ghost use mathlib.Core.Path.{_≡_};
 ghost use Prim.Native.Nat.{_≤_};
 ghost use Rattle.units.specs.Day.{dayMinutes};
 ghost use Rattle.tariff.specs.Areas.{AreaRanges};
-ghost use Rattle.fare.specs.Prices.{mostFar, Step1, Step2, Step3, tripCap, Price, Priceable};
+ghost use Rattle.fare.specs.Distance.{mostKm};
+ghost use Rattle.fare.specs.Prices.{mostFar, tripCap};
+ghost use Rattle.fare.specs.Contracts.{Step1, Step2, Step3, Price, Priceable};
 
 // No price is above this.
 pub const MOST_PRICE: u32 = 3_790_000;
 
 // 1. Base price × periods + km price × km.
 fn distance_price(area: Area, minutes: Minutes, km: Km) -> Cents
-    requires { ⌜ AreaRanges area × ((minutes .0 ≤ dayMinutes) × (km .0 ≤ 1415)) ⌝ }
+    requires { ⌜ AreaRanges area × ((minutes .0 ≤ dayMinutes) × (km .0 ≤ mostKm)) ⌝ }
     ensures { λ r. ⌜ Step1 area (minutes .0) (km .0) (r .0) ⌝ }
 {
-    let base = area.base;
-    let rate = area.rate;
+    let base = area.base_price;
+    let rate = area.price_per_km;
     let validity = area.validity;
     Cents(base.0 * started_periods(minutes, validity) + rate.0 * km.0)
 }
@@ -57,7 +59,7 @@ fn trip_cap(sort: TripCap, minutes: Minutes, level: u8) -> Cap
 fn trip_capped(area: Area, amount: Cents, minutes: Minutes, level: u8) -> Cents
     ensures { λ r. ⌜ Step2 area (minutes .0) level (amount .0) (r .0) ⌝ }
 {
-    let sort = area.cap;
+    let sort = area.trip_cap;
     capped(amount, trip_cap(sort, minutes, level))
 }
 

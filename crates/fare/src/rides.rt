@@ -11,8 +11,10 @@ use units::Metres;
 use units::Minutes;
 ghost use mathlib.Core.Path.{_≡_};
 ghost use Prim.Native.Nat.{_+_, _≤_, _<_};
+ghost use Rattle.tariff.specs.Rules.{mostMetres};
 ghost use Rattle.fare.specs.Distance.{square, gap, apart, LeastKm};
-ghost use Rattle.fare.specs.Rides.{Riding, InOrder, StopOf, AreaOfStops, RideOf};
+ghost use Rattle.fare.specs.Rides.{AreaOfStops};
+ghost use Rattle.fare.specs.Contracts.{Riding, InOrder, OnPlane, StopOf, RideOf};
 
 fn gap_between(a: Metres, b: Metres) -> u64
     ensures { λ r. ⌜ r ≡ gap (a .0) (b .0) ⌝ }
@@ -27,7 +29,7 @@ fn gap_between(a: Metres, b: Metres) -> u64
 // The least k with longer² + shorter² ≤ (1,000 k)². The search starts near: k is not below the longer way alone, and the longer way with
 // half the shorter is far enough. What is left between too short and far enough is halved until they meet.
 fn least_km(longer: u64, shorter: u64) -> u32
-    requires { ⌜ (shorter ≤ longer) × (longer ≤ 1000000) ⌝ }
+    requires { ⌜ (shorter ≤ longer) × (longer ≤ mostMetres) ⌝ }
     ensures { λ r. ⌜ LeastKm (square longer + square shorter) r ⌝ }
 {
     let d = longer * longer + shorter * shorter;
@@ -47,7 +49,7 @@ fn least_km(longer: u64, shorter: u64) -> u32
 
 // Started kilometres between two stops.
 pub fn kilometres(a: Stop, b: Stop) -> Km
-    requires { ⌜ ((a .x .0 ≤ 1000000) × (a .y .0 ≤ 1000000)) × ((b .x .0 ≤ 1000000) × (b .y .0 ≤ 1000000)) ⌝ }
+    requires { ⌜ OnPlane a × OnPlane b ⌝ }
     ensures { λ r. ⌜ LeastKm (apart a b) (r .0) ⌝ }
 {
     let east = gap_between(a.x, b.x);

@@ -10,6 +10,7 @@ use mathlib.Core.List.{List, [], _∷_, append-nil}
 use lib.ListN.{length, getD}
 use Rattle.calendar.specs.Stamps.{lastMinute}
 use Rattle.tariff.specs.declared.Counts.{Counts}
+use Rattle.tariff.specs.Layout.{longestTariff}
 use Rattle.tariff.specs.Scan.{FaultSays}
 use Rattle.tariff.specs.Scan as scan
 use Rattle.tariff.specs.Areas.{Read}
@@ -22,7 +23,8 @@ use Rattle.trip.specs.Trips.{readTrip}
 use Rattle.trip.proofs.Ranges.{party-ranges}
 use Rattle.trip.proofs.Good as offered
 use Rattle.fare.specs.declared.Ride.{Ride}
-use Rattle.fare.specs.Rides.{Riding, rideOf}
+use Rattle.fare.specs.Rides.{rideOf}
+use Rattle.fare.specs.Contracts.{Riding}
 use Rattle.fare.proofs.Distance.{km-holds, km-least, km-range}
 use Rattle.fare.proofs.Stops.{stop-there, area-of-stops}
 use Rattle.book.specs.Windows.{windowOf, inWindow}
@@ -275,10 +277,10 @@ module _ (tariff book bytes : List ℕ) (room : ℕ) where
 
   -- A refusal's number is 1 to 12; its place is at most 13,928, the length of the longest tariff, and 0 for 4 to 12.
   pub refused-number :
-      {n place : ℕ} → settled tariff book bytes room ≡ refused n place → (1 ≤ n) × (n ≤ 12) × (place ≤ 13928) × (4 ≤ n → place ≡ 0)
+      {n place : ℕ} → settled tariff book bytes room ≡ refused n place → (1 ≤ n) × (n ≤ 12) × (place ≤ longestTariff) × (4 ≤ n → place ≡ 0)
   refused-number {n} {place} e = met (refused-is e)
     where
-      met : RefusedBy tariff book bytes room n place → (1 ≤ n) × (n ≤ 12) × (place ≤ 13928) × (4 ≤ n → place ≡ 0)
+      met : RefusedBy tariff book bytes room n place → (1 ≤ n) × (n ≤ 12) × (place ≤ longestTariff) × (4 ≤ n → place ≡ 0)
       met (by-others counts read none low high holds before) = (omega arith, high, omega arith, λ _. none)
       met (by-tariff soFar found says) =
           let number = fault-number tariff n place soFar found in

@@ -16,7 +16,8 @@ use Rattle.trip.specs.Trips.{readTrip}
 use Rattle.trip.proofs.Good.{good, good-times}
 use Rattle.trip.proofs.Ranges.{party-ranges}
 use Rattle.fare.specs.Distance.{square, apart}
-use Rattle.fare.specs.Rides.{Riding, rideOf}
+use Rattle.fare.specs.Rides.{rideOf}
+use Rattle.fare.specs.Contracts.{Riding}
 use Rattle.fare.proofs.Distance.{across, km-range}
 use Rattle.fare.proofs.Stops.{stop-there, area-of-stops}
 use Rattle.book.specs.Sound.{sound}

@@ -22,7 +22,7 @@ use Rattle.tariff.specs.Rules.{levelOf, capsRight, placeRight}
 use Rattle.tariff.specs.Scan.{areaEntry, entryAt, readFrom, readTariff}
 use Rattle.tariff.specs.Levels.{levelCap}
 use Rattle.tariff.specs.Areas.{tripCapOf, dayCapOf, areaOf, areaAt, Read, parentOf}
-use Rattle.tariff.proofs.Tests.{told, both-left, both-right}
+use Rattle.wire.proofs.Tests.{told, both-left, both-right}
 use Rattle.tariff.proofs.Faultless.{faultless}
 use Rattle.tariff.proofs.Within.{parent-there}
 use Rattle.trip.specs.Record.{shapeAt, partyAt, partyRight, stopNumber}

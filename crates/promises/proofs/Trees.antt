@@ -40,7 +40,7 @@ step4-mono area false le = le
 -- An area's second-class cap is no larger than its all-classes one, for adults and for children.
 pub caps-in-order : (area : Area) (child : Bool) → CapOrder (secondCap area child) (allCap area child)
 unfolding secondCap allCap
-caps-in-order area child = go (area .daily)
+caps-in-order area child = go (area .«day_cap»)
   where
     go :
         (daily : Cap)

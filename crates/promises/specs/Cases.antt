@@ -29,8 +29,8 @@ sampleArea level parent base rate validity sort k a b c d daycap flat =
     record {
       level = level;
       parent = parent;
-      base = base;
-      rate = rate;
+      «base_price» = base;
+      «price_per_km» = rate;
       validity = validity;
       surcharge = 50;
       reduction = 50;
@@ -40,18 +40,18 @@ sampleArea level parent base rate validity sort k a b c d daycap flat =
       cap3 = b;
       cap4 = c;
       cap5 = d;
-      daycap = daycap;
-      flat = flat;
+      «day_cap» = daycap;
+      «bicycle_flat» = flat;
     }
 
 -- an area record, kind 1: a head of 4 bytes and a body of 25
 unfoldable pub areaBytes : AreaFields → List ℕ
 areaBytes f =
     bytesOf 2 27 ++ (bytesOf 2 1
-    ++ (bytesOf 1 (f .level) ++ (bytesOf 1 (f .parent) ++ (bytesOf 2 (f .base) ++ (bytesOf 2 (f .rate) ++ (bytesOf 2 (f .validity)
+    ++ (bytesOf 1 (f .level) ++ (bytesOf 1 (f .parent) ++ (bytesOf 2 (f .«base_price») ++ (bytesOf 2 (f .«price_per_km») ++ (bytesOf 2 (f .validity)
     ++ (bytesOf 1 (f .surcharge) ++ (bytesOf 1 (f .reduction) ++ (bytesOf 1 (f .sort)
     ++ (bytesOf 2 (f .cap1) ++ (bytesOf 2 (f .cap2) ++ (bytesOf 2 (f .cap3) ++ (bytesOf 2 (f .cap4) ++ (bytesOf 2 (f .cap5)
-    ++ (bytesOf 2 (f .daycap) ++ bytesOf 2 (f .flat))))))))))))))))
+    ++ (bytesOf 2 (f .«day_cap») ++ bytesOf 2 (f .«bicycle_flat»))))))))))))))))
 
 -- area records one after another
 unfoldable pub areasBytes : List AreaFields → List ℕ

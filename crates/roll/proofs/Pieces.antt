@@ -8,14 +8,14 @@ use mathlib.Core.Logic.{_⊎_, inl, inr}
 use mathlib.Core.Bool.{Bool, true, false, not, _&&_, _||_, and-false, or-true, false≢true}
 use mathlib.Core.List.{List, [], _∷_, _++_, append-nil, append-assoc}
 use borrow.Author.Tests.{lt-ltb, le-ltb, le-leb, lt-leb, ltb-false}
-use lib.ListN.{length, drop, length-append, List·getD-append}
+use lib.ListN.{length, drop, length-append}
 use lib.Seq.{take-append-le, drop-append-le}
 use lib.Dec.{leb, ltb}
 use Rattle.wire.specs.Number.{getLe}
 use Rattle.wire.specs.Frame.{frameAt}
 use Rattle.wire.specs.declared.Frame.{Frame}
 use Rattle.wire.specs.declared.Frame.the-variants as frame
-use Rattle.wire.proofs.Number.{get-same}
+use Rattle.wire.proofs.Number.{get-front}
 use Rattle.wire.proofs.Frames.{tested, broken-back, whole, whole-back}
 use Rattle.roll.specs.declared.Line.{Line}
 use Rattle.roll.specs.declared.Line.the-variants.{Refused}
@@ -23,10 +23,6 @@ use Rattle.roll.specs.declared.Step.{Step}
 use Rattle.roll.specs.declared.Step.the-variants.{End, More, Record, Broken}
 use Rattle.roll.specs.Lines.{unfinished, outcomeAt, stepOf, bookStep, linesOf, joined, isMore, Come, fetched, fedLines}
 use Rattle.roll.proofs.Starts.{few-unfinished, length-decides, more-way, broken-way, whole-way, record-within}
-
--- a number that stands wholly within the first of two byte strings is read from that one alone
-get-front : (k : ℕ) (xs ys : List ℕ) (p : ℕ) → p + k ≤ length xs → getLe k (xs ++ ys) p ≡ getLe k xs p
-get-front k xs ys p fits = get-same k (xs ++ ys) xs p (λ i from to. List·getD-append xs ys 0 i (omega arith))
 
 -- ---- Where a piece tells what stands at its start: its length is out of range, or its record ends within it.
 

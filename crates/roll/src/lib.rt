@@ -22,9 +22,6 @@ ghost use Rattle.roll.specs.Contracts.{Fresh, LineIn, SettledLine, Stepp
 // At most so many records of a roll are settled.
 pub const MOST_RECORDS: u32 = 65_535;
 
-// No tariff is decided by more than its first so many bytes: 32 areas, 1,000 stops, and the longest frame of a record too many.
-pub const TARIFF_BYTES: usize = 14_954;
-
 // What a line says of a record: the numbers of its charge record, or the refusal.
 pub enum Line {
     Charged {

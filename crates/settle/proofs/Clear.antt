@@ -14,7 +14,8 @@ use Rattle.trip.specs.declared.Party.{Party}
 use Rattle.trip.proofs.Good.{GoodTrip, Times, good, good-times}
 use Rattle.trip.proofs.Ranges.{PartyRanges, party-ranges}
 use Rattle.fare.specs.declared.Ride.{Ride}
-use Rattle.fare.specs.Rides.{Riding, InOrder, RideOf, rideOf}
+use Rattle.fare.specs.Rides.{rideOf}
+use Rattle.fare.specs.Contracts.{Riding, InOrder, RideOf}
 use Rattle.book.specs.declared.Window.{Window}
 use Rattle.book.specs.Windows.{inWindow}
 use Rattle.book.specs.Charging.{Rideable, Charged, chargesOf}

@@ -6,9 +6,9 @@
 // run.rt      the roll, record by record
 use input::load_tariff;
 use output::print_fault;
-use roll::TARIFF_BYTES;
 use run::settle_roll;
 use tariff::Reading;
+use tariff::fields::DECIDING_BYTES;
 use tariff::scan::read_tariff;
 
 mod input;
@@ -24,7 +24,7 @@ fn settle_under(tariff: &[u8]) {
 }
 
 fn main() {
-    let mut tariff = [0u8; TARIFF_BYTES];
+    let mut tariff = [0u8; DECIDING_BYTES];
     let got = load_tariff(&mut tariff);
     if got.failed {
         return;

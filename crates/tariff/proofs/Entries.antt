@@ -14,6 +14,7 @@ use Rattle.wire.specs.declared.Frame.{Frame}
 use Rattle.wire.specs.declared.Frame.the-variants.{Whole, Broken}
 use Rattle.wire.proofs.Frames.{whole}
 use Rattle.tariff.specs.declared.Counts.{Counts}
+use Rattle.tariff.specs.Layout.{areaBody, areaSize, stopBody, stopSize, mostAreas, mostStops}
 use Rattle.tariff.specs.Fields.{areaFields, stopFields}
 use Rattle.tariff.specs.Rules.{areaRight, stopRight}
 use Rattle.tariff.specs.Scan.{
@@ -33,40 +34,40 @@ use Rattle.tariff.specs.Scan.{
 }
 use Rattle.tariff.specs.declared.scan.Entry.{Entry}
 use Rattle.tariff.specs.declared.scan.Entry.the-variants.{End, Area, Stop, Faulty}
-use Rattle.tariff.proofs.Tests.{told}
+use Rattle.wire.proofs.Tests.{told}
 
 -- A faultless area record: its kind and body length, its order and number, its values, and that it ends within the bytes.
 pub record AreaEntry (b : List ℕ) (at : ℕ) (soFar : Counts) : Type 0 where
-  pub frame : frameAt b at ≡ Whole 1 25
+  pub frame : frameAt b at ≡ Whole 1 areaBody
   pub none : soFar .stops ≡ 0
-  pub few : soFar .areas < 32
+  pub few : soFar .areas < mostAreas
   pub right : areaRight b soFar (areaFields b at) ≡ true
-  pub fits : at + 29 ≤ length b
+  pub fits : at + areaSize ≤ length b
 
 -- A faultless stop record, likewise.
 pub record StopEntry (b : List ℕ) (at : ℕ) (soFar : Counts) : Type 0 where
-  pub frame : frameAt b at ≡ Whole 2 9
+  pub frame : frameAt b at ≡ Whole 2 stopBody
   pub some : 0 < soFar .areas
-  pub few : soFar .stops < 1000
+  pub few : soFar .stops < mostStops
   pub right : stopRight (stopFields b at) (soFar .areas) ≡ true
-  pub fits : at + 13 ≤ length b
+  pub fits : at + stopSize ≤ length b
 
 -- The tests of an area record's body length, order and number, and of a stop record's.
 abbrev pub areaDue : ℕ → Counts → Bool
-areaDue body soFar = eqb body 25 && eqb (soFar .stops) 0 && ltb (soFar .areas) 32
+areaDue body soFar = eqb body areaBody && eqb (soFar .stops) 0 && ltb (soFar .areas) mostAreas
 
 abbrev pub stopDue : ℕ → Counts → Bool
-stopDue body soFar = eqb body 9 && ltb 0 (soFar .areas) && ltb (soFar .stops) 1000
+stopDue body soFar = eqb body stopBody && ltb 0 (soFar .areas) && ltb (soFar .stops) mostStops
 
 -- a test that cannot hold fails
 refused : (t : Bool) → (t ≡ true → ⊥) → t ≡ false
 refused true never = absurd (never refl)
 refused false never = refl
 
-pub area-tests : (body : ℕ) (soFar : Counts) → areaDue body soFar ≡ true → (body ≡ 25) × (soFar .stops ≡ 0) × (soFar .areas < 32)
+pub area-tests : (body : ℕ) (soFar : Counts) → areaDue body soFar ≡ true → (body ≡ areaBody) × (soFar .stops ≡ 0) × (soFar .areas < mostAreas)
 area-tests body soFar e = search told
 
-pub stop-tests : (body : ℕ) (soFar : Counts) → stopDue body soFar ≡ true → (body ≡ 9) × (0 < soFar .areas) × (soFar .stops < 1000)
+pub stop-tests : (body : ℕ) (soFar : Counts) → stopDue body soFar ≡ true → (body ≡ stopBody) × (0 < soFar .areas) × (soFar .stops < mostStops)
 stop-tests body soFar e = search told
 
 -- Each way through `areaEntry` and `stopEntry`.
@@ -131,12 +132,12 @@ module _ (b : List ℕ) (at : ℕ) (soFar : Counts) where
       let facts = area-tests body soFar due in
       record { frame = rw (facts .0) at frame; none = facts .1; few = facts .2 }
 
-  area-holds : AreaInPlace b at soFar → areaDue 25 soFar ≡ true
-  area-holds here = rw (eq-eqb (soFar .stops) 0 (here .none), lt-ltb (soFar .areas) 32 (here .few))
+  area-holds : AreaInPlace b at soFar → areaDue areaBody soFar ≡ true
+  area-holds here = rw (eq-eqb (soFar .stops) 0 (here .none), lt-ltb (soFar .areas) mostAreas (here .few))
 
   area-out : (body : ℕ) → frameAt b at ≡ Whole 1 body → areaDue body soFar ≡ false → AreaInPlace b at soFar → ⊥
   area-out body frame not-due here =
-      let long : body ≡ 25 = cc in
+      let long : body ≡ areaBody = cc in
       false≢true (sym not-due ∙ rw long (area-holds here))
 
   stop-in : (body : ℕ) → frameAt b at ≡ Whole 2 body → stopDue body soFar ≡ true → StopInPlace b at soFar
@@ -144,12 +145,12 @@ module _ (b : List ℕ) (at : ℕ) (soFar : Counts) where
       let facts = stop-tests body soFar due in
       record { frame = rw (facts .0) at frame; some = facts .1; few = facts .2 }
 
-  pub stop-holds : StopInPlace b at soFar → stopDue 9 soFar ≡ true
-  stop-holds here = rw (lt-ltb 0 (soFar .areas) (here .some), lt-ltb (soFar .stops) 1000 (here .few))
+  pub stop-holds : StopInPlace b at soFar → stopDue stopBody soFar ≡ true
+  stop-holds here = rw (lt-ltb 0 (soFar .areas) (here .some), lt-ltb (soFar .stops) mostStops (here .few))
 
   stop-out : (body : ℕ) → frameAt b at ≡ Whole 2 body → stopDue body soFar ≡ false → StopInPlace b at soFar → ⊥
   stop-out body frame not-due here =
-      let long : body ≡ 9 = cc in
+      let long : body ≡ stopBody = cc in
       false≢true (sym not-due ∙ rw long (stop-holds here))
 
 -- a record of another kind is not in place
@@ -181,7 +182,7 @@ module _ (b : List ℕ) (at : ℕ) (soFar : Counts) where
       answered (Stands b at soFar) (areaDue body soFar) (areaRight b soFar (areaFields b at)) Area
       (λ due right.
       let here = area-in b at soFar body frame due in
-      let facts = whole b at 1 25 (here .frame) in
+      let facts = whole b at 1 areaBody (here .frame) in
       area (record { frame = here .frame; none = here .none; few = here .few; right = right; fits = omega arith }))
       (λ due false-value. fault (three refl (area-value (area-in b at soFar body frame due) false-value)))
       (λ not-due.
@@ -193,7 +194,7 @@ module _ (b : List ℕ) (at : ℕ) (soFar : Counts) where
       answered (Stands b at soFar) (stopDue body soFar) (stopRight (stopFields b at) (soFar .areas)) Stop
       (λ due right.
       let here = stop-in b at soFar body frame due in
-      let facts = whole b at 2 9 (here .frame) in
+      let facts = whole b at 2 stopBody (here .frame) in
       stop (record { frame = here .frame; some = here .some; few = here .few; right = right; fits = omega arith }))
       (λ due false-value. fault (three refl (stop-value (stop-in b at soFar body frame due) false-value)))
       (λ not-due.
@@ -276,6 +277,6 @@ module _ (b : List ℕ) (at : ℕ) (soFar : Counts) where
             ]
       ])
   fault-given (three e (area-value here value)) =
-      rw e (area-frame b at soFar 25 (here .frame) ∙ area-due b at soFar 25 (area-holds b at soFar here) value)
+      rw e (area-frame b at soFar areaBody (here .frame) ∙ area-due b at soFar areaBody (area-holds b at soFar here) value)
   fault-given (three e (stop-value here value)) =
-      rw e (stop-frame b at soFar 9 (here .frame) ∙ stop-due b at soFar 9 (stop-holds b at soFar here) value)
+      rw e (stop-frame b at soFar stopBody (here .frame) ∙ stop-due b at soFar stopBody (stop-holds b at soFar here) value)

@@ -7,9 +7,11 @@ use mathlib.Core.Bool.{true}
 use mathlib.Core.List.{List}
 use lib.ListN.{length}
 use Rattle.tariff.specs.declared.Counts.{Counts}
-use Rattle.tariff.specs.Fields.{areaFields, areaPlace, stopPlace, areasBefore, stopsBefore}
+use Rattle.tariff.specs.Layout.{areaSize, stopSize, areaPlace, stopPlace, areasBefore, stopsBefore}
+use Rattle.tariff.specs.Fields.{areaFields}
 use Rattle.tariff.specs.Rules.{areaRight}
 use Rattle.tariff.specs.Areas.{areaAt, Read, FaultlessTariff}
+use Rattle.tariff.specs.Contracts.{AreaThere}
 use Rattle.tariff.proofs.Entries.{StopEntry, area-entry, stop-entry}
 use Rattle.tariff.proofs.Passed.{finished, few-stops}
 use Rattle.tariff.proofs.Values.{area-ranges, area-rank, stop-ranges}
@@ -39,8 +41,8 @@ pub read-one : (b : List ℕ) (c c′ : Counts) → Read b c → Read b c′ →
 read-one b c c′ e e′ = cc
 
 -- An area's record and a stop's stand within the tariff.
-pub area-inside : (b : List ℕ) (counts : Counts) (i : ℕ) → Read b counts × (i < counts .areas) → areaPlace counts i + 29 ≤ length b
-area-inside b counts i h = let t = faultless b counts (h .0) in omega arith
+pub area-there : (b : List ℕ) (counts : Counts) (i : ℕ) → Read b counts × (i < counts .areas) → AreaThere b counts i
+area-there b counts i h = let t = faultless b counts (h .0) in record { few = omega arith; inside = omega arith }
 
-pub stop-inside : (b : List ℕ) (counts : Counts) (j : ℕ) → Read b counts × (j < counts .stops) → stopPlace counts j + 13 ≤ length b
+pub stop-inside : (b : List ℕ) (counts : Counts) (j : ℕ) → Read b counts × (j < counts .stops) → stopPlace counts j + stopSize ≤ length b
 stop-inside b counts j h = let t = faultless b counts (h .0) in omega arith

@@ -8,6 +8,7 @@ use mathlib.Core.Logic.{_↔_, _⊎_, inl, inr, ⊎-elim}
 use mathlib.Core.List.{List}
 use Rattle.tariff.specs.declared.Counts.{Counts}
 use Rattle.tariff.specs.declared.Reading.the-variants.{Fault}
+use Rattle.tariff.specs.Layout.{longestTariff}
 use Rattle.tariff.specs.Scan.{
   readTariff,
   Passed,
@@ -59,7 +60,7 @@ module _ (b : List ℕ) (number at : ℕ) (soFar : Counts) (first : FirstFault b
   fault-three is = elim fault-says [ one e w ↦ absurd (omega arith) | two e w ↦ absurd (omega arith) | three e w ↦ w ]
 
 -- A tariff's fault is 1, 2 or 3, at a place no later than the longest tariff's end.
-pub fault-most : (b : List ℕ) (number at : ℕ) → readTariff b ≡ Fault number at → (number ≤ 3) × (at ≤ 13928)
+pub fault-most : (b : List ℕ) (number at : ℕ) → readTariff b ≡ Fault number at → (number ≤ 3) × (at ≤ longestTariff)
 fault-most b number at e =
     let (soFar, first) = first-fault b number at e in (
       ⊎-elim (λ one. omega arith) (λ rest. ⊎-elim (λ two. omega arith) (λ three. omega arith) rest)

@@ -1,5 +1,4 @@
 pub mod Entries
-pub mod Tests
 pub mod Values
 pub mod Turns
 pub mod Faultless

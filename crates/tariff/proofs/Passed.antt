@@ -13,7 +13,7 @@ use Rattle.tariff.specs.declared.Reading.{Reading}
 use Rattle.tariff.specs.declared.Reading.the-variants.{Fault, Faultless}
 use Rattle.tariff.specs.declared.scan.Entry.{Entry}
 use Rattle.tariff.specs.declared.scan.Entry.the-variants.{End, Area, Stop, Faulty}
-use Rattle.tariff.specs.Fields.{areaPlace, stopPlace, areasBefore, stopsBefore, moreAreas, moreStops}
+use Rattle.tariff.specs.Layout.{areaSize, stopSize, mostStops, longestTariff, areaPlace, stopPlace, areasBefore, stopsBefore, moreAreas, moreStops}
 use Rattle.tariff.specs.Scan.{entryAt, readFrom, readTariff, Passed, FirstFault}
 use Rattle.tariff.proofs.Turns.{turn-end, turn-fault, turn-area, turn-stop}
 use Rattle.tariff.proofs.Entries.{area-entry, stop-entry, end-entry}
@@ -27,7 +27,7 @@ passed-none b =
     }
 
 module _ (b : List ℕ) (at : ℕ) (soFar : Counts) (p : Passed b at soFar) where
-  pub passed-area : entryAt b at soFar ≡ Area → Passed b (at + 29) (moreAreas soFar 1)
+  pub passed-area : entryAt b at soFar ≡ Area → Passed b (at + areaSize) (moreAreas soFar 1)
   passed-area e =
       let facts = area-entry b at soFar e in
       let here : at ≡ areaPlace soFar (soFar .areas) = omega arith in
@@ -37,7 +37,7 @@ module _ (b : List ℕ) (at : ℕ) (soFar : Counts) (p : Passed b at soFar) wher
         stop = λ j h. absurd (omega arith);
       }
 
-  pub passed-stop : entryAt b at soFar ≡ Stop → Passed b (at + 13) (moreStops soFar 1)
+  pub passed-stop : entryAt b at soFar ≡ Stop → Passed b (at + stopSize) (moreStops soFar 1)
   passed-stop e =
       let facts = stop-entry b at soFar e in
       record {
@@ -53,10 +53,10 @@ most (suc n) bound each = each n (omega arith)
 
 -- At most 1,000 stops go before a place, so it lies at 13,928 or before: where 32 areas and 1,000 stops end.
 module _ (b : List ℕ) (at : ℕ) (soFar : Counts) (p : Passed b at soFar) where
-  pub few-stops : soFar .stops ≤ 1000
-  few-stops = most (soFar .stops) 1000 (λ j h. stop-entry b (stopPlace soFar j) (stopsBefore soFar j) (p .stop j h) .few)
+  pub few-stops : soFar .stops ≤ mostStops
+  few-stops = most (soFar .stops) mostStops (λ j h. stop-entry b (stopPlace soFar j) (stopsBefore soFar j) (p .stop j h) .few)
 
-  pub early : at ≤ 13928
+  pub early : at ≤ longestTariff
   early = omega (arith, p .reached .place, p .reached .few, few-stops)
 
 -- The reading of the tariff comes to a place, with so many turns left and one more.
@@ -86,9 +86,9 @@ module _ (b : List ℕ) where
       let at = areaPlace counts areas in
       let is = all areas (omega arith) in
       let facts = area-entry b at (areasBefore areas) is in
-      let next : at + 29 ≡ areaPlace counts (suc areas) = omega arith in
+      let next : at + areaSize ≡ areaPlace counts (suc areas) = omega arith in
       rw (next, add-one areas)
-      at (past b at (areasBefore areas) (at + 29) (areasBefore (areas + 1)) (omega arith) (facts .fits)
+      at (past b at (areasBefore areas) (at + areaSize) (areasBefore (areas + 1)) (omega arith) (facts .fits)
       (λ turns. turn-area turns b at (areasBefore areas) is) (after-areas counts areas (λ i h. all i (omega arith))))
 
   after-stops :
@@ -100,9 +100,9 @@ module _ (b : List ℕ) where
       let soFar = stopsBefore counts stops in
       let is = all stops (omega arith) in
       let facts = stop-entry b at soFar is in
-      let next : at + 13 ≡ stopPlace counts (suc stops) = omega arith in
+      let next : at + stopSize ≡ stopPlace counts (suc stops) = omega arith in
       rw (next, add-one stops)
-      at (past b at soFar (at + 13) (stopsBefore counts (stops + 1)) (omega arith) (facts .fits) (λ turns. turn-stop turns b at soFar is)
+      at (past b at soFar (at + stopSize) (stopsBefore counts (stops + 1)) (omega arith) (facts .fits) (λ turns. turn-stop turns b at soFar is)
       (after-stops counts stops (λ j h. all j (omega arith)) c))
 
 comes : (b : List ℕ) (at : ℕ) (soFar : Counts) → Passed b at soFar → Comes b at soFar
@@ -141,11 +141,11 @@ reads (suc turns) b at soFar p enough = go (reads turns b) (entryAt b at soFar) 
     go on Area is =
         let facts = area-entry b at soFar is in
         rw (turn-area turns b at soFar is)
-        (on (at + 29) (moreAreas soFar 1) (passed-area b at soFar p is) (omega arith))
+        (on (at + areaSize) (moreAreas soFar 1) (passed-area b at soFar p is) (omega arith))
     go on Stop is =
         let facts = stop-entry b at soFar is in
         rw (turn-stop turns b at soFar is)
-        (on (at + 13) (moreStops soFar 1) (passed-stop b at soFar p is) (omega arith))
+        (on (at + stopSize) (moreStops soFar 1) (passed-stop b at soFar p is) (omega arith))
     go on (Faulty number) is =
         rw (turn-fault turns b at soFar number is) (fault soFar (record { passed = p; faulty = is }))
 

@@ -1,61 +1,35 @@
 -- The first 14,954 bytes of a tariff decide what reading it comes to: 32 areas, 1,000 stops, and the frame of one record too many.
 -- Assumes nothing.
-use Prim.Native.Nat.{ℕ, _+_, _-_, _≤_}
+use Prim.Native.Nat.{ℕ, _+_, _*_, _≤_}
 use native.Mathlib.Omega.{arith}
 use native.Mathlib.Decide.{ℕ-discrete, decLt}
 use mathlib.Core.Path.{_≡_, refl, sym, ap, _∙_}
-use mathlib.Core.Bool.{_||_, or-true, or-false}
 use mathlib.Core.List.{List}
-use borrow.Author.Tests.{lt-ltb, le-ltb}
+use borrow.Author.Tests.{le-ltb}
 use lib.ListN.{length, take}
 use lib.Seq.{take-all, length-take-le}
-use lib.Dec.{ltb}
-use Rattle.wire.specs.Number.{getLe}
-use Rattle.wire.specs.Frame.{broken, frameAt}
+use Rattle.wire.specs.Frame.{longestRecord, frameAt}
 use Rattle.wire.specs.declared.Frame.{Frame}
 use Rattle.wire.specs.declared.Frame.the-variants.{Whole, Broken}
 use Rattle.wire.proofs.Number.{get-take}
-use Rattle.wire.proofs.Frames.{tested}
+use Rattle.wire.proofs.Frames.{frame-take}
 use Rattle.tariff.specs.declared.Counts.{Counts}
 use Rattle.tariff.specs.declared.fields.AreaFields.{AreaFields}
 use Rattle.tariff.specs.declared.Reading.{Reading}
-use Rattle.tariff.specs.Fields.{areaFields, stopFields, areaPlace, stopPlace, areasBefore, stopsBefore}
+use Rattle.tariff.specs.Layout.{areaSize, stopSize, mostAreas, decidingBytes, areaPlace, stopPlace, areasBefore, stopsBefore}
+use Rattle.tariff.specs.Fields.{areaFields, stopFields}
 use Rattle.tariff.specs.Rules.{placeRight, levelOf, flatOf}
 use Rattle.tariff.specs.Scan.{areaEntry, stopEntry, entryAt, readTariff, Passed}
 use Rattle.tariff.proofs.Entries.{broken-frame, area-frame, stop-frame, other-frame, end-entry}
 use Rattle.tariff.proofs.Passed.{Ends, fault, finish, ends, at-fault, few-stops, early}
 
--- where 1,026 bytes follow, a frame is broken by its length alone
-by-length : (b : List ℕ) (at : ℕ) → at + 1026 ≤ length b → broken b at ≡ ltb (getLe 2 b at) 2 || ltb 1024 (getLe 2 b at)
-by-length b at fits = tested b at (getLe 2 b at) refl (omega arith) ∙ go
-  where
-    long : ℕ
-    long = getLe 2 b at
-
-    go : (ltb long 2 || ltb 1024 long) || ltb (length b - at) (2 + long) ≡ ltb long 2 || ltb 1024 long
-    go =
-        elim (decLt 1024 long) [
-          | yes large ↦ rw (lt-ltb 1024 long large, or-true)
-          | no most ↦ rw (le-ltb (length b - at) (2 + long) (omega arith), or-false)
-        ]
-
--- ---- What stands at a place is decided by 1,026 bytes from there on, and by the areas before it.
+-- ---- What stands at a place is decided by the longest record's bytes from there on, and by the areas before it.
 
 module _ (n : ℕ) (b : List ℕ) (there : n ≤ length b) where
   first-length : length (take n b) ≡ n
   first-length = length-take-le n b there
 
-  first-frame : (at : ℕ) → at + 1026 ≤ n → frameAt (take n b) at ≡ frameAt b at
-  unfolding frameAt
-  first-frame at fits =
-      rw (
-        by-length (take n b) at (omega (arith, first-length)),
-        by-length b at (omega arith),
-        get-take 2 n b at (omega arith),
-        get-take 2 n b (at + 2) (omega arith),
-      )
-
-  first-area : (at : ℕ) → at + 29 ≤ n → areaFields (take n b) at ≡ areaFields b at
+  first-area : (at : ℕ) → at + areaSize ≤ n → areaFields (take n b) at ≡ areaFields b at
   unfolding areaFields
   first-area at fits =
       rw (
@@ -76,7 +50,7 @@ module _ (n : ℕ) (b : List ℕ) (there : n ≤ length b) where
         get-take 2 n b (at + 27) (omega arith),
       )
 
-  first-stop : (at : ℕ) → at + 13 ≤ n → stopFields (take n b) at ≡ stopFields b at
+  first-stop : (at : ℕ) → at + stopSize ≤ n → stopFields (take n b) at ≡ stopFields b at
   unfolding stopFields
   first-stop at fits =
       rw (
@@ -86,19 +60,19 @@ module _ (n : ℕ) (b : List ℕ) (there : n ≤ length b) where
       )
 
   -- the parent is looked at only where it is an earlier area
-  first-place : (soFar : Counts) (f : AreaFields) → soFar .areas ≤ 32 → 928 ≤ n → placeRight (take n b) soFar f ≡ placeRight b soFar f
+  first-place : (soFar : Counts) (f : AreaFields) → soFar .areas ≤ mostAreas → areaSize * mostAreas ≤ n → placeRight (take n b) soFar f ≡ placeRight b soFar f
   unfolding placeRight
   first-place soFar f few wide =
       elim (decLt (f .parent) (soFar .areas)) [
         | yes earlier ↦
             let parent = first-area (areaPlace soFar (f .parent)) (omega arith) in
             let level : levelOf (take n b) soFar (f .parent) ≡ levelOf b soFar (f .parent) = ap (λ (g : AreaFields). g .level) parent in
-            let flat : flatOf (take n b) soFar (f .parent) ≡ flatOf b soFar (f .parent) = ap (λ (g : AreaFields). g .flat) parent in
+            let flat : flatOf (take n b) soFar (f .parent) ≡ flatOf b soFar (f .parent) = ap (λ (g : AreaFields). g .«bicycle_flat») parent in
             rw (level, flat)
         | no later ↦ rw (le-ltb (f .parent) (soFar .areas) (omega arith))
       ]
 
-  module _ (at : ℕ) (soFar : Counts) (fits : at + 1026 ≤ n) (few : soFar .areas ≤ 32) (wide : 928 ≤ n) where
+  module _ (at : ℕ) (soFar : Counts) (fits : at + longestRecord ≤ n) (few : soFar .areas ≤ mostAreas) (wide : areaSize * mostAreas ≤ n) where
     first-area-entry : (body : ℕ) → areaEntry (take n b) at soFar body ≡ areaEntry b at soFar body
     unfolding areaEntry
     first-area-entry body = rw (first-area at (omega arith), first-place soFar (areaFields b at) few wide)
@@ -112,29 +86,29 @@ module _ (n : ℕ) (b : List ℕ) (there : n ≤ length b) where
       where
         go : (f : Frame) → frameAt b at ≡ f → entryAt (take n b) at soFar ≡ entryAt b at soFar
         go Broken e =
-            broken-frame (take n b) at soFar (omega (arith, first-length)) (first-frame at fits ∙ e)
+            broken-frame (take n b) at soFar (omega (arith, first-length)) (frame-take n b at there fits ∙ e)
             ∙ sym (broken-frame b at soFar (omega arith) e)
         go (Whole kind body) e =
             elim (ℕ-discrete kind 1) [
               | yes is-one ↦
                   let e′ : frameAt b at ≡ Whole 1 body = cc in
-                  area-frame (take n b) at soFar body (first-frame at fits ∙ e′) ∙ first-area-entry body
+                  area-frame (take n b) at soFar body (frame-take n b at there fits ∙ e′) ∙ first-area-entry body
                   ∙ sym (area-frame b at soFar body e′)
               | no not-one ↦
                   elim (ℕ-discrete kind 2) [
                     | yes is-two ↦
                         let e′ : frameAt b at ≡ Whole 2 body = cc in
-                        stop-frame (take n b) at soFar body (first-frame at fits ∙ e′) ∙ first-stop-entry body
+                        stop-frame (take n b) at soFar body (frame-take n b at there fits ∙ e′) ∙ first-stop-entry body
                         ∙ sym (stop-frame b at soFar body e′)
                     | no not-two ↦
-                        other-frame (take n b) at soFar kind body (first-frame at fits ∙ e) not-one not-two
+                        other-frame (take n b) at soFar kind body (frame-take n b at there fits ∙ e) not-one not-two
                         ∙ sym (other-frame b at soFar kind body e not-one not-two)
                   ]
             ]
 
 -- ---- The places that faultless records reach lie early enough.
 
-module _ (n : ℕ) (b : List ℕ) (there : n ≤ length b) (wide : 14954 ≤ n) (at : ℕ) (soFar : Counts) (p : Passed b at soFar) where
+module _ (n : ℕ) (b : List ℕ) (there : n ≤ length b) (wide : decidingBytes ≤ n) (at : ℕ) (soFar : Counts) (p : Passed b at soFar) where
   first-passed : Passed (take n b) at soFar
   first-passed =
       let few = p .reached .few in
@@ -146,7 +120,7 @@ module _ (n : ℕ) (b : List ℕ) (there : n ≤ length b) (wide : 14954 ≤ n) 
       }
 
 -- So many bytes decide, and any more.
-pub enough-bytes-decide : (n : ℕ) (b : List ℕ) → 14954 ≤ n → readTariff b ≡ readTariff (take n b)
+pub enough-bytes-decide : (n : ℕ) (b : List ℕ) → decidingBytes ≤ n → readTariff b ≡ readTariff (take n b)
 enough-bytes-decide n b wide =
     elim (decLt n (length b)) [
       | yes longer ↦ decided (omega arith) (ends b)
@@ -168,5 +142,5 @@ enough-bytes-decide n b wide =
         let over = end-entry b at counts is in
         absurd (omega (arith, early b at counts p))
 
-pub first-bytes-decide : (b : List ℕ) → readTariff b ≡ readTariff (take 14954 b)
-first-bytes-decide b = enough-bytes-decide 14954 b (omega arith)
+pub first-bytes-decide : (b : List ℕ) → readTariff b ≡ readTariff (take decidingBytes b)
+first-bytes-decide b = enough-bytes-decide decidingBytes b (omega arith)

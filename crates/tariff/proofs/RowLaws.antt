@@ -17,18 +17,19 @@ use Rattle.wire.specs.declared.Frame.the-variants.{Whole}
 use Rattle.wire.proofs.Number.{get-range}
 use Rattle.wire.proofs.Frames.{whole-back}
 use Rattle.tariff.specs.declared.Counts.{Counts}
-use Rattle.tariff.specs.Fields.{stopFields, moreStops}
+use Rattle.tariff.specs.Layout.{stopBody, stopSize, mostStops, moreStops}
+use Rattle.tariff.specs.Fields.{stopFields}
 use Rattle.tariff.specs.Rules.{stopRight}
-use Rattle.tariff.specs.Rows.{stopStands, rowStands, rowsStanding}
+use Rattle.tariff.specs.Contracts.{rowSize, stopStands, rowStands, rowsStanding}
 use Rattle.tariff.specs.Scan.{entryAt, Passed}
 use Rattle.tariff.specs.declared.scan.Entry.the-variants.{Stop}
-use Rattle.tariff.proofs.Tests.{told}
+use Rattle.wire.proofs.Tests.{told}
 use Rattle.tariff.proofs.Entries.{stop-frame, stop-due, stop-holds}
 use Rattle.tariff.proofs.Passed.{passed-stop}
 
 -- Where a row stands it counts, and those after it; where none stands, or none is asked for, there are none.
 module _ (b : List ℕ) (at areas : ℕ) where
-  rows-more : (most : ℕ) → rowStands b at areas ≡ true → rowsStanding (suc most) b at areas ≡ suc (rowsStanding most b (at + 52) areas)
+  rows-more : (most : ℕ) → rowStands b at areas ≡ true → rowsStanding (suc most) b at areas ≡ suc (rowsStanding most b (at + rowSize) areas)
   unfolding rowsStanding
   rows-more most e = rw e
 
@@ -43,7 +44,7 @@ module _ (b : List ℕ) (at areas : ℕ) where
 
 -- So many rows are counted, and those that stand from `at` on are still to be.
 pub record Standing (b : List ℕ) (from areas most rows at : ℕ) : Type 0 where
-  pub place : at ≡ from + 52 * rows
+  pub place : at ≡ from + rowSize * rows
   pub few : rows ≤ most
   pub rest : rowsStanding most b from areas ≡ rows + rowsStanding (most - rows) b at areas
 
@@ -53,10 +54,10 @@ standing-none b from areas most =
     record { place = omega arith; few = omega arith; rest = rw all (omega arith) }
 
 module _ (b : List ℕ) (from areas most rows at : ℕ) (s : Standing b from areas most rows at) where
-  pub standing-more : rows < most → rowStands b at areas ≡ true → Standing b from areas most (rows + 1) (at + 52)
+  pub standing-more : rows < most → rowStands b at areas ≡ true → Standing b from areas most (rows + 1) (at + rowSize)
   standing-more due row =
       let left : most - rows ≡ suc (most - (rows + 1)) = omega arith in
-      let more : rowsStanding (most - rows) b at areas ≡ suc (rowsStanding (most - (rows + 1)) b (at + 52) areas) =
+      let more : rowsStanding (most - rows) b at areas ≡ suc (rowsStanding (most - (rows + 1)) b (at + rowSize) areas) =
       rw left (rows-more b at areas (most - (rows + 1)) row)
       in
       record { place = omega arith; few = omega arith; rest = omega arith }
@@ -91,56 +92,56 @@ head-tests b bytes at =
 
 module _ (b : List ℕ) where
   -- the length and kind of a stop are those of a whole frame
-  stop-head : (at : ℕ) → at + 13 ≤ length b → getLe 2 b at ≡ 11 → getLe 2 b (at + 2) ≡ 2 → frameAt b at ≡ Whole 2 9
+  stop-head : (at : ℕ) → at + stopSize ≤ length b → getLe 2 b at ≡ 11 → getLe 2 b (at + 2) ≡ 2 → frameAt b at ≡ Whole 2 stopBody
   stop-head at fits long kind =
-      whole-back b at 2 9 (record { kind-is = omega arith; length-is = omega arith; fits = omega arith; short = omega arith })
+      whole-back b at 2 stopBody (record { kind-is = omega arith; length-is = omega arith; fits = omega arith; short = omega arith })
 
   -- What the tests of `stopStands` let through, an area before it, is a faultless stop.
   stop-stands :
-      (at : ℕ) (soFar : Counts) → 0 < soFar .areas → at + 13 ≤ length b → soFar .stops < 1000 → stopStands b at (soFar .areas) ≡ true
+      (at : ℕ) (soFar : Counts) → 0 < soFar .areas → at + stopSize ≤ length b → soFar .stops < mostStops → stopStands b at (soFar .areas) ≡ true
       → entryAt b at soFar ≡ Stop
   unfolding stopStands
   stop-stands at soFar some fits few e =
       let frame = stop-head at fits (search told) (search told) in
       let right : stopRight (stopFields b at) (soFar .areas) ≡ true = search told in
-      stop-frame b at soFar 9 frame ∙ stop-due b at soFar 9 (stop-holds b at soFar (record { frame = frame; some = some; few = few })) right
+      stop-frame b at soFar stopBody frame ∙ stop-due b at soFar stopBody (stop-holds b at soFar (record { frame = frame; some = some; few = few })) right
 
   -- a stop that stands is passed; so is a row
   passed-next :
-      (at : ℕ) (soFar : Counts) → 0 < soFar .areas → at + 13 ≤ length b → soFar .stops < 1000 → stopStands b at (soFar .areas) ≡ true
-      → Passed b at soFar → Passed b (at + 13) (moreStops soFar 1)
+      (at : ℕ) (soFar : Counts) → 0 < soFar .areas → at + stopSize ≤ length b → soFar .stops < mostStops → stopStands b at (soFar .areas) ≡ true
+      → Passed b at soFar → Passed b (at + stopSize) (moreStops soFar 1)
   passed-next at soFar some fits few e p = passed-stop b at soFar p (stop-stands at soFar some fits few e)
 
   passed-row :
-      (at : ℕ) (soFar : Counts) → 0 < soFar .areas → at + 52 ≤ length b → soFar .stops + 4 ≤ 1000 → rowStands b at (soFar .areas) ≡ true
-      → Passed b at soFar → Passed b (at + 52) (moreStops soFar 4)
+      (at : ℕ) (soFar : Counts) → 0 < soFar .areas → at + rowSize ≤ length b → soFar .stops + 4 ≤ mostStops → rowStands b at (soFar .areas) ≡ true
+      → Passed b at soFar → Passed b (at + rowSize) (moreStops soFar 4)
   unfolding rowStands
   passed-row at soFar some fits few e p =
       let one = passed-next at soFar some (omega arith) (omega arith) (search told) p in
-      let two = simp add-assoc at (passed-next (at + 13) (moreStops soFar 1) some (omega arith) (omega arith) (search told) one) in
-      let three = simp add-assoc at (passed-next (at + 26) (moreStops soFar 2) some (omega arith) (omega arith) (search told) two) in
-      simp add-assoc at (passed-next (at + 39) (moreStops soFar 3) some (omega arith) (omega arith) (search told) three)
+      let two = simp add-assoc at (passed-next (at + stopSize) (moreStops soFar 1) some (omega arith) (omega arith) (search told) one) in
+      let three = simp add-assoc at (passed-next (at + 2 * stopSize) (moreStops soFar 2) some (omega arith) (omega arith) (search told) two) in
+      simp add-assoc at (passed-next (at + 3 * stopSize) (moreStops soFar 3) some (omega arith) (omega arith) (search told) three)
 
   -- Where all before a place is faultless, it is so past the rows that stand there too.
   pub passed-rows :
-      (most at : ℕ) (soFar : Counts) → 0 < soFar .areas → at + 52 * most ≤ length b → soFar .stops + 4 * most ≤ 1000 → Passed b at soFar
-      → Passed b (at + 52 * rowsStanding most b at (soFar .areas)) (moreStops soFar (4 * rowsStanding most b at (soFar .areas)))
+      (most at : ℕ) (soFar : Counts) → 0 < soFar .areas → at + rowSize * most ≤ length b → soFar .stops + 4 * most ≤ mostStops → Passed b at soFar
+      → Passed b (at + rowSize * rowsStanding most b at (soFar .areas)) (moreStops soFar (4 * rowsStanding most b at (soFar .areas)))
   passed-rows zero at soFar some fits few p = rw (rows-zero b at (soFar .areas)) (simp unary-clauses p)
   passed-rows (suc most) at soFar some fits few p =
       go (rowStands b at (soFar .areas)) refl
       (λ row.
-      passed-rows most (at + 52) (moreStops soFar 4) some (omega arith) (omega arith)
+      passed-rows most (at + rowSize) (moreStops soFar 4) some (omega arith) (omega arith)
       (passed-row at soFar some (omega arith) (omega arith) row p))
     where
       go :
           (t : Bool) → rowStands b at (soFar .areas) ≡ t
           → (rowStands b at (soFar .areas) ≡ true
-          → Passed b (at + 52 + 52 * rowsStanding most b (at + 52) (soFar .areas))
-          (moreStops (moreStops soFar 4) (4 * rowsStanding most b (at + 52) (soFar .areas))))
-          → Passed b (at + 52 * rowsStanding (suc most) b at (soFar .areas)) (moreStops soFar (4 * rowsStanding (suc most) b at (soFar .areas)))
+          → Passed b (at + rowSize + rowSize * rowsStanding most b (at + rowSize) (soFar .areas))
+          (moreStops (moreStops soFar 4) (4 * rowsStanding most b (at + rowSize) (soFar .areas))))
+          → Passed b (at + rowSize * rowsStanding (suc most) b at (soFar .areas)) (moreStops soFar (4 * rowsStanding (suc most) b at (soFar .areas)))
       go true row on =
-          let rest = rowsStanding most b (at + 52) (soFar .areas) in
-          let place : at + 52 + 52 * rest ≡ at + 52 * suc rest = omega arith in
+          let rest = rowsStanding most b (at + rowSize) (soFar .areas) in
+          let place : at + rowSize + rowSize * rest ≡ at + rowSize * suc rest = omega arith in
           let count : soFar .stops + 4 + 4 * rest ≡ soFar .stops + 4 * suc rest = omega arith in
           rw (rows-more b at (soFar .areas) most row) (rw (place, count) at (on row))
       go false none on = rw (rows-none b at (soFar .areas) (suc most) none) (simp unary-clauses p)

@@ -6,7 +6,7 @@ use mathlib.Core.List.{List}
 use Rattle.tariff.specs.declared.Counts.{Counts}
 use Rattle.tariff.specs.declared.Reading.the-variants.{Fault, Faultless}
 use Rattle.tariff.specs.declared.scan.Entry.the-variants.{End, Area, Stop, Faulty}
-use Rattle.tariff.specs.Fields.{moreAreas, moreStops}
+use Rattle.tariff.specs.Layout.{areaSize, stopSize, moreAreas, moreStops}
 use Rattle.tariff.specs.Scan.{entryAt, readFrom}
 
 module _ (turns : ℕ) (b : List ℕ) (at : ℕ) (soFar : Counts) where
@@ -18,10 +18,10 @@ module _ (turns : ℕ) (b : List ℕ) (at : ℕ) (soFar : Counts) where
   unfolding readFrom
   turn-fault number e = rw (e, readFrom)
 
-  pub turn-area : entryAt b at soFar ≡ Area → readFrom (suc turns) b at soFar ≡ readFrom turns b (at + 29) (moreAreas soFar 1)
+  pub turn-area : entryAt b at soFar ≡ Area → readFrom (suc turns) b at soFar ≡ readFrom turns b (at + areaSize) (moreAreas soFar 1)
   unfolding readFrom
   turn-area e = rw (e, readFrom)
 
-  pub turn-stop : entryAt b at soFar ≡ Stop → readFrom (suc turns) b at soFar ≡ readFrom turns b (at + 13) (moreStops soFar 1)
+  pub turn-stop : entryAt b at soFar ≡ Stop → readFrom (suc turns) b at soFar ≡ readFrom turns b (at + stopSize) (moreStops soFar 1)
   unfolding readFrom
   turn-stop e = rw (e, readFrom)

@@ -10,10 +10,11 @@ use borrow.Author.Tests.{leb-true, eq-eqb, ne-eqb}
 use lib.Dec.{eqb}
 use Rattle.tariff.specs.declared.Counts.{Counts}
 use Rattle.tariff.specs.declared.fields.AreaFields.{AreaFields}
-use Rattle.tariff.specs.Fields.{areaFields, stopFields, areaPlace, stopPlace, areasBefore}
+use Rattle.tariff.specs.Layout.{areaPlace, stopPlace, areasBefore}
+use Rattle.tariff.specs.Fields.{areaFields, stopFields}
 use Rattle.tariff.specs.Rules.{tripCapRight, money, unused, capsRight, placeRight, stopRight, areaRight, levelOf, flatOf}
 use Rattle.tariff.specs.Areas.{tripCapOf, dayCapOf, areaOf, areaAt, stopAt, TripCapRange, DayCapRange, AreaRanges, AreaRank, state, region, city, StopRanges}
-use Rattle.tariff.proofs.Tests.{told, one-of, one-of-three}
+use Rattle.wire.proofs.Tests.{told, one-of, one-of-three}
 
 -- Each sort's own numbers are in their ranges.
 module _ (f : AreaFields) where
@@ -53,15 +54,15 @@ pub area-ranges : (b : List ℕ) (soFar : Counts) (f : AreaFields) → areaRight
 unfolding areaOf capsRight
 area-ranges b soFar f e =
     record {
-      base = search told depth 9;
-      rate = search told depth 9;
+      base-price = search told depth 9;
+      price-per-km = search told depth 9;
       valid-least = search told depth 9;
       valid-most = search told depth 9;
       surcharge = search told depth 9;
       reduction = search told depth 9;
-      cap = trip-cap-range f (search told depth 9);
-      daily = day-cap-range (f .daycap) (search told depth 9);
-      flat = search told depth 9;
+      trip-cap = trip-cap-range f (search told depth 9);
+      day-cap = day-cap-range (f .«day_cap») (search told depth 9);
+      bicycle-flat = search told depth 9;
     }
 
 -- area 0 has level 0
@@ -87,7 +88,7 @@ area-rank b counts number first e =
       | no some ↦
           let e′ = rw (ne-eqb number 0 some) at e in
           let f = areaFields b (areaPlace counts number) in
-          let flat : f .flat ≤ flatOf b counts (f .parent) = search told in
+          let flat : f .«bicycle_flat» ≤ flatOf b counts (f .parent) = search told in
           one-of (eqb (f .level) 1 && eqb (f .parent) 0) (eqb (f .level) 2 && eqb (levelOf b counts (f .parent)) 1) (search told)
           (λ is.
           let parent : f .parent ≡ 0 = search told in

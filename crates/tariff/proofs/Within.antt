@@ -11,7 +11,7 @@ use lib.Dec.{eqb}
 use Rattle.tariff.specs.declared.Counts.{Counts}
 use Rattle.tariff.specs.Rules.{levelOf, flatOf}
 use Rattle.tariff.specs.Areas.{areaOf, areaAt, parentOf, liesWithin, smallestOf, Smallest, AreaRank, state, region, city, FaultlessTariff}
-use Rattle.tariff.proofs.Tests.{one-of-three, second-holds, third-holds}
+use Rattle.wire.proofs.Tests.{one-of-three, second-holds, third-holds}
 
 -- Level, parent and flat of an area are those of its record.
 module _ (b : List ℕ) (counts : Counts) (a : ℕ) where
@@ -23,7 +23,7 @@ module _ (b : List ℕ) (counts : Counts) (a : ℕ) where
   unfolding areaAt areaOf
   area-parent = refl
 
-  pub area-flat : areaAt b counts a .flat .0 ≡ flatOf b counts a
+  pub area-flat : areaAt b counts a .«bicycle_flat» .0 ≡ flatOf b counts a
   unfolding areaAt areaOf
   area-flat = refl
 

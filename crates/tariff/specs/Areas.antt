@@ -14,8 +14,9 @@ use Rattle.tariff.specs.declared.Area.{Area}
 use Rattle.tariff.specs.declared.Stop.{Stop}
 use Rattle.tariff.specs.declared.Counts.{Counts}
 use Rattle.tariff.specs.declared.Reading.the-variants.{Faultless}
-use Rattle.tariff.specs.Fields.{areaFields, stopFields, areaPlace, stopPlace}
-use Rattle.tariff.specs.Rules.{flatOf}
+use Rattle.tariff.specs.Layout.{mostAreas, mostStops, areaPlace, stopPlace}
+use Rattle.tariff.specs.Fields.{areaFields, stopFields}
+use Rattle.tariff.specs.Rules.{mostBasePrice, mostPricePerKm, leastMinutes, mostMinutes, mostPercent, mostMoney, noDayCap, mostMetres}
 use Rattle.tariff.specs.Scan.{readTariff}
 
 -- the sort of trip cap, with that sort's own numbers
@@ -27,9 +28,9 @@ tripCapOf f =
     (record { 0 = f .cap5 }))
     trip.NoCap)
 
--- day cap 65,535 means none
+-- what stands for no day cap
 unfoldable pub dayCapOf : ℕ → Cap
-dayCapOf amount = cond (eqb amount 65535) day.NoCap (day.UpTo (record { 0 = amount }))
+dayCapOf amount = cond (eqb amount noDayCap) day.NoCap (day.UpTo (record { 0 = amount }))
 
 -- an area in its units
 unfoldable pub areaOf : AreaFields → Area
@@ -37,14 +38,14 @@ areaOf f =
     record {
       level = f .level;
       parent = f .parent;
-      base = record { 0 = f .base };
-      rate = record { 0 = f .rate };
+      «base_price» = record { 0 = f .«base_price» };
+      «price_per_km» = record { 0 = f .«price_per_km» };
       validity = record { 0 = f .validity };
       surcharge = f .surcharge;
       reduction = f .reduction;
-      cap = tripCapOf f;
-      daily = dayCapOf (f .daycap);
-      flat = record { 0 = f .flat };
+      «trip_cap» = tripCapOf f;
+      «day_cap» = dayCapOf (f .«day_cap»);
+      «bicycle_flat» = record { 0 = f .«bicycle_flat» };
     }
 
 -- the area of a number
@@ -76,14 +77,6 @@ smallestOf b counts a c =
     cond (liesWithin b counts c a) a
     (cond (liesWithin b counts c (parentOf b counts a)) (parentOf b counts a) (parentOf b counts (parentOf b counts a)))
 
-pub record ParentOf (b : List ℕ) (counts : Counts) (number r : ℕ) : Type 0 where
-  pub value : r ≡ parentOf b counts number
-  pub there : r < counts .areas
-
-pub record FlatOf (b : List ℕ) (counts : Counts) (number r : ℕ) : Type 0 where
-  pub value : r ≡ flatOf b counts number
-  pub range : r ≤ 60000
-
 -- the smallest area that contains two: it contains both, and lies within every area that contains both
 pub record Smallest (b : List ℕ) (counts : Counts) (a c r : ℕ) : Type 0 where
   pub value : r ≡ smallestOf b counts a c
@@ -95,43 +88,43 @@ pub record Smallest (b : List ℕ) (counts : Counts) (a c r : ℕ) : Type 0 wher
 -- the numbers of a trip cap are in their ranges
 abbrev pub TripCapRange : TripCap → Type 0
 TripCapRange (trip.NoCap) = Unit
-TripCapRange (trip.Flat amount minutes) = (amount .0 ≤ 60000) × (30 ≤ minutes .0) × (minutes .0 ≤ 1440)
-TripCapRange (trip.ByLevel k a b c d) = (k .0 ≤ 60000) × (a .0 ≤ 60000) × (b .0 ≤ 60000) × (c .0 ≤ 60000) × (d .0 ≤ 60000)
+TripCapRange (trip.Flat amount minutes) = (amount .0 ≤ mostMoney) × (leastMinutes ≤ minutes .0) × (minutes .0 ≤ mostMinutes)
+TripCapRange (trip.ByLevel k a b c d) = (k .0 ≤ mostMoney) × (a .0 ≤ mostMoney) × (b .0 ≤ mostMoney) × (c .0 ≤ mostMoney) × (d .0 ≤ mostMoney)
 
 abbrev pub DayCapRange : Cap → Type 0
 DayCapRange (day.NoCap) = Unit
-DayCapRange (day.UpTo amount) = amount .0 ≤ 60000
+DayCapRange (day.UpTo amount) = amount .0 ≤ mostMoney
 
 -- what each area of a faultless tariff has: every field in its range
 pub record AreaRanges (area : Area) : Type 0 where
-  pub base : area .base .0 ≤ 10000
-  pub rate : area .rate .0 ≤ 1000
-  pub valid-least : 30 ≤ area .validity .0
-  pub valid-most : area .validity .0 ≤ 1440
-  pub surcharge : area .surcharge ≤ 100
-  pub reduction : area .reduction ≤ 100
-  pub cap : TripCapRange (area .cap)
-  pub daily : DayCapRange (area .daily)
-  pub flat : area .flat .0 ≤ 60000
+  pub base-price : area .«base_price» .0 ≤ mostBasePrice
+  pub price-per-km : area .«price_per_km» .0 ≤ mostPricePerKm
+  pub valid-least : leastMinutes ≤ area .validity .0
+  pub valid-most : area .validity .0 ≤ mostMinutes
+  pub surcharge : area .surcharge ≤ mostPercent
+  pub reduction : area .reduction ≤ mostPercent
+  pub trip-cap : TripCapRange (area .«trip_cap»)
+  pub day-cap : DayCapRange (area .«day_cap»)
+  pub bicycle-flat : area .«bicycle_flat» .0 ≤ mostMoney
 
 -- area 0 alone is the state, its own parent; a region's parent is the state, a city's an earlier region; no flat exceeds the parent's
 pub data AreaRank (b : List ℕ) (counts : Counts) (number : ℕ) : Type 0 where
   state : number ≡ 0 → areaAt b counts number .level ≡ 0 → areaAt b counts number .parent ≡ 0 → AreaRank b counts number
-  region : 0 < number → areaAt b counts number .level ≡ 1 → areaAt b counts number .parent ≡ 0 → areaAt b counts number .flat .0 ≤ areaAt b counts 0 .flat .0
+  region : 0 < number → areaAt b counts number .level ≡ 1 → areaAt b counts number .parent ≡ 0 → areaAt b counts number .«bicycle_flat» .0 ≤ areaAt b counts 0 .«bicycle_flat» .0
       → AreaRank b counts number
   city : (r : ℕ) → 0 < r → r < number → areaAt b counts number .level ≡ 2 → areaAt b counts number .parent ≡ r → areaAt b counts r .level ≡ 1
-      → areaAt b counts number .flat .0 ≤ areaAt b counts r .flat .0 → AreaRank b counts number
+      → areaAt b counts number .«bicycle_flat» .0 ≤ areaAt b counts r .«bicycle_flat» .0 → AreaRank b counts number
 
 pub record StopRanges (areas : ℕ) (stop : Stop) : Type 0 where
   pub area : stop .area < areas
-  pub x : stop .x .0 ≤ 1000000
-  pub y : stop .y .0 ≤ 1000000
+  pub x : stop .x .0 ≤ mostMetres
+  pub y : stop .y .0 ≤ mostMetres
 
 -- what every faultless tariff has
 pub record FaultlessTariff (b : List ℕ) (counts : Counts) : Type 0 where
   pub some : 1 ≤ counts .areas
-  pub few-areas : counts .areas ≤ 32
-  pub few-stops : counts .stops ≤ 1000
+  pub few-areas : counts .areas ≤ mostAreas
+  pub few-stops : counts .stops ≤ mostStops
   pub size : length b ≡ stopPlace counts (counts .stops)
   pub area : (i : ℕ) → i < counts .areas → AreaRanges (areaAt b counts i)
   pub rank : (i : ℕ) → i < counts .areas → AreaRank b counts i

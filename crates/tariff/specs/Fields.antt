@@ -1,8 +1,7 @@
 -- Paper 01, "Records": where the fields of an area record (kind 1) and of a stop record (kind 2) stand.
-use Prim.Native.Nat.{ℕ, _+_, _*_}
+use Prim.Native.Nat.{ℕ, _+_}
 use mathlib.Core.List.{List}
 use Rattle.wire.specs.Number.{getLe}
-use Rattle.tariff.specs.declared.Counts.{Counts}
 use Rattle.tariff.specs.declared.fields.AreaFields.{AreaFields}
 use Rattle.tariff.specs.declared.fields.StopFields.{StopFields}
 
@@ -13,8 +12,8 @@ areaFields b at =
     record {
       level = getLe 1 b (at + 4);
       parent = getLe 1 b (at + 5);
-      base = getLe 2 b (at + 6);
-      rate = getLe 2 b (at + 8);
+      «base_price» = getLe 2 b (at + 6);
+      «price_per_km» = getLe 2 b (at + 8);
       validity = getLe 2 b (at + 10);
       surcharge = getLe 1 b (at + 12);
       reduction = getLe 1 b (at + 13);
@@ -24,31 +23,10 @@ areaFields b at =
       cap3 = getLe 2 b (at + 19);
       cap4 = getLe 2 b (at + 21);
       cap5 = getLe 2 b (at + 23);
-      daycap = getLe 2 b (at + 25);
-      flat = getLe 2 b (at + 27);
+      «day_cap» = getLe 2 b (at + 25);
+      «bicycle_flat» = getLe 2 b (at + 27);
     }
 
 -- area 1, x 4, y 4
 unfoldable pub stopFields : List ℕ → ℕ → StopFields
 stopFields b at = record { area = getLe 1 b (at + 4); x = getLe 4 b (at + 5); y = getLe 4 b (at + 9) }
-
--- The counts are the layout: they say where each record begins. Areas are numbered from 0 in order, each a record of 4 + 25 bytes
-abbrev pub areaPlace : Counts → ℕ → ℕ
-areaPlace counts number = 29 * number
-
--- stops follow the areas, each a record of 4 + 9 bytes
-abbrev pub stopPlace : Counts → ℕ → ℕ
-stopPlace counts number = 29 * counts .areas + 13 * number
-
--- the counts so far, where areas alone go before; where some stops of the whole go before; and with so many areas or stops more
-abbrev pub areasBefore : ℕ → Counts
-areasBefore number = record { areas = number; stops = 0 }
-
-abbrev pub stopsBefore : Counts → ℕ → Counts
-stopsBefore counts number = record { areas = counts .areas; stops = number }
-
-abbrev pub moreAreas : Counts → ℕ → Counts
-moreAreas soFar n = record { areas = soFar .areas + n; stops = soFar .stops }
-
-abbrev pub moreStops : Counts → ℕ → Counts
-moreStops soFar n = record { areas = soFar .areas; stops = soFar .stops + n }

@@ -1,6 +1,7 @@
+pub mod Layout
 pub mod Fields
 pub mod Rules
-pub mod Rows
 pub mod Scan
 pub mod Areas
 pub mod Levels
+pub mod Contracts

@@ -13,26 +13,27 @@ use Rattle.tariff.specs.declared.scan.Entry.{Entry}
 use Rattle.tariff.specs.declared.scan.Entry.the-variants.{End, Area, Stop, Faulty}
 use Rattle.tariff.specs.declared.Reading.{Reading}
 use Rattle.tariff.specs.declared.Reading.the-variants.{Fault, Faultless}
-use Rattle.tariff.specs.Fields.{areaFields, stopFields, areaPlace, stopPlace, areasBefore, stopsBefore, moreAreas, moreStops}
+use Rattle.tariff.specs.Layout.{areaBody, areaSize, stopBody, stopSize, mostAreas, mostStops, areaPlace, stopPlace, areasBefore, stopsBefore, moreAreas, moreStops}
+use Rattle.tariff.specs.Fields.{areaFields, stopFields}
 use Rattle.tariff.specs.Rules.{areaRight, stopRight}
 
 -- a place that so many areas and stops reach
 pub record Reached (b : List ℕ) (at : ℕ) (soFar : Counts) : Type 0 where
   pub place : at ≡ stopPlace soFar (soFar .stops)
   pub inside : at ≤ length b
-  pub few : soFar .areas ≤ 32
+  pub few : soFar .areas ≤ mostAreas
 
 -- an area record: its body is 25 bytes, no stop goes before it and fewer than 32 areas do, or it is 2; its values are right, or it is 3
 unfoldable pub areaEntry : List ℕ → ℕ → Counts → ℕ → Entry
 areaEntry b at soFar body =
-    cond (eqb body 25 && eqb (soFar .stops) 0 && ltb (soFar .areas) 32)
+    cond (eqb body areaBody && eqb (soFar .stops) 0 && ltb (soFar .areas) mostAreas)
     (cond (areaRight b soFar (areaFields b at)) Area (Faulty 3))
     (Faulty 2)
 
 -- a stop record: its body is 9 bytes, an area goes before it and fewer than 1,000 stops do, or it is 2; its values are right, or it is 3
 unfoldable pub stopEntry : List ℕ → ℕ → Counts → ℕ → Entry
 stopEntry b at soFar body =
-    cond (eqb body 9 && ltb 0 (soFar .areas) && ltb (soFar .stops) 1000)
+    cond (eqb body stopBody && ltb 0 (soFar .areas) && ltb (soFar .stops) mostStops)
     (cond (stopRight (stopFields b at) (soFar .areas)) Stop (Faulty 3))
     (Faulty 2)
 
@@ -56,8 +57,8 @@ readFrom (suc turns) b at soFar =
     elim (entryAt b at soFar) [
       | End ↦ Faultless soFar
       | Faulty number ↦ Fault number at
-      | Area ↦ readFrom turns b (at + 29) (moreAreas soFar 1)
-      | Stop ↦ readFrom turns b (at + 13) (moreStops soFar 1)
+      | Area ↦ readFrom turns b (at + areaSize) (moreAreas soFar 1)
+      | Stop ↦ readFrom turns b (at + stopSize) (moreStops soFar 1)
     ]
 
 unfoldable pub readTariff : List ℕ → Reading
@@ -76,15 +77,15 @@ pub record FirstFault (b : List ℕ) (number at : ℕ) (soFar : Counts) : Type 0
 
 -- kind, body length, order and number of an area record are right
 pub record AreaInPlace (b : List ℕ) (at : ℕ) (soFar : Counts) : Type 0 where
-  pub frame : frameAt b at ≡ Whole 1 25
+  pub frame : frameAt b at ≡ Whole 1 areaBody
   pub none : soFar .stops ≡ 0
-  pub few : soFar .areas < 32
+  pub few : soFar .areas < mostAreas
 
 -- kind, body length, order and number of a stop record are right
 pub record StopInPlace (b : List ℕ) (at : ℕ) (soFar : Counts) : Type 0 where
-  pub frame : frameAt b at ≡ Whole 2 9
+  pub frame : frameAt b at ≡ Whole 2 stopBody
   pub some : 0 < soFar .areas
-  pub few : soFar .stops < 1000
+  pub few : soFar .stops < mostStops
 
 -- fault 1: the tariff has not ended, and the frame is broken
 pub record BrokenFrame (b : List ℕ) (at : ℕ) : Type 0 where

@@ -7,6 +7,7 @@ use crate::fields::AREA_SIZE;
 use crate::fields::AreaFields;
 use crate::fields::FLAT;
 use crate::fields::LEVEL;
+use crate::fields::NO_DAY_CAP;
 use crate::fields::PARENT;
 use crate::fields::STOP_SIZE;
 use crate::fields::area_fields;
@@ -18,10 +19,11 @@ use units::Minutes;
 use wire::one_at;
 use wire::two_at;
 ghost use mathlib.Core.Path.{_≡_};
-ghost use Prim.Native.Nat.{_<_};
-ghost use Rattle.tariff.specs.Fields.{stopPlace};
-ghost use Rattle.tariff.specs.Areas.{tripCapOf, dayCapOf, areaOf, areaAt, stopAt, liesWithin, Read, ParentOf, FlatOf, Smallest};
-ghost use Rattle.tariff.specs.Rules.{levelOf};
+ghost use Prim.Native.Nat.{_≤_, _<_};
+ghost use Rattle.tariff.specs.Layout.{mostAreas, mostStops, areaPlace, stopPlace};
+ghost use Rattle.tariff.specs.Areas.{tripCapOf, dayCapOf, areaOf, areaAt, stopAt, liesWithin, Read, Smallest};
+ghost use Rattle.tariff.specs.Contracts.{AreaThere, ParentOf, FlatOf};
+ghost use Rattle.tariff.specs.Rules.{levelOf, flatOf};
 
 fn trip_cap_of(f: AreaFields) -> TripCap
     ensures { λ r. ⌜ r ≡ tripCapOf f ⌝ }
@@ -40,13 +42,13 @@ fn trip_cap_of(f: AreaFields) -> TripCap
     }
 }
 
-fn day_cap_of(daycap: u16) -> Cap
-    ensures { λ r. ⌜ r ≡ dayCapOf daycap ⌝ }
+fn day_cap_of(amount: u16) -> Cap
+    ensures { λ r. ⌜ r ≡ dayCapOf amount ⌝ }
 {
-    if daycap == 65_535 {
+    if amount == NO_DAY_CAP {
         Cap::NoCap
     } else {
-        Cap::UpTo(Cents(daycap as u32))
+        Cap::UpTo(Cents(amount as u32))
     }
 }
 
@@ -57,37 +59,44 @@ fn area_of(f: AreaFields) -> Area
     Area {
         level: f.level,
         parent: f.parent,
-        base: Cents(f.base as u32),
-        rate: Cents(f.rate as u32),
+        base_price: Cents(f.base_price as u32),
+        price_per_km: Cents(f.price_per_km as u32),
         validity: Minutes(f.validity as u32),
         surcharge: f.surcharge,
         reduction: f.reduction,
-        cap: trip_cap_of(f),
-        daily: day_cap_of(f.daycap),
-        flat: Cents(f.flat as u32),
+        trip_cap: trip_cap_of(f),
+        day_cap: day_cap_of(f.day_cap),
+        bicycle_flat: Cents(f.bicycle_flat as u32),
     }
+}
+
+// Where the record of an area begins, and where that of a stop.
+fn area_place(counts: Counts, number: usize) -> usize
+    requires { ⌜ number < mostAreas ⌝ }
+    ensures { λ r. ⌜ r ≡ areaPlace counts number ⌝ }
+{
+    AREA_SIZE * number
+}
+
+fn stop_place(counts: Counts, number: usize) -> usize
+    requires { ⌜ (counts .areas ≤ mostAreas) × (number < mostStops) ⌝ }
+    ensures { λ r. ⌜ r ≡ stopPlace counts number ⌝ }
+{
+    AREA_SIZE * counts.areas + STOP_SIZE * number
 }
 
 pub fn area(tariff: &[u8], counts: Counts, number: usize) -> Area
     requires { ⌜ Read (now tariff) counts × (number < counts .areas) ⌝ }
     ensures { λ r. ⌜ r ≡ areaAt (now (tariff .entry)) counts number ⌝ }
 {
-    area_of(area_fields(tariff, AREA_SIZE * number))
-}
-
-// Where the stop records begin.
-pub fn stops_place(counts: Counts) -> usize
-    requires { ⌜ counts .areas < 33 ⌝ }
-    ensures { λ r. ⌜ r ≡ stopPlace counts 0 ⌝ }
-{
-    AREA_SIZE * counts.areas
+    area_of(area_fields(tariff, area_place(counts, number)))
 }
 
 pub fn stop(tariff: &[u8], counts: Counts, number: usize) -> Stop
     requires { ⌜ Read (now tariff) counts × (number < counts .stops) ⌝ }
     ensures { λ r. ⌜ r ≡ stopAt (now (tariff .entry)) counts number ⌝ }
 {
-    let f = stop_fields(tariff, stops_place(counts) + STOP_SIZE * number);
+    let f = stop_fields(tariff, stop_place(counts, number));
     Stop {
         area: f.area,
         x: Metres(f.x),
@@ -100,7 +109,22 @@ pub fn parent(tariff: &[u8], counts: Counts, number: usize) -> usize
     requires { ⌜ Read (now tariff) counts × (number < counts .areas) ⌝ }
     ensures { λ r. ⌜ ParentOf (now (tariff .entry)) counts number r ⌝ }
 {
-    one_at(tariff, AREA_SIZE * number + PARENT) as usize
+    one_at(tariff, area_place(counts, number) + PARENT) as usize
+}
+
+// The level and the bicycle flat of an area whose record is there: what the rules ask of an earlier area.
+pub fn level_there(tariff: &[u8], counts: Counts, number: usize) -> u8
+    requires { ⌜ AreaThere (now tariff) counts number ⌝ }
+    ensures { λ r. ⌜ r ≡ levelOf (now (tariff .entry)) counts number ⌝ }
+{
+    one_at(tariff, area_place(counts, number) + LEVEL)
+}
+
+pub fn flat_there(tariff: &[u8], counts: Counts, number: usize) -> u16
+    requires { ⌜ AreaThere (now tariff) counts number ⌝ }
+    ensures { λ r. ⌜ r ≡ flatOf (now (tariff .entry)) counts number ⌝ }
+{
+    two_at(tariff, area_place(counts, number) + FLAT)
 }
 
 // An area's level: 0 the state, 1 a region, 2 a city; as many areas lie above it.
@@ -108,7 +132,7 @@ pub fn level(tariff: &[u8], counts: Counts, number: usize) -> u8
     requires { ⌜ Read (now tariff) counts × (number < counts .areas) ⌝ }
     ensures { λ r. ⌜ r ≡ levelOf (now (tariff .entry)) counts number ⌝ }
 {
-    one_at(tariff, AREA_SIZE * number + LEVEL)
+    level_there(tariff, counts, number)
 }
 
 // An area's bicycle flat.
@@ -116,7 +140,7 @@ pub fn flat(tariff: &[u8], counts: Counts, number: usize) -> Cents
     requires { ⌜ Read (now tariff) counts × (number < counts .areas) ⌝ }
     ensures { λ r. ⌜ FlatOf (now (tariff .entry)) counts number (r .0) ⌝ }
 {
-    Cents(two_at(tariff, AREA_SIZE * number + FLAT) as u32)
+    Cents(flat_there(tariff, counts, number) as u32)
 }
 
 // Whether an area is, or lies within, another.

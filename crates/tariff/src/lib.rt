@@ -28,14 +28,14 @@ pub enum TripCap {
 pub struct Area {
     pub level: u8,
     pub parent: u8,
-    pub base: Cents,
-    pub rate: Cents,
+    pub base_price: Cents,
+    pub price_per_km: Cents,
     pub validity: Minutes,
     pub surcharge: u8,
     pub reduction: u8,
-    pub cap: TripCap,
-    pub daily: Cap,
-    pub flat: Cents,
+    pub trip_cap: TripCap,
+    pub day_cap: Cap,
+    pub bicycle_flat: Cents,
 }
 
 pub struct Stop {

@@ -7,18 +7,19 @@ use wire::four_at;
 ghost use mathlib.Core.Path.{_≡_};
 ghost use Prim.Native.Nat.{_+_, _*_, _≤_};
 ghost use lib.ListN.{length};
-ghost use Rattle.tariff.specs.Rows.{stopStands, rowStands, rowsStanding};
+ghost use Rattle.tariff.specs.Layout.{stopSize};
+ghost use Rattle.tariff.specs.Contracts.{rowSize, stopStands, rowStands, rowsStanding};
 
 // A stop's length and kind as one number: 11, and 2 above it.
 const STOP_HEAD: u32 = 131_083;
 
 pub const ROW_STOPS: usize = 4;
 // Four stop records.
-pub const ROW_SIZE: usize = 52;
+pub const ROW_SIZE: usize = ROW_STOPS * STOP_SIZE;
 
 // Whether a whole stop record without fault stands at a place.
 fn stop_stands(b: &[u8], at: usize, areas: usize) -> bool
-    requires { ⌜ at + 13 ≤ length (now b) ⌝ }
+    requires { ⌜ at + stopSize ≤ length (now b) ⌝ }
     ensures { λ r. ⌜ r ≡ stopStands (now (b .entry)) at areas ⌝ }
 {
     (four_at(b, at) == STOP_HEAD) & stop_right(stop_fields(b, at), areas)
@@ -26,7 +27,7 @@ fn stop_stands(b: &[u8], at: usize, areas: usize) -> bool
 
 // Whether four of them stand in a row. All are looked at, so that the compiler can take them together.
 fn row_stands(b: &[u8], at: usize, areas: usize) -> bool
-    requires { ⌜ at + 52 ≤ length (now b) ⌝ }
+    requires { ⌜ at + rowSize ≤ length (now b) ⌝ }
     ensures { λ r. ⌜ r ≡ rowStands (now (b .entry)) at areas ⌝ }
 {
     stop_stands(b, at, areas)
@@ -37,7 +38,7 @@ fn row_stands(b: &[u8], at: usize, areas: usize) -> bool
 
 // How many rows stand one after another from a place on, of `most` that there is room for.
 pub fn rows_standing(b: &[u8], from: usize, areas: usize, most: usize) -> usize
-    requires { ⌜ from + 52 * most ≤ length (now b) ⌝ }
+    requires { ⌜ from + rowSize * most ≤ length (now b) ⌝ }
     ensures { λ r. ⌜ (r ≡ rowsStanding most (now (b .entry)) from areas) × (r ≤ most) ⌝ }
 {
     let mut rows = 0;

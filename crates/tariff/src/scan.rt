@@ -4,6 +4,8 @@ use crate::Reading;
 use crate::fields::AREA_BODY;
 use crate::fields::AREA_KIND;
 use crate::fields::AREA_SIZE;
+use crate::fields::MOST_AREAS;
+use crate::fields::MOST_STOPS;
 use crate::fields::STOP_BODY;
 use crate::fields::STOP_KIND;
 use crate::fields::STOP_SIZE;
@@ -21,11 +23,9 @@ use wire::frame_at;
 ghost use mathlib.Core.Path.{_≡_};
 ghost use Prim.Native.Nat.{_+_, _-_, _/_, _≤_, min};
 ghost use lib.ListN.{length};
+ghost use Rattle.tariff.specs.Layout.{mostStops};
+ghost use Rattle.tariff.specs.Contracts.{rowStops, rowSize};
 ghost use Rattle.tariff.specs.Scan.{Reached, areaEntry, stopEntry, entryAt, readTariff};
-
-const MOST_AREAS: usize = 32;
-
-const MOST_STOPS: usize = 1_000;
 
 // What stands at a place of the tariff: its end, a faultless area or stop, or a record with a fault (1, 2 or 3).
 pub enum Entry {
@@ -93,10 +93,10 @@ pub fn entry_at(b: &[u8], at: usize, so_far: Counts) -> Entry
     }
 }
 
-// How many rows of stops there is room for: in the bytes that are left, and up to 1,000 stops.
+// How many rows of stops there is room for: in the bytes that are left, and up to the most stops.
 fn rows_due(left: usize, stops: usize) -> usize
-    requires { ⌜ stops ≤ 1000 ⌝ }
-    ensures { λ r. ⌜ r ≡ min (left / 52) ((1000 - stops) / 4) ⌝ }
+    requires { ⌜ stops ≤ mostStops ⌝ }
+    ensures { λ r. ⌜ r ≡ min (left / rowSize) ((mostStops - stops) / rowStops) ⌝ }
 {
     let room = left / ROW_SIZE;
     let due = (MOST_STOPS - stops) / ROW_STOPS;

@@ -8,7 +8,7 @@ use mathlib.Core.Logic.{_↔_, _⊎_, inl, inr, ⊎-elim}
 use mathlib.Core.Bool.{Bool, true, false, _||_, and-false, false≢true}
 use borrow.Author.Tests.{eqb-true, leb-false, le-leb, lt-leb}
 use lib.Dec.{leb, eqb}
-use Rattle.tariff.proofs.Tests.{told, one-of}
+use Rattle.wire.proofs.Tests.{told, one-of}
 use Rattle.trip.specs.declared.Party.{Party}
 use Rattle.trip.specs.Record.{partyRight}
 use Rattle.trip.specs.Moments.{inOrder}

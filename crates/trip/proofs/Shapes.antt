@@ -13,7 +13,7 @@ use Rattle.wire.specs.Frame.{frameAt}
 use Rattle.wire.specs.declared.Frame.{Frame}
 use Rattle.wire.specs.declared.Frame.the-variants.{Whole, Broken}
 use Rattle.wire.proofs.Frames.{whole}
-use Rattle.tariff.proofs.Tests.{one-of}
+use Rattle.wire.proofs.Tests.{one-of}
 use Rattle.trip.specs.Record.{tripSize, countAt, shapeAt}
 use Rattle.trip.specs.declared.Shape.{Shape}
 use Rattle.trip.specs.declared.Shape.the-variants.{Stops, NoTrip}

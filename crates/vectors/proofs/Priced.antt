@@ -14,8 +14,7 @@ use Rattle.trip.specs.Trips.{readTrip}
 use Rattle.trip.proofs.Good.{good}
 use Rattle.trip.proofs.Ranges.{party-ranges}
 use Rattle.fare.specs.declared.Ride.{Ride}
-use Rattle.fare.specs.Rides.{Riding, InOrder, RideOf}
-use Rattle.fare.specs.Prices.{Priceable}
+use Rattle.fare.specs.Contracts.{Riding, InOrder, RideOf, Priceable}
 
 pub rides : (tariff : List ℕ) (counts : Counts) (bytes : List ℕ) (trip : Trip) → Read tariff counts
     → readTrip bytes (counts .stops) ≡ Good trip → Riding tariff counts bytes (trip .stops) × InOrder trip

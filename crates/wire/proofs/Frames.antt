@@ -3,14 +3,17 @@
 use Prim.Native.Nat.{ℕ, _+_, _-_, _≤_, _<_}
 use native.Mathlib.Omega.{arith}
 use mathlib.Core.Path.{_≡_, refl, sym, _∙_}
-use mathlib.Core.Bool.{Bool, true, false, _||_, false≢true}
+use native.Mathlib.Decide.{decLt}
+use mathlib.Core.Bool.{Bool, true, false, _||_, or-true, or-false, false≢true}
 use mathlib.Core.List.{List}
 use borrow.Author.Tests.{lt-ltb, le-ltb, ltb-false}
-use lib.ListN.{length}
+use lib.ListN.{length, take}
+use lib.Seq.{length-take-le}
 use lib.Dec.{ltb}
 use Rattle.wire.specs.Number.{getLe}
-use Rattle.wire.specs.Frame.{broken, frameAt}
+use Rattle.wire.specs.Frame.{longestRecord, mostLength, broken, frameAt}
 use Rattle.wire.specs.declared.Frame.the-variants.{Whole, Broken}
+use Rattle.wire.proofs.Number.{get-take}
 
 -- A whole record at a place: its kind, its body's length, and that it ends within the bytes.
 pub record WholeAt (b : List ℕ) (p kind body : ℕ) : Type 0 where
@@ -27,7 +30,7 @@ cut-broken b p h = rw (lt-ltb (length b - p) 4 h)
 -- Where 4 bytes remain, it is broken as the three other tests say.
 pub tested :
     (b : List ℕ) (p long : ℕ) → long ≡ getLe 2 b p → 4 ≤ length b - p
-    → broken b p ≡ (ltb long 2 || ltb 1024 long) || ltb (length b - p) (2 + long)
+    → broken b p ≡ (ltb long 2 || ltb mostLength long) || ltb (length b - p) (2 + long)
 unfolding broken
 tested b p long e h = rw (le-ltb (length b - p) 4 h, e)
 
@@ -41,7 +44,7 @@ pub unbroken : (b : List ℕ) (p : ℕ) → broken b p ≡ false → WholeAt b p
 unfolding broken
 unbroken b p e =
     let head = neither (ltb (length b - p) 4) _ e in
-    let rest = neither (ltb (getLe 2 b p) 2 || ltb 1024 (getLe 2 b p)) _ (head .1) in
+    let rest = neither (ltb (getLe 2 b p) 2 || ltb mostLength (getLe 2 b p)) _ (head .1) in
     let range = neither (ltb (getLe 2 b p) 2) _ (rest .0) in
     let remain = ltb-false (length b - p) 4 (head .0) in
     let least = ltb-false (getLe 2 b p) 2 (range .0) in
@@ -89,7 +92,33 @@ whole-back b p kind body w =
     let long = getLe 2 b p in
     let sound : broken b p ≡ false =
     tested b p long refl (omega arith)
-    ∙ rw (le-ltb long 2 (omega arith), le-ltb 1024 long (omega arith), le-ltb (length b - p) (2 + long) (omega arith))
+    ∙ rw (le-ltb long 2 (omega arith), le-ltb mostLength long (omega arith), le-ltb (length b - p) (2 + long) (omega arith))
     in
     let same-body : getLe 2 b p - 2 ≡ body = omega arith in
     unbroken-given b p sound ∙ rw (w .kind-is, same-body)
+
+-- where the longest record's bytes follow, a frame is broken by its length alone
+by-length : (b : List ℕ) (at : ℕ) → at + longestRecord ≤ length b → broken b at ≡ ltb (getLe 2 b at) 2 || ltb mostLength (getLe 2 b at)
+by-length b at fits = tested b at (getLe 2 b at) refl (omega arith) ∙ go
+  where
+    long : ℕ
+    long = getLe 2 b at
+
+    go : (ltb long 2 || ltb mostLength long) || ltb (length b - at) (2 + long) ≡ ltb long 2 || ltb mostLength long
+    go =
+        elim (decLt mostLength long) [
+          | yes large ↦ rw (lt-ltb mostLength long large, or-true)
+          | no most ↦ rw (le-ltb (length b - at) (2 + long) (omega arith), or-false)
+        ]
+
+-- So the frame at a place is decided by that many bytes from there on.
+pub frame-take :
+    (n : ℕ) (b : List ℕ) (at : ℕ) → n ≤ length b → at + longestRecord ≤ n → frameAt (take n b) at ≡ frameAt b at
+unfolding frameAt
+frame-take n b at there fits =
+    rw (
+      by-length (take n b) at (omega (arith, length-take-le n b there)),
+      by-length b at (omega arith),
+      get-take 2 n b at (omega arith),
+      get-take 2 n b (at + 2) (omega arith),
+    )

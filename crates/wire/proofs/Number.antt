@@ -8,7 +8,7 @@ use native.Mathlib.Decide.{ℕ-discrete, decLt}
 use mathlib.Core.Path.{_≡_, refl, sym, ap, _∙_}
 use mathlib.Core.Logic.{_⊎_, inl, inr, ⊎-elim}
 use mathlib.Core.List.{List, [], _∷_, _++_}
-use lib.ListN.{length, getD, set, take, drop, length-set}
+use lib.ListN.{length, getD, set, take, drop, length-set, List·getD-append}
 use lib.Seq.{getD-set-same, getD-set-other, set-out, getD-take, getD-drop, sets}
 use Rattle.wire.specs.Number.{getLe, putLe, bytesOf, Bytes}
 
@@ -89,6 +89,10 @@ get-drop (suc k) n b p =
 -- A number that stands wholly within the first n bytes is read from those alone.
 pub get-take : (k n : ℕ) (b : List ℕ) (p : ℕ) → p + k ≤ n → getLe k (take n b) p ≡ getLe k b p
 get-take k n b p h = get-same k (take n b) b p (λ i from to. getD-take n b i 0 (omega arith))
+
+-- A number that stands wholly within the first of two byte strings is read from that one alone.
+pub get-front : (k : ℕ) (xs ys : List ℕ) (p : ℕ) → p + k ≤ length xs → getLe k (xs ++ ys) p ≡ getLe k xs p
+get-front k xs ys p fits = get-same k (xs ++ ys) xs p (λ i from to. List·getD-append xs ys 0 i (omega arith))
 
 -- A number has as many bytes as its width says.
 pub length-bytes : (k v : ℕ) → length (bytesOf k v) ≡ k

@@ -8,11 +8,22 @@ use Rattle.wire.specs.Number.{getLe}
 use Rattle.wire.specs.declared.Frame.{Frame}
 use Rattle.wire.specs.declared.Frame.the-variants.{Whole, Broken}
 
+-- length and kind stand before the body
+abbrev pub headSize : ℕ
+headSize = 4
+
+-- what a record's length is at most, and so the whole record
+abbrev pub mostLength : ℕ
+mostLength = 1024
+
+abbrev pub longestRecord : ℕ
+longestRecord = 2 + mostLength
+
 -- broken: fewer than 4 bytes remain, or the length is below 2 or above 1,024, or the record runs past the end
 unfoldable pub broken : List ℕ → ℕ → Bool
 broken bytes place =
-    ltb (length bytes - place) 4
-    || ((ltb (getLe 2 bytes place) 2 || ltb 1024 (getLe 2 bytes place))
+    ltb (length bytes - place) headSize
+    || ((ltb (getLe 2 bytes place) 2 || ltb mostLength (getLe 2 bytes place))
     || ltb (length bytes - place) (2 + getLe 2 bytes place))
 
 -- a record's kind, and its body's length, which is what its length counts less the kind's two bytes

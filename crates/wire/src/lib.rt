@@ -9,6 +9,10 @@ pub mod writer;
 
 // A record's length and kind, two bytes each, stand before its body.
 pub const HEAD: usize = 4;
+// What a record's length is at most, and so the whole record.
+const MOST_LENGTH: usize = 1_024;
+
+pub const LONGEST_RECORD: usize = 2 + MOST_LENGTH;
 
 // What stands at a place: a whole record of a kind, with its body's length, or a broken frame.
 pub enum Frame {
@@ -89,7 +93,7 @@ pub fn frame_at(b: &[u8], at: usize) -> Frame
         return Frame::Broken;
     }
     let long = two_at(b, at) as usize;
-    if (long < 2) | (1024 < long) | (left < 2 + long) {
+    if (long < 2) | (MOST_LENGTH < long) | (left < 2 + long) {
         return Frame::Broken;
     }
     Frame::Whole {

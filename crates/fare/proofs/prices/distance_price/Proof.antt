@@ -8,12 +8,12 @@ use Rattle.fare.proofs.Steps.{base-most, rate-most}
 use Rattle.fare.proofs.prices.distance_price.Statement.{statement}
 use Rattle.fare.proofs.prices.distance_price.Tie as tie
 
-base-part : (c : tie.After-started-periods) → c .before .before .before .before .args .area .base .0 * c .started-periods .result ≤ 480000
+base-part : (c : tie.After-started-periods) → c .before .before .before .before .args .area .«base_price» .0 * c .started-periods .result ≤ 480000
 base-part c =
     base-most _ _ (c .before .before .before .before .pre .0)
     (c .started-periods .ensures .range 48 (omega arith) (omega arith))
 
-rate-part : (c : tie.Start) → c .args .area .rate .0 * c .args .km .0 ≤ 1415000
+rate-part : (c : tie.Start) → c .args .area .«price_per_km» .0 * c .args .km .0 ≤ 1415000
 rate-part c = rate-most _ _ (c .pre .0) (c .pre .1 .1)
 
 started-periods-requires : tie.Need-started-periods-requires

@@ -1,31 +1,28 @@
 -- An area of a faultless tariff is read at its place, which lies within the tariff, and put in its units.
 -- Assumes nothing.
-use Prim.Native.Nat.{_+_, _≤_}
 use native.Mathlib.Omega.{arith}
-use mathlib.Core.Path.{ap, _∙_}
 use borrow.Author.Needs.{needs}
-use lib.ListN.{length}
-use Rattle.tariff.specs.Fields.{areaPlace}
-use Rattle.tariff.specs.Areas.{areaOf, areaAt}
-use Rattle.tariff.proofs.Faultless.{area-inside}
+use Rattle.tariff.specs.Contracts.{AreaThere}
+use Rattle.tariff.specs.Areas.{areaAt}
+use Rattle.tariff.proofs.Faultless.{area-there}
 use Rattle.tariff.proofs.areas.area.Statement.{statement}
 use Rattle.tariff.proofs.areas.area.Tie as tie
 
-inside : (c : tie.Start) → areaPlace (c .args .counts) (c .args .number) + 29 ≤ length (c .args .tariff .now)
-inside c = area-inside (c .args .tariff .now) (c .args .counts) (c .args .number) (c .pre)
+there : (c : tie.Start) → AreaThere (c .args .tariff .now) (c .args .counts) (c .args .number)
+there c = area-there (c .args .tariff .now) (c .args .counts) (c .args .number) (c .pre)
 
-mul-area-fields : tie.Need-mul-area-fields
-mul-area-fields c = omega (arith, inside (c .before))
+area-place-requires : tie.Need-area-place-requires
+area-place-requires c κs = there (c .before) .few
 
 area-fields-requires : tie.Need-area-fields-requires
-area-fields-requires c κs = inside (c .before)
+area-fields-requires c κs = omega (arith, c .area-place .ensures, there (c .before .before) .inside)
 
 area-of-requires : tie.Need-area-of-requires
 area-of-requires c κs = search needs
 
 returns : tie.Need-returns
 unfolding areaAt
-returns c = c .area-of .ensures ∙ ap areaOf (c .before .area-fields .ensures)
+returns c = rw (c .area-of .ensures, c .before .area-fields .ensures, c .before .before .area-place .ensures)
 
 pub area-spec : {M : Type 1} → statement M
-area-spec = tie.close (tie.spec mul-area-fields area-fields-requires area-of-requires returns)
+area-spec = tie.close (tie.spec area-place-requires area-fields-requires area-of-requires returns)

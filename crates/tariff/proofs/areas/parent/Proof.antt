@@ -1,26 +1,27 @@
 -- The parent is one byte of the area's record, which lies within the tariff; in a faultless tariff it is the number of an area.
 -- Assumes nothing.
-use Prim.Native.Nat.{_+_, _≤_}
 use native.Mathlib.Omega.{arith}
+use mathlib.Core.Path.{_≡_, _∙_}
 use borrow.Author.Needs.{needs}
-use lib.ListN.{length}
-use Rattle.tariff.specs.Fields.{areaFields, areaPlace}
-use Rattle.tariff.proofs.Faultless.{faultless, area-inside}
+use Rattle.tariff.specs.Fields.{areaFields}
+use Rattle.tariff.specs.Areas.{parentOf}
+use Rattle.tariff.specs.Contracts.{AreaThere}
+use Rattle.tariff.proofs.Faultless.{faultless, area-there}
 use Rattle.tariff.proofs.Within.{parent-there}
 use Rattle.tariff.proofs.areas.parent.Statement.{statement}
 use Rattle.tariff.proofs.areas.parent.Tie as tie
 
-inside : (c : tie.Start) → areaPlace (c .args .counts) (c .args .number) + 29 ≤ length (c .args .tariff .now)
-inside c = area-inside (c .args .tariff .now) (c .args .counts) (c .args .number) (c .pre)
+there : (c : tie.Start) → AreaThere (c .args .tariff .now) (c .args .counts) (c .args .number)
+there c = area-there (c .args .tariff .now) (c .args .counts) (c .args .number) (c .pre)
 
-mul-one-at : tie.Need-mul-one-at
-mul-one-at c = omega (arith, inside (c .before))
+area-place-requires : tie.Need-area-place-requires
+area-place-requires c κs = there (c .before) .few
 
 add-one-at : tie.Need-add-one-at
-add-one-at c = omega (arith, inside (c .before))
+add-one-at c = omega (arith, c .area-place .ensures, there (c .before .before) .inside)
 
 one-at-requires : tie.Need-one-at-requires
-one-at-requires c κs = omega (arith, inside (c .before))
+one-at-requires c κs = omega (arith, c .area-place .ensures, there (c .before .before) .inside)
 
 cast-result : tie.Need-cast-result
 cast-result c = search needs
@@ -28,15 +29,15 @@ cast-result c = search needs
 returns : tie.Need-returns
 unfolding areaFields
 returns c =
-    let start = c .before .before in
-    let b = start .args .tariff .now in
-    let counts = start .args .counts in
-    let value = c .one-at .ensures .value in
+    let start = c .before .before .before in
+    let value : c .one-at .result ≡ parentOf (start .args .tariff .now) (start .args .counts) (start .args .number) =
+    c .one-at .ensures .value ∙ rw (c .before .area-place .ensures)
+    in
     record {
       value = value;
       there =
-          rw value (parent-there (faultless b counts (start .pre .0)) (start .args .number) (start .pre .1));
+          rw value (parent-there (faultless (start .args .tariff .now) (start .args .counts) (start .pre .0)) (start .args .number) (start .pre .1));
     }
 
 pub parent-spec : {M : Type 1} → statement M
-parent-spec = tie.close (tie.spec mul-one-at add-one-at one-at-requires cast-result returns)
+parent-spec = tie.close (tie.spec area-place-requires add-one-at one-at-requires cast-result returns)

@@ -1,7 +1,7 @@
 -- `tariff::rows::row_stands` meets its contract: it looks at the four stops of `rowStands`.
 -- Assumes nothing.
 use borrow.Author.Needs.{needs}
-use Rattle.tariff.specs.Rows.{rowStands}
+use Rattle.tariff.specs.Contracts.{rowStands}
 use Rattle.tariff.proofs.rows.row_stands.Statement.{statement}
 use Rattle.tariff.proofs.rows.row_stands.Tie as tie
 

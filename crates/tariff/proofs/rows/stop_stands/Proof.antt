@@ -1,7 +1,7 @@
 -- `tariff::rows::stop_stands` meets its contract: it tests length and kind as one number, and the values.
 -- Assumes nothing.
 use borrow.Author.Needs.{needs}
-use Rattle.tariff.specs.Rows.{stopStands}
+use Rattle.tariff.specs.Contracts.{stopStands}
 use Rattle.tariff.proofs.RowLaws.{head-tests}
 use Rattle.tariff.proofs.rows.stop_stands.Statement.{statement}
 use Rattle.tariff.proofs.rows.stop_stands.Tie as tie

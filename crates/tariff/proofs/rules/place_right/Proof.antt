@@ -1,10 +1,9 @@
--- `tariff::rules::place_right` meets its contract: each return is a case of the definition, with the parent's level and flat read from
--- their places in its record.
+-- `tariff::rules::place_right` meets its contract: each return is a case of the definition, with the parent's level and flat as its
+-- record has them: it is there, since it is earlier.
 -- Assumes nothing.
 use native.Mathlib.Omega.{arith}
 use borrow.Author.Needs.{needs}
 use borrow.Author.Tests.{eq-eqb, ne-eqb, lt-ltb, le-ltb}
-use Rattle.tariff.specs.Fields.{areaFields}
 use Rattle.tariff.specs.Rules.{placeRight}
 use Rattle.tariff.proofs.rules.place_right.Statement.{statement}
 use Rattle.tariff.proofs.rules.place_right.Tie as tie
@@ -22,30 +21,21 @@ returns-2 c =
     let a = c .before .before .before .before .args in
     rw (ne-eqb (a .so-far .areas) 0 (omega arith), le-ltb (a .f .parent) (a .so-far .areas) (omega arith))
 
-mul-above : tie.Need-mul-above
-mul-above c = search needs
+level-there-requires : tie.Need-level-there-requires
+level-there-requires c κs = record { few = omega arith; inside = omega arith }
 
-add-one-at : tie.Need-add-one-at
-add-one-at c = search needs
-
-one-at-requires : tie.Need-one-at-requires
-one-at-requires c κs = search needs
-
-add-two-at : tie.Need-add-two-at
-add-two-at c = search needs
-
-two-at-requires : tie.Need-two-at-requires
-two-at-requires c κs = search needs
+flat-there-requires : tie.Need-flat-there-requires
+flat-there-requires c κs = record { few = omega arith; inside = omega arith }
 
 returns-3 : tie.Need-returns-3
-unfolding placeRight areaFields
+unfolding placeRight
 returns-3 c =
     let a = c .before .before .before .before .before .before .before .before .before .before .args in
     rw (
       ne-eqb (a .so-far .areas) 0 (omega arith),
       lt-ltb (a .f .parent) (a .so-far .areas) (omega arith),
-      c .before .before .one-at .ensures .value,
-      c .before .two-at .ensures .value,
+      c .before .before .level-there .ensures,
+      c .before .flat-there .ensures,
     )
 
 pub place-right-spec : {M : Type 1} → statement M
@@ -55,9 +45,6 @@ place-right-spec =
     returns
     cast-parent
     returns-2
-    mul-above
-    add-one-at
-    one-at-requires
-    add-two-at
-    two-at-requires
+    level-there-requires
+    flat-there-requires
     returns-3)

@@ -1,0 +1,69 @@
+-- What serves contracts alone: what finding a ride and its price asks, and each answer with its range.
+use Prim.Native.Nat.{ℕ, _*_, _≤_, _<_}
+use mathlib.Core.Path.{_≡_}
+use mathlib.Core.List.{List}
+use mathlib.Core.Bool.{Bool, true}
+use lib.ListN.{length}
+use Rattle.units.specs.Day.{dayMinutes}
+use Rattle.tariff.specs.declared.Area.{Area}
+use Rattle.tariff.specs.declared.Counts.{Counts}
+use Rattle.tariff.specs.declared.Stop.{Stop}
+use Rattle.tariff.specs.Rules.{mostMetres}
+use Rattle.tariff.specs.Areas.{Read, AreaRanges, StopRanges}
+use Rattle.trip.specs.declared.Trip.{Trip}
+use Rattle.trip.specs.Record.{tripSize}
+use Rattle.trip.specs.Moments.{inOrder}
+use Rattle.trip.specs.Trips.{stopsKnown}
+use Rattle.fare.specs.declared.Ride.{Ride}
+use Rattle.fare.specs.Distance.{mostKm}
+use Rattle.fare.specs.Rides.{stopOf, rideOf}
+use Rattle.fare.specs.Prices.{mostFar, mostPrice, step1, step2, step3, priceOf}
+
+-- a trip's bytes with n stops, each of which the faultless tariff has
+pub record Riding (tariff : List ℕ) (counts : Counts) (trip : List ℕ) (n : ℕ) : Type 0 where
+  pub read : Read tariff counts
+  pub known : stopsKnown trip n (counts .stops) ≡ true
+  pub fits : tripSize n ≤ length trip
+
+-- two stops at least, and check-out at most a day after check-in
+pub record InOrder (trip : Trip) : Type 0 where
+  pub two : 2 ≤ trip .stops
+  pub most : trip .stops ≤ 32
+  pub times : inOrder (trip .checkin .0) (trip .checkout .0) ≡ true
+
+-- a stop on the plane
+pub record OnPlane (stop : Stop) : Type 0 where
+  pub x : stop .x .0 ≤ mostMetres
+  pub y : stop .y .0 ≤ mostMetres
+
+pub record StopOf (tariff : List ℕ) (counts : Counts) (trip : List ℕ) (i : ℕ) (r : Stop) : Type 0 where
+  pub value : r ≡ stopOf tariff counts trip i
+  pub ranges : StopRanges (counts .areas) r
+
+pub record RideOf (tariff : List ℕ) (counts : Counts) (bytes : List ℕ) (trip : Trip) (r : Ride) : Type 0 where
+  pub value : r ≡ rideOf tariff counts bytes trip
+  pub there : r .area < counts .areas
+  pub km : r .km .0 ≤ mostKm
+  pub minutes : r .minutes .0 ≤ dayMinutes
+
+pub record Step1 (area : Area) (minutes km r : ℕ) : Type 0 where
+  pub value : r ≡ step1 area minutes km
+  pub range : r ≤ mostFar
+
+pub record Step2 (area : Area) (minutes level amount r : ℕ) : Type 0 where
+  pub value : r ≡ step2 area minutes level amount
+  pub range : r ≤ amount
+
+pub record Step3 (area : Area) (class amount r : ℕ) : Type 0 where
+  pub value : r ≡ step3 area class amount
+  pub range : r ≤ 2 * amount
+
+-- an area of a faultless tariff, and a ride of at most a day across the plane
+pub record Priceable (area : Area) (ride : Ride) : Type 0 where
+  pub ranges : AreaRanges area
+  pub minutes : ride .minutes .0 ≤ dayMinutes
+  pub km : ride .km .0 ≤ mostKm
+
+pub record Price (area : Area) (ride : Ride) (child : Bool) (r : ℕ) : Type 0 where
+  pub value : r ≡ priceOf area ride child
+  pub range : r ≤ mostPrice

@@ -1,0 +1,47 @@
+-- What serves contracts alone: records that requires and ensures speak of, and stops in a row, which the reading of a tariff passes over
+-- four at a time.
+use Prim.Native.Nat.{ℕ, zero, suc, _+_, _*_, _≤_, _<_}
+use mathlib.Core.Path.{_≡_}
+use mathlib.Core.List.{List}
+use mathlib.Core.Bool.{Bool, cond, _&&_}
+use lib.ListN.{length}
+use lib.Dec.{eqb}
+use Rattle.wire.specs.Number.{getLe}
+use Rattle.tariff.specs.declared.Counts.{Counts}
+use Rattle.tariff.specs.Layout.{areaSize, stopBody, stopSize, mostAreas, areaPlace}
+use Rattle.tariff.specs.Fields.{stopFields}
+use Rattle.tariff.specs.Rules.{mostMoney, flatOf, stopRight}
+use Rattle.tariff.specs.Areas.{parentOf}
+
+-- an area's record is there, whatever follows it: so it is while the tariff is still being read
+pub record AreaThere (b : List ℕ) (counts : Counts) (number : ℕ) : Type 0 where
+  pub few : number < mostAreas
+  pub inside : areaPlace counts number + areaSize ≤ length b
+
+pub record ParentOf (b : List ℕ) (counts : Counts) (number r : ℕ) : Type 0 where
+  pub value : r ≡ parentOf b counts number
+  pub there : r < counts .areas
+
+pub record FlatOf (b : List ℕ) (counts : Counts) (number r : ℕ) : Type 0 where
+  pub value : r ≡ flatOf b counts number
+  pub range : r ≤ mostMoney
+
+-- a stop record: its length and kind, and its values are right
+unfoldable pub stopStands : List ℕ → ℕ → ℕ → Bool
+stopStands b at areas = (eqb (getLe 2 b at) (2 + stopBody) && eqb (getLe 2 b (at + 2)) 2) && stopRight (stopFields b at) areas
+
+-- four of them, one after another
+abbrev pub rowStops : ℕ
+rowStops = 4
+
+abbrev pub rowSize : ℕ
+rowSize = rowStops * stopSize
+
+unfoldable pub rowStands : List ℕ → ℕ → ℕ → Bool
+rowStands b at areas =
+    stopStands b at areas && stopStands b (at + stopSize) areas && stopStands b (at + 2 * stopSize) areas && stopStands b (at + 3 * stopSize) areas
+
+-- the rows that stand one after another from a place on, `most` at most
+unfoldable pub rowsStanding : ℕ → List ℕ → ℕ → ℕ → ℕ
+rowsStanding zero b at areas = 0
+rowsStanding (suc most) b at areas = cond (rowStands b at areas) (suc (rowsStanding most b (at + rowSize) areas)) 0
