@@ -2,13 +2,13 @@
 -- Assumes nothing.
 use Prim.Native.Nat.{ℕ, zero, suc, _+_, _-_, _≤_, _<_}
 use native.Mathlib.Omega.{arith}
-use native.Mathlib.Decide.{decLt}
+use native.Mathlib.Decide.{ℕ-discrete, decLt}
 use mathlib.Core.Path.{_≡_, refl, sym, ap, _∙_}
 use mathlib.Core.Logic.{_⊎_, inl, inr}
 use mathlib.Core.Bool.{Bool, true, false, not, _&&_, _||_, and-false, or-true, false≢true}
 use mathlib.Core.List.{List, [], _∷_, _++_, append-nil, append-assoc}
-use borrow.Author.Tests.{lt-ltb, le-ltb, le-leb, lt-leb, ltb-false}
-use lib.ListN.{length, drop, length-append}
+use borrow.Author.Tests.{lt-ltb, le-ltb, le-leb, lt-leb, ltb-false, eq-eqb, ne-eqb}
+use lib.ListN.{length, take, drop, length-append}
 use lib.Seq.{take-append-le, drop-append-le}
 use lib.Dec.{leb, ltb}
 use Rattle.wire.specs.Number.{getLe}
@@ -17,12 +17,15 @@ use Rattle.wire.specs.declared.Frame.{Frame}
 use Rattle.wire.specs.declared.Frame.the-variants as frame
 use Rattle.wire.proofs.Number.{get-front}
 use Rattle.wire.proofs.Frames.{tested, broken-back, whole, whole-back}
+use Rattle.statement.specs.Record.{largestSize}
+use Rattle.settle.specs.Runs.{Offer, runFrom}
 use Rattle.roll.specs.declared.Line.{Line}
 use Rattle.roll.specs.declared.Line.the-variants.{Refused}
 use Rattle.roll.specs.declared.Step.{Step}
 use Rattle.roll.specs.declared.Step.the-variants.{End, More, Record, Broken}
-use Rattle.roll.specs.Lines.{unfinished, outcomeAt, stepOf, bookStep, linesOf, joined, isMore, Come, fetched, fedLines}
-use Rattle.roll.proofs.Starts.{few-unfinished, length-decides, more-way, broken-way, whole-way, record-within}
+use Rattle.roll.specs.Lines.{offersOf, brokenIn, lineOf, linesIn, linesOf}
+use Rattle.roll.specs.Pieces.{unfinished, outcomeAt, stepOf, bookStep, joined, isMore, Come, fetched, fedLines}
+use Rattle.roll.proofs.Starts.{few-unfinished, length-decides, more-way, end-way, broken-way, whole-way, record-within}
 
 -- ---- Where a piece tells what stands at its start: its length is out of range, or its record ends within it.
 
@@ -220,15 +223,37 @@ afterStep More on = []
 afterStep Broken on = Refused 5 ∷ []
 afterStep (Record line used) on = line ∷ on line used
 
+-- a whole record is the first of the roll's
+first-offer :
+    (records : ℕ) (roll : List ℕ) (kind body : ℕ) → frameAt roll 0 ≡ frame.Whole kind body
+    → offersOf (suc records) roll ≡ record { bytes = take (4 + body) roll; room = largestSize } ∷ offersOf records (drop (4 + body) roll)
+unfolding offersOf
+first-offer records roll kind body e = rw (e, offersOf)
+
+no-offer : (records : ℕ) (roll : List ℕ) → frameAt roll 0 ≡ frame.Broken → offersOf (suc records) roll ≡ []
+unfolding offersOf
+no-offer records roll e = rw (e, offersOf)
+
 lines-step :
-    (records : ℕ) (tariff book roll : List ℕ) (s : Step) → stepOf tariff book roll false ≡ s
+    (records : ℕ) (tariff book roll : List ℕ)
     → linesOf (suc records) tariff book roll
-    ≡ afterStep s (λ line used. linesOf records tariff (bookStep tariff book roll false) (drop used roll))
-unfolding linesOf afterStep
-lines-step records tariff book roll End e = rw (e, linesOf)
-lines-step records tariff book roll More e = rw (e, linesOf)
-lines-step records tariff book roll Broken e = rw (e, linesOf)
-lines-step records tariff book roll (Record line used) e = rw (e, linesOf)
+    ≡ afterStep (stepOf tariff book roll false) (λ line used. linesOf records tariff (bookStep tariff book roll false) (drop used roll))
+unfolding linesOf linesIn runFrom offersOf brokenIn outcomeAt afterStep
+lines-step records tariff book roll = go (frameAt roll 0) refl
+  where
+    go :
+        (f : Frame) → frameAt roll 0 ≡ f
+        → linesOf (suc records) tariff book roll
+        ≡ afterStep (stepOf tariff book roll false) (λ line used. linesOf records tariff (bookStep tariff book roll false) (drop used roll))
+    go frame.Broken e =
+        elim (ℕ-discrete (length roll) 0) [
+          | yes none ↦ rw (end-way tariff book roll false refl none .0, no-offer records roll e, eq-eqb (length roll) 0 none)
+          | no some ↦ rw (broken-way tariff book roll false refl some e .0, no-offer records roll e, e, ne-eqb (length roll) 0 some)
+        ]
+    go (frame.Whole kind body) e =
+        let way = whole-way tariff book roll false refl kind body e in
+        let facts = whole roll 0 kind body e in
+        rw (way .0, way .1, first-offer records roll kind body e, e, ne-eqb (length roll) 0 (λ none. omega arith))
 
 fed-step :
     (records : ℕ) (tariff book kept : List ℕ) (pieces : List (List ℕ)) (s : Step)
@@ -265,7 +290,7 @@ behind records tariff book roll come all start on (Record line used) e =
 pub fed-same :
     (records : ℕ) (tariff book kept : List ℕ) (pieces : List (List ℕ))
     → fedLines records tariff book kept pieces ≡ linesOf records tariff book (kept ++ joined pieces)
-unfolding fedLines linesOf
+unfolding fedLines linesOf linesIn runFrom offersOf brokenIn
 fed-same zero tariff book kept pieces = refl
 fed-same (suc records) tariff book kept pieces =
     let come = fetched tariff book kept pieces in
@@ -273,7 +298,7 @@ fed-same (suc records) tariff book kept pieces =
     let start = same-start tariff book (kept ++ joined pieces) come all in
     fed-step records tariff book kept pieces (stepOf tariff book (come .kept) (come .more)) refl
     ∙ behind records tariff book (kept ++ joined pieces) come all start (fed-same records tariff) (stepOf tariff book (come .kept) (come .more)) refl
-    ∙ sym (lines-step records tariff book (kept ++ joined pieces) (stepOf tariff book (come .kept) (come .more)) (start .step))
+    ∙ sym (rw (start .step) at (lines-step records tariff book (kept ++ joined pieces)))
 
 -- A roll cut into pieces anywhere, from a book on with nothing kept.
 pub cut-same :

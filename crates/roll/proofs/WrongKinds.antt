@@ -22,7 +22,8 @@ use Rattle.settle.specs.Outcome.{refused}
 use Rattle.settle.proofs.Ways.{sound-way, refused-way}
 use Rattle.roll.specs.declared.Line.the-variants.{Refused}
 use Rattle.roll.specs.declared.Step.the-variants.{Record}
-use Rattle.roll.specs.Lines.{lineOf, outcomeAt, stepOf, bookStep}
+use Rattle.roll.specs.Lines.{lineOf}
+use Rattle.roll.specs.Pieces.{outcomeAt, stepOf, bookStep}
 use Rattle.roll.proofs.Starts.{whole-way, whole-finished}
 
 -- the record alone has the frame that it has in the piece

@@ -14,7 +14,8 @@ use Rattle.roll.specs.declared.Line.{Line}
 use Rattle.roll.specs.declared.Line.the-variants.{Charged, Refused}
 use Rattle.roll.specs.declared.Step.{Step}
 use Rattle.roll.specs.declared.Step.the-variants.{End, More, Record, Broken}
-use Rattle.roll.specs.Lines.{lineOf, stepOf, bookStep}
+use Rattle.roll.specs.Lines.{lineOf}
+use Rattle.roll.specs.Pieces.{stepOf, bookStep}
 
 -- the cents of a line, and of a step's
 abbrev pub lineCents : Line → ℕ

@@ -1,19 +1,41 @@
--- Paper 01, "The program": what each record of a roll comes to, and what its line says.
+-- Paper 01, "The program": the records of a roll, and what their lines say.
 use Prim.Native.Nat.{ℕ, zero, suc, _+_}
 use mathlib.Core.List.{List, [], _∷_, _++_}
-use mathlib.Core.Bool.{Bool, true, false, cond, not, _&&_, _||_}
+use mathlib.Core.Bool.{Bool, true, false, cond}
 use lib.ListN.{length, take, drop}
-use lib.Dec.{leb, ltb, eqb}
-use Rattle.wire.specs.Number.{getLe}
+use lib.Dec.{eqb}
 use Rattle.wire.specs.Frame.{frameAt}
 use Rattle.wire.specs.declared.Frame.the-variants as frame
 use Rattle.statement.specs.Record.{Part, largestSize}
 use Rattle.statement.specs.Reading.{sumOf}
-use Rattle.settle.specs.Outcome.{Outcome, refused, accepted, settled, bookAfter}
+use Rattle.settle.specs.Outcome.{Outcome, refused, accepted}
+use Rattle.settle.specs.Runs.{Offer, Settlement, runFrom}
 use Rattle.roll.specs.declared.Line.{Line}
 use Rattle.roll.specs.declared.Line.the-variants.{Charged, Refused}
-use Rattle.roll.specs.declared.Step.{Step}
-use Rattle.roll.specs.declared.Step.the-variants.{End, More, Record, Broken}
+
+-- ---- The records of a roll: at most so many, until its end or a broken frame, which counts as a record.
+
+-- each is offered with room for the largest record
+unfoldable pub offersOf : ℕ → List ℕ → List Offer
+offersOf zero roll = []
+offersOf (suc records) roll =
+    elim (frameAt roll 0) [
+      | frame.Broken ↦ []
+      | frame.Whole kind body ↦
+          record { bytes = take (4 + body) roll; room = largestSize } ∷ offersOf records (drop (4 + body) roll)
+    ]
+
+-- whether a broken frame comes among them; no byte at all is the roll's end
+unfoldable pub brokenIn : ℕ → List ℕ → Bool
+brokenIn zero roll = false
+brokenIn (suc records) roll =
+    cond (eqb (length roll) 0) false
+    (elim (frameAt roll 0) [
+      | frame.Broken ↦ true
+      | frame.Whole kind body ↦ brokenIn records (drop (4 + body) roll)
+    ])
+
+-- ---- The lines.
 
 -- a part's line: area, km, minutes, opening minute, sum of its charges
 unfoldable pub partLine : Part → Line
@@ -26,83 +48,12 @@ lineOf (refused number place) = Refused number
 lineOf (accepted book []) = Refused 0
 lineOf (accepted book (part ∷ more)) = partLine part
 
--- a piece ends before its first record does: fewer than 4 bytes, or a length that more bytes could fill
-unfoldable pub unfinished : List ℕ → Bool
-unfinished piece =
-    ltb (length piece) 4
-    || (leb 2 (getLe 2 piece 0) && leb (getLe 2 piece 0) 1024 && ltb (length piece) (2 + getLe 2 piece 0))
+-- the lines of a run
+unfoldable pub linesIn : List Settlement → List Line
+linesIn [] = []
+linesIn (s ∷ more) = lineOf (s .outcome) ∷ linesIn more
 
--- what the record at the start of a piece comes to, on a book; the statement has room for the largest record
-unfoldable pub outcomeAt : List ℕ → List ℕ → List ℕ → ℕ → Outcome
-outcomeAt tariff book piece used = settled tariff book (take used piece) largestSize
-
--- what stands at the start of a piece, where the roll may go on behind it or not
-unfoldable pub stepOf : List ℕ → List ℕ → List ℕ → Bool → Step
-stepOf tariff book piece more =
-    cond (more && unfinished piece) More
-    (cond (eqb (length piece) 0) End
-    (elim (frameAt piece 0) [
-      | frame.Broken ↦ Broken
-      | frame.Whole kind body ↦ Record (lineOf (outcomeAt tariff book piece (4 + body))) (4 + body)
-    ]))
-
--- the book after it
-unfoldable pub bookStep : List ℕ → List ℕ → List ℕ → Bool → List ℕ
-bookStep tariff book piece more =
-    cond (more && unfinished piece) book
-    (cond (eqb (length piece) 0) book
-    (elim (frameAt piece 0) [
-      | frame.Broken ↦ book
-      | frame.Whole kind body ↦ bookAfter (outcomeAt tariff book piece (4 + body)) book
-    ]))
-
--- ---- A whole roll: at most so many records, until its end or a broken frame, which counts as a record.
-
+-- the lines of a roll, from a book on: those of its records, settled as one run; a broken frame is refused with 5 and ends it
 unfoldable pub linesOf : ℕ → List ℕ → List ℕ → List ℕ → List Line
-linesOf zero tariff book roll = []
-linesOf (suc records) tariff book roll =
-    elim (stepOf tariff book roll false) [
-      | End ↦ []
-      | More ↦ []
-      | Broken ↦ Refused 5 ∷ []
-      | Record line used ↦ line ∷ linesOf records tariff (bookStep tariff book roll false) (drop used roll)
-    ]
-
--- ---- A roll that comes in pieces.
-
--- the pieces, one behind another
-unfoldable pub joined : List (List ℕ) → List ℕ
-joined [] = []
-joined (piece ∷ pieces) = piece ++ joined pieces
-
-abbrev pub isMore : Step → Bool
-isMore End = false
-isMore More = true
-isMore Broken = false
-isMore (Record line used) = false
-
--- the bytes that have come and are not settled yet, whether the roll can go on behind them, and the pieces that have not come
-pub record Come : Type 0 where
-  pub kept : List ℕ
-  pub more : Bool
-  pub pieces : List (List ℕ)
-
--- while a step says that the record is not whole yet, the next piece comes behind what is kept; where no piece is left, nothing can come
-unfoldable pub fetched : List ℕ → List ℕ → List ℕ → List (List ℕ) → Come
-fetched tariff book kept [] = record { kept = kept; more = not (isMore (stepOf tariff book kept true)); pieces = [] }
-fetched tariff book kept (piece ∷ pieces) =
-    cond (isMore (stepOf tariff book kept true)) (fetched tariff book (kept ++ piece) pieces)
-    (record { kept = kept; more = true; pieces = piece ∷ pieces })
-
--- the lines of a roll that comes so
-unfoldable pub fedLines : ℕ → List ℕ → List ℕ → List ℕ → List (List ℕ) → List Line
-fedLines zero tariff book kept pieces = []
-fedLines (suc records) tariff book kept pieces =
-    let come = fetched tariff book kept pieces in
-    elim (stepOf tariff book (come .kept) (come .more)) [
-      | End ↦ []
-      | More ↦ []
-      | Broken ↦ Refused 5 ∷ []
-      | Record line used ↦
-          line ∷ fedLines records tariff (bookStep tariff book (come .kept) (come .more)) (drop used (come .kept)) (come .pieces)
-    ]
+linesOf records tariff book roll =
+    linesIn (runFrom tariff book (offersOf records roll)) ++ cond (brokenIn records roll) (Refused 5 ∷ []) []

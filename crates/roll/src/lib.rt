@@ -16,7 +16,7 @@ use wire::two_at;
 ghost use mathlib.Core.Path.{_≡_};
 ghost use Rattle.statement.specs.Contracts.{RecordAt};
 ghost use Rattle.settle.specs.Contracts.{Ready};
-ghost use Rattle.roll.specs.Lines.{unfinished};
+ghost use Rattle.roll.specs.Pieces.{unfinished};
 ghost use Rattle.roll.specs.Contracts.{Fresh, LineIn, SettledLine, Stepped};
 
 // At most so many records of a roll are settled.

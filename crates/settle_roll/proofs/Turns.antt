@@ -14,7 +14,7 @@ use Rattle.roll.specs.declared.Line.{Line}
 use Rattle.roll.specs.declared.Step.{Step}
 use Rattle.roll.specs.declared.Step.the-variants.{More, Record}
 use Rattle.statement.specs.Contracts.{mostCents}
-use Rattle.roll.specs.Lines.{stepOf}
+use Rattle.roll.specs.Pieces.{stepOf}
 use Rattle.roll.specs.Contracts.{lineCents, stepCents}
 use Rattle.roll.proofs.Starts.{record-within, more-short}
 use Rattle.settle_roll.specs.declared.run.Tally.{Tally}
