@@ -1,4 +1,5 @@
 pub mod Promises
+pub mod Rolls
 pub mod Answers
 pub mod Midnight
 pub mod Table

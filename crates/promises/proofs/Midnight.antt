@@ -14,7 +14,8 @@ use Rattle.book.specs.Words.{freshBook, tripsOf, openingOf}
 use Rattle.book.specs.Windows.{belongs, windowOf}
 use Rattle.book.proofs.WordLaws.{word-fresh}
 use Rattle.settle.specs.Outcome.{Outcome, refused, accepted, settled, bookAfter}
-use Rattle.promises.specs.Runs.{Offer, bookOf}
+use Rattle.settle.specs.Runs.{Offer, bookFrom}
+use Rattle.promises.specs.Runs.{bookOf}
 use Rattle.promises.specs.Conditions.{RefusedBy, by-tariff, by-others}
 use Rattle.promises.specs.Moved.{MovedTrip, MovedBook, MovedOutcome, both-refused, both-accepted, MovedRun, moved-none, moved-more}
 use Rattle.promises.proofs.Answers.{accepted-is, accepts, accepted-meets-none, refused-is, refused-exactly}
@@ -122,14 +123,20 @@ fresh-moved d =
       in-calendar = omega (arith, word-fresh 2);
     }
 
+-- a run of such trips, from such books on
+run-moved :
+    (tariff : List ℕ) {d : ℕ} {run run′ : List Offer} → MovedRun d run run′ → {book book′ : List ℕ} → MovedBook d book book′
+    → MovedBook d (bookFrom tariff book run) (bookFrom tariff book′ run′)
+unfolding bookFrom
+run-moved tariff moved-none before = before
+run-moved tariff (moved-more {o} {o′} trip room later) before =
+    run-moved tariff later (book-after (offer-moved tariff {o = o} {o′ = o′} trip room before) before)
+
 -- One cap for one night, whatever the dates. Where every trip of a run from a fresh book is moved by the same number of minutes, the books
 -- differ in the opening and the last check-out alone.
 pub night-alike :
     (tariff : List ℕ) {d : ℕ} {run run′ : List Offer} → MovedRun d run run′ → MovedBook d (bookOf tariff run) (bookOf tariff run′)
-unfolding bookOf
-night-alike tariff {d} moved-none = fresh-moved d
-night-alike tariff {d} (moved-more {o} {o′} {run} {run′} trip room before) =
-    book-after (offer-moved tariff {o = o} {o′ = o′} trip room (night-alike tariff before)) (night-alike tariff before)
+night-alike tariff {d} moved = run-moved tariff moved (fresh-moved d)
 
 -- And each trip of the night is refused or accepted as before, with the same charges.
 pub night-outcomes :

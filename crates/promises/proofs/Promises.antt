@@ -31,7 +31,8 @@ use Rattle.tariff.specs.Areas.{areaAt, Read}
 use Rattle.book.specs.Words.{secondSum, allSum}
 use Rattle.book.specs.Sound.{sound}
 use Rattle.book.specs.Caps.{secondCap, allCap}
-use Rattle.promises.specs.Runs.{Offer, bookOf, isChild, ridesOf, treeOf}
+use Rattle.settle.specs.Runs.{Offer}
+use Rattle.promises.specs.Runs.{bookOf, isChild, ridesOf, treeOf, PromiseThree}
 use Rattle.promises.proofs.Trees.{is-tree}
 use Rattle.promises.proofs.RunLaws.{Kept, kept}
 
@@ -83,6 +84,16 @@ module _ (tariff : List ℕ) (counts : Counts) (read : Read tariff counts) (ride
     -- area the smaller of its cap and its own rides' prices with the results of the areas right below it.
     pub one-class-sum : (class : ℕ) → oneClass class rides ≡ true → charges rides ≡ totalsAlone tree class rides
     one-class-sum class one = one-class-total tree-is class (run-kept .charged) one
+
+    -- All of it in one.
+    pub promise-three : PromiseThree tree rides
+    promise-three =
+        record {
+          at-most-prices = charges-at-most-prices;
+          caps-hold = caps-never-passed;
+          cut-at-full = cut-only-at-a-full-cap;
+          one-class-adds = one-class-sum;
+        }
 
     -- The book's words for the rider are the totals of these charges, in every area.
     pub words-are-totals :

@@ -39,8 +39,9 @@ use Rattle.book.proofs.PostedLaws.{NotCarried, added, posted-adult, posted-chil
 use Rattle.book.proofs.SoundAgain.{sound-again}
 use Rattle.statement.specs.Record.{Part}
 use Rattle.settle.specs.Outcome.{Outcome, refused, accepted, partOf, settled, bookAfter}
+use Rattle.settle.specs.Runs.{Offer, runFrom, bookFrom}
 use Rattle.promises.specs.Conditions.{checkoutOf}
-use Rattle.promises.specs.Runs.{Offer, bookOf, isChild, carries, placeOf, entryOf, ridesWith, ridesAfter, ridesOf, treeOf}
+use Rattle.promises.specs.Runs.{bookOf, isChild, carries, placeOf, entryOf, ridesWith, ridesAfter, ridesOver, ridesOf, treeOf}
 use Rattle.promises.proofs.Trees.{lies-within}
 use Rattle.promises.proofs.TripConditions.{good-read}
 use Rattle.promises.proofs.GoodRides.{good-ride}
@@ -275,13 +276,18 @@ kept-after {tariff} {counts} {rider} {book} {rides} read known k bytes room (acc
     (rw (same, a .window-is) at (parts-are a))
     (good-read bytes (counts .stops) (a .trip) is .to)
 
--- Whatever is settled from a fresh book, one trip after another.
+-- Whatever is settled, one trip after another.
+kept-from :
+    {tariff : List ℕ} {counts : Counts} → Read tariff counts → {rider : ℕ} → rider < 21 → (run : List Offer) {book : List ℕ} {rides : List ChargedRide}
+    → Kept tariff counts rider book rides
+    → Kept tariff counts rider (bookFrom tariff book run) (ridesOver tariff counts rider (runFrom tariff book run) rides)
+unfolding bookFrom runFrom ridesOver
+kept-from read known [] k = k
+kept-from {tariff} read known (o ∷ run) {book} k =
+    kept-from read known run (kept-after read known k (o .bytes) (o .room) (settled tariff book (o .bytes) (o .room)) refl)
+
+-- From a fresh book.
 pub kept :
     (tariff : List ℕ) (counts : Counts) → Read tariff counts → (rider : ℕ) → rider < 21 → (run : List Offer)
     → Kept tariff counts rider (bookOf tariff run) (ridesOf tariff counts rider run)
-unfolding bookOf ridesOf
-kept tariff counts read rider known [] = kept-fresh tariff counts rider
-kept tariff counts read rider known (o ∷ run) =
-    kept-after read known (kept tariff counts read rider known run) (o .bytes) (o .room)
-    (settled tariff (bookOf tariff run) (o .bytes) (o .room))
-    refl
+kept tariff counts read rider known run = kept-from read known run (kept-fresh tariff counts rider)

@@ -11,7 +11,7 @@ use Rattle.book.specs.Words.{tripsOf, openingOf, lastOutOf}
 use Rattle.statement.specs.Record.{Part}
 use Rattle.settle.specs.Outcome.{Outcome, refused, accepted}
 use Rattle.promises.specs.Conditions.{checkinStamp, checkoutStamp, checkinOf, checkoutOf}
-use Rattle.promises.specs.Runs.{Offer}
+use Rattle.settle.specs.Runs.{Offer}
 
 -- two byte strings of one length, alike but for the bytes from one place up to another
 pub record AlikeBut (from to : ℕ) (b b′ : List ℕ) : Type 0 where

@@ -1,13 +1,14 @@
--- Runs: trips settled one after another from a fresh book under one tariff, the latest first; and a rider's rides in the window that is
--- open at the run's end, read off the parts that they were charged in. Every window of a longer run is the window open at the end
--- of one of its beginnings.
-use Prim.Native.Nat.{ℕ, _+_, _-_, _*_}
-use mathlib.Core.List.{List, [], _∷_}
-use mathlib.Core.Bool.{Bool, cond}
+-- A rider's rides in the window that is open at the end of a run, read off the parts that the trips were charged in. Every window of a
+-- longer run is the window open at the end of one of its beginnings.
+use Prim.Native.Nat.{ℕ, _+_, _-_, _≤_, _<_}
+use mathlib.Core.Path.{_≡_}
+use mathlib.Core.List.{List, [], _∷_, _++_, List·Memᴰ}
+use mathlib.Core.Bool.{Bool, true, cond}
 use lib.ListN.{getD}
 use lib.Dec.{leb, ltb}
+use Rattle.caps.specs.Limits.{AtMost}
 use Rattle.caps.specs.Tree.{Tree}
-use Rattle.caps.specs.Rides.{ChargedRide}
+use Rattle.caps.specs.Rides.{ChargedRide, allTotal, secondTotal, CapFull, oneClass, charges, totalsAlone}
 use Rattle.tariff.specs.declared.Counts.{Counts}
 use Rattle.tariff.specs.Rules.{levelOf}
 use Rattle.tariff.specs.Areas.{areaAt, parentOf}
@@ -17,18 +18,9 @@ use Rattle.book.specs.Words.{freshBook}
 use Rattle.book.specs.Windows.{belongs}
 use Rattle.book.specs.Caps.{capsHere}
 use Rattle.statement.specs.Record.{Part}
-use Rattle.settle.specs.Outcome.{Outcome, refused, accepted, settled, bookAfter}
+use Rattle.settle.specs.Outcome.{Outcome, refused, accepted}
+use Rattle.settle.specs.Runs.{Offer, Settlement, runFrom, bookFrom}
 use Rattle.promises.specs.Conditions.{checkoutOf}
-
--- a trip offered: its bytes, and the room for its record
-pub record Offer : Type 0 where
-  pub bytes : List ℕ
-  pub room : ℕ
-
--- the book after a run
-unfoldable pub bookOf : List ℕ → List Offer → List ℕ
-bookOf tariff [] = freshBook
-bookOf tariff (o ∷ run) = bookAfter (settled tariff (bookOf tariff run) (o .bytes) (o .room)) (bookOf tariff run)
 
 -- riders 11 to 20 are the children
 abbrev pub isChild : ℕ → Bool
@@ -65,12 +57,22 @@ ridesAfter tariff counts rider book bytes (refused number place) before = before
 ridesAfter tariff counts rider book bytes (accepted new parts) before =
     ridesWith tariff counts rider parts (cond (belongs book (checkoutOf bytes)) before [])
 
--- a rider's rides in the window that is open at the run's end, the latest first
-unfoldable pub ridesOf : List ℕ → Counts → ℕ → List Offer → List ChargedRide
-ridesOf tariff counts rider [] = []
-ridesOf tariff counts rider (o ∷ run) =
-    ridesAfter tariff counts rider (bookOf tariff run) (o .bytes) (settled tariff (bookOf tariff run) (o .bytes) (o .room))
-    (ridesOf tariff counts rider run)
+-- a rider's rides in the window that is open at the end of some settlements, the latest first; `before` are those that the window had
+-- before them
+unfoldable pub ridesOver : List ℕ → Counts → ℕ → List Settlement → List ChargedRide → List ChargedRide
+ridesOver tariff counts rider [] before = before
+ridesOver tariff counts rider (s ∷ more) before =
+    ridesOver tariff counts rider more (ridesAfter tariff counts rider (s .book) (s .offer .bytes) (s .outcome) before)
+
+-- ---- A run from a fresh book.
+
+-- the book that it leaves
+abbrev pub bookOf : List ℕ → List Offer → List ℕ
+bookOf tariff run = bookFrom tariff freshBook run
+
+-- a rider's rides in the window that is open at its end, the latest first
+abbrev pub ridesOf : List ℕ → Counts → ℕ → List Offer → List ChargedRide
+ridesOf tariff counts rider run = ridesOver tariff counts rider (runFrom tariff freshBook run) []
 
 -- the tariff's areas, with a rider's caps
 abbrev pub treeOf : List ℕ → Counts → Bool → Tree
@@ -81,3 +83,16 @@ treeOf tariff counts child =
       level = levelOf tariff counts;
       caps = λ area. capsHere (areaAt tariff counts area) child;
     }
+
+-- ---- Promise 3.
+
+-- of one rider's rides in one window, the latest first, in the tree of areas with the rider's caps: no charge exceeds its price; no cap is
+-- passed; a charge below its price leaves one of that ride's caps exactly full, where `es` are the rides before it and `later` those after
+-- it; and rides of one class add up to what totals alone give
+pub record PromiseThree (t : Tree) (rides : List ChargedRide) : Type 0 where
+  pub at-most-prices : (e : ChargedRide) → List·Memᴰ e rides → e .charge ≤ e .price
+  pub caps-hold :
+      (x : ℕ) → x < t .size → AtMost (allTotal t x rides) (t .caps x .all) × AtMost (secondTotal t x rides) (t .caps x .second)
+  pub cut-at-full :
+      (later : List ChargedRide) (e : ChargedRide) (es : List ChargedRide) → rides ≡ later ++ e ∷ es → e .charge < e .price → CapFull t e (e ∷ es)
+  pub one-class-adds : (class : ℕ) → oneClass class rides ≡ true → charges rides ≡ totalsAlone t class rides
