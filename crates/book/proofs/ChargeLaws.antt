@@ -1,4 +1,4 @@
--- What a charge is at most, that a chain of areas gives it, and where each of a party stands among the charges.
+-- That a chain of three areas gives a charge, what it is at most, and where each of a party stands among the charges.
 -- Assumes nothing.
 use Prim.Native.Nat.{ℕ, zero, suc, _+_, _-_, _≤_, _<_}
 use native.Mathlib.Nat.{not-suc-le-zero, le-trans, add-assoc, zero-add, sub-zero}
@@ -13,11 +13,11 @@ use lib.Seq.{sets, length-sets, getD-append-add, getD-at, getD-take}
 use lib.Dec.{eqb}
 use borrow.Author.Tests.{eq-eqb, ne-eqb}
 use Rattle.wire.proofs.Number.{sets-more}
-use Rattle.caps.proofs.Cut.{here-most, here-again}
+use Rattle.caps.specs.Tree.{foldUp, chargeIn}
+use Rattle.caps.proofs.Charge.{charge-smallest, charge-past}
 use Rattle.tariff.specs.declared.Area.{Area}
 use Rattle.tariff.specs.declared.Counts.{Counts}
-use Rattle.tariff.specs.Rules.{levelOf}
-use Rattle.tariff.specs.Areas.{areaAt, parentOf, Read, Smallest, FaultlessTariff}
+use Rattle.tariff.specs.Areas.{areaAt, Read, Smallest, FaultlessTariff}
 use Rattle.tariff.specs.Contracts.{FlatOf}
 use Rattle.tariff.proofs.Faultless.{faultless}
 use Rattle.tariff.proofs.Within.{area-flat, above-of, parent-there, parent-top, flat-within, smallest}
@@ -26,58 +26,23 @@ use Rattle.fare.specs.Prices.{mostPrice, priceOf}
 use Rattle.fare.specs.Contracts.{Priceable}
 use Rattle.fare.proofs.Steps.{price-most}
 use Rattle.book.specs.declared.limits.Chain.{Chain}
-use Rattle.book.specs.Words.{coverPlace, coverWord}
+use Rattle.book.specs.Words.{secondSum, allSum, firstChild, coverPlace, coverWord}
 use Rattle.book.specs.Windows.{inWindow}
-use Rattle.book.specs.Caps.{capsHere, chainOf}
-use Rattle.book.specs.Charging.{Rideable, cappedAt, chargeUp, chargeBy, riderCharge, riderCharges, newCover, NewCover, bicycleCharge, BicycleCharge, bicycleCharges, chargesOf, Charged}
+use Rattle.book.specs.Caps.{treeOf}
+use Rattle.book.specs.Charging.{riderCharge, riderCharges, newCover, bicycleCharge, bicycleCharges, chargesOf}
+use Rattle.book.specs.Contracts.{Rideable, chainOf, chargeBy, NewCover, BicycleCharge, PartyAmounts}
+use Rattle.book.proofs.Trees.{is-tree}
 use Rattle.book.proofs.WordLaws.{word-fresh}
 use Rattle.book.proofs.SoundLaws.{SoundBook, sound-has}
 
-module _ (t : List ℕ) (counts : Counts) (w : List ℕ) (rider : ℕ) (child : Bool) (class : ℕ) where
-  pub capped-at-most : (a amount : ℕ) → cappedAt t counts w rider child class a amount ≤ amount
-  unfolding cappedAt
-  capped-at-most a amount = here-most (capsHere (areaAt t counts a) child) class _ _ amount
-
-  -- an area that stands in a chain again
-  capped-again :
-      (a b amount : ℕ) → b ≡ a
-      → cappedAt t counts w rider child class b (cappedAt t counts w rider child class a amount) ≡ cappedAt t counts w rider child class a amount
-  unfolding cappedAt
-  capped-again a b amount e = rw e (here-again (capsHere (areaAt t counts a) child) class _ _ amount)
-
-  -- No charge is above the price.
-  pub charge-most : (level a amount : ℕ) → chargeUp level t counts w rider child class a amount ≤ amount
-  unfolding chargeUp
-  charge-most zero a amount = capped-at-most a amount
-  charge-most (suc level) a amount =
-      le-trans (charge-most level (parentOf t counts a) (cappedAt t counts w rider child class a amount)) (capped-at-most a amount)
-
-  -- A charge by the chain of an area is the one by the area and every area above it: in a region's chain the state stands twice, and in
-  -- its own three times.
-  pub charge-by :
-      FaultlessTariff t counts → (a : ℕ) → a < counts .areas → (amount : ℕ)
-      → chargeBy (chainOf t counts a child) w rider class amount ≡ chargeUp (levelOf t counts a) t counts w rider child class a amount
-  unfolding chargeBy cappedAt chargeUp
-  charge-by f a there amount = go (levelOf t counts a) refl
-    where
-      up : ℕ
-      up = parentOf t counts a
-
-      here : ℕ
-      here = cappedAt t counts w rider child class a amount
-
-      go : (level : ℕ) → levelOf t counts a ≡ level → chargeBy (chainOf t counts a child) w rider class amount ≡ chargeUp level t counts w rider child class a amount
-      go zero e =
-          let none = above-of f a there .state-only e in
-          let own : up ≡ a = omega (arith, above-of f a there .state-parent none) in
-          let top : parentOf t counts up ≡ a = omega (arith, parent-top f a there) in
-          rw (capped-again a up amount own) (capped-again a (parentOf t counts up) amount top)
-      go (suc zero) e =
-          let over = above-of f a there in
-          let none = above-of f up (parent-there f a there) .state-only (omega arith) in
-          capped-again up (parentOf t counts up) here (omega (arith, parent-top f a there))
-      go (suc (suc zero)) e = refl
-      go (suc (suc (suc level))) e = absurd (omega (arith, above-of f a there .level))
+-- A charge by the chain of an area is the charge in the tree: in a region's chain the state stands twice, and in its own three times.
+pub charge-by :
+    {t : List ℕ} {counts : Counts} → FaultlessTariff t counts → (w : List ℕ) (rider : ℕ) (child : Bool) (class a : ℕ) → a < counts .areas → (amount : ℕ)
+    → chargeBy (chainOf t counts a child) w rider class amount ≡ chargeIn (treeOf t counts child) (secondSum w rider) (allSum w rider) class a amount
+unfolding chargeBy foldUp
+charge-by f w rider child class a there amount =
+    let tree = is-tree f child in
+    charge-past tree (secondSum w rider) (allSum w rider) class a there 2 (tree .few-levels a there) amount
 
 -- A bicycle's new covering area is one of the tariff's.
 pub cover-there :
@@ -209,7 +174,7 @@ module _ (t : List ℕ) (counts : Counts) (w : List ℕ) (ride : Ride) where
   unfolding listed riderCharge riderCharges
   riders-by-chain f there child first e e′ e″ zero = refl
   riders-by-chain f there child first e e′ e″ (suc n) =
-      rw (riders-by-chain f there child first e e′ e″ n, e″, e, e′, charge-by t counts w (first + n) child _ f (ride .area) there)
+      rw (riders-by-chain f there child first e e′ e″ n, e″, e, e′, charge-by f w (first + n) child _ (ride .area) there)
 
   pub bicycles-listed : (n : ℕ) → listed (λ i. bicycleCharge t counts (ride .area) (coverWord w i)) n ≡ bicycleCharges t counts w ride n
   unfolding listed bicycleCharges
@@ -270,7 +235,7 @@ module _ (t : List ℕ) (counts : Counts) (w : List ℕ) (ride : Ride) where
   older = riderCharges t counts w ride false 0 (1 + ride .party .adults)
 
   abbrev children : List ℕ
-  children = riderCharges t counts w ride true 11 (ride .party .children)
+  children = riderCharges t counts w ride true firstChild (ride .party .children)
 
   abbrev bicycles : List ℕ
   bicycles = bicycleCharges t counts w ride (ride .party .bicycles)
@@ -280,7 +245,7 @@ module _ (t : List ℕ) (counts : Counts) (w : List ℕ) (ride : Ride) where
       (l : List ℕ) {l₁ l₂ l₃ : List ℕ} → l₁ ≡ sets l 0 older → l₂ ≡ sets l₁ (1 + ride .party .adults) children
       → l₃ ≡ sets l₂ (1 + ride .party .adults + ride .party .children) bicycles → l₃ ≡ sets l 0 (chargesOf t counts w ride)
   unfolding chargesOf
-  charges-stored = stored-three older children bicycles _ _ (riders-length t counts w ride false 0 _) (riders-length t counts w ride true 11 _)
+  charges-stored = stored-three older children bicycles _ _ (riders-length t counts w ride false 0 _) (riders-length t counts w ride true firstChild _)
 
   pub charges-length : length (chargesOf t counts w ride) ≡ 1 + ride .party .adults + ride .party .children + ride .party .bicycles
   unfolding chargesOf
@@ -289,22 +254,22 @@ module _ (t : List ℕ) (counts : Counts) (w : List ℕ) (ride : Ride) where
   pub adult-stands : (i : ℕ) → i < 1 + ride .party .adults → getD (chargesOf t counts w ride) i 0 ≡ riderCharge t counts w ride false i
   unfolding chargesOf
   adult-stands i h =
-      at-first older children bicycles _ _ (riders-length t counts w ride false 0 _) (riders-length t counts w ride true 11 _) i h
+      at-first older children bicycles _ _ (riders-length t counts w ride false 0 _) (riders-length t counts w ride true firstChild _) i h
       ∙ rider-at t counts w ride false 0 _ i h ∙ ap (riderCharge t counts w ride false) (zero-add i)
 
   pub child-stands :
-      (i : ℕ) → i < ride .party .children → getD (chargesOf t counts w ride) (1 + ride .party .adults + i) 0 ≡ riderCharge t counts w ride true (11 + i)
+      (i : ℕ) → i < ride .party .children → getD (chargesOf t counts w ride) (1 + ride .party .adults + i) 0 ≡ riderCharge t counts w ride true (firstChild + i)
   unfolding chargesOf
   child-stands i h =
-      at-second older children bicycles _ _ (riders-length t counts w ride false 0 _) (riders-length t counts w ride true 11 _) i h
-      ∙ rider-at t counts w ride true 11 _ i h
+      at-second older children bicycles _ _ (riders-length t counts w ride false 0 _) (riders-length t counts w ride true firstChild _) i h
+      ∙ rider-at t counts w ride true firstChild _ i h
 
   pub bicycle-stands :
       (i : ℕ) → i < ride .party .bicycles
       → getD (chargesOf t counts w ride) (1 + ride .party .adults + ride .party .children + i) 0 ≡ bicycleCharge t counts (ride .area) (coverWord w i)
   unfolding chargesOf
   bicycle-stands i h =
-      at-third older children bicycles _ _ (riders-length t counts w ride false 0 _) (riders-length t counts w ride true 11 _) i
+      at-third older children bicycles _ _ (riders-length t counts w ride false 0 _) (riders-length t counts w ride true firstChild _) i
       ∙ bicycle-at t counts w ride _ i h
 
 -- A ride of a faultless tariff can be priced, and no price is above 3,790,000 cents: so no charge is.
@@ -315,7 +280,7 @@ module _ {t : List ℕ} {counts : Counts} {b : List ℕ} {ride : Ride} (r : Ride
   pub rider-charge-most : (w : List ℕ) (child : Bool) (rider : ℕ) → riderCharge t counts w ride child rider ≤ mostPrice
   unfolding riderCharge
   rider-charge-most w child rider =
-      le-trans (charge-most t counts w rider child (ride .class) (levelOf t counts (ride .area)) (ride .area) _)
+      le-trans (charge-smallest (is-tree (faultless t counts (r .read)) child) _ _ _ (ride .area) (r .area) _ .most)
       (price-most (areaAt t counts (ride .area)) ride child priceable)
 
   pub charges-most : (current : Bool) (i : ℕ) → getD (chargesOf t counts (inWindow current b) ride) i 0 ≤ mostPrice
@@ -327,7 +292,7 @@ module _ {t : List ℕ} {counts : Counts} {b : List ℕ} {ride : Ride} (r : Ride
       rw (← riders-listed t counts w ride child first n) (listed-most _ n mostPrice (λ i _. rider-charge-most w child (first + i)))
       in
       joined-most (older t counts w ride) _ mostPrice (riders false 0 _)
-      (joined-most (children t counts w ride) _ mostPrice (riders true 11 _)
+      (joined-most (children t counts w ride) _ mostPrice (riders true firstChild _)
       (rw (← bicycles-listed t counts w ride _)
       (listed-most _ _ mostPrice
       (λ i h.
@@ -336,7 +301,7 @@ module _ {t : List ℕ} {counts : Counts} {b : List ℕ} {ride : Ride} (r : Ride
 
 -- The amounts that start with a party's charges are those charges.
 pub amount-at :
-    {t : List ℕ} {counts : Counts} {w : List ℕ} {ride : Ride} {amounts : List ℕ} → Charged t counts w ride amounts → (i : ℕ) → i < length (chargesOf t counts w ride)
+    {t : List ℕ} {counts : Counts} {w : List ℕ} {ride : Ride} {amounts : List ℕ} → PartyAmounts t counts w ride amounts → (i : ℕ) → i < length (chargesOf t counts w ride)
     → getD amounts i 0 ≡ getD (chargesOf t counts w ride) i 0
 amount-at {t} {counts} {w} {ride} {amounts} made i h =
     sym (getD-take (length (chargesOf t counts w ride)) amounts i 0 h) ∙ ap (λ (l : List ℕ). getD l i 0) (made .value)

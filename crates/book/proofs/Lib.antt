@@ -1,6 +1,6 @@
 pub mod WordLaws
 pub mod SoundLaws
-pub mod Chains
+pub mod Trees
 pub mod SumLaws
 pub mod CapLaws
 pub mod WindowLaws
@@ -9,3 +9,4 @@ pub mod PostedLaws
 pub mod SoundAgain
 pub mod PostSteps
 pub mod PostTurns
+pub mod AlikeBooks

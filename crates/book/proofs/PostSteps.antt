@@ -5,7 +5,7 @@ use Prim.Native.Nat.{ℕ, zero, suc, _+_, _*_, _≤_, _<_}
 use native.Mathlib.Omega.{arith}
 use mathlib.Core.Path.{_≡_, refl, ap, _∙_}
 use mathlib.Core.Logic.{inr}
-use mathlib.Core.Bool.{true, cond}
+use mathlib.Core.Bool.{true, false, cond}
 use mathlib.Core.List.{List}
 use lib.ListN.{length, getD}
 use Rattle.tariff.specs.declared.Counts.{Counts}
@@ -14,8 +14,9 @@ use Rattle.tariff.proofs.Faultless.{faultless}
 use Rattle.fare.specs.declared.Ride.{Ride}
 use Rattle.fare.specs.Prices.{mostPrice}
 use Rattle.book.specs.declared.Window.{Window}
-use Rattle.book.specs.Words.{bookSize, word, tripsOf, coverPlace}
-use Rattle.book.specs.Posting.{addList, coverBicycles, opened, posted, Room, Adding, Covering, Postable}
+use Rattle.book.specs.Words.{bookSize, word, tripsOf, firstChild, coverPlace}
+use Rattle.book.specs.Posting.{addList, coverBicycles, opened, posted}
+use Rattle.book.specs.Contracts.{Room, Adding, Covering, Postable}
 use Rattle.book.proofs.SoundLaws.{sound-has}
 use Rattle.book.proofs.SumLaws.{list-other}
 use Rattle.book.proofs.ChargeLaws.{charges-length, charges-most, amount-at}
@@ -63,13 +64,13 @@ module _ {t : List ℕ} {counts : Counts} {b : List ℕ} {window : Window} {ride
         room-same (wordsIn window b) b₁ rider (λ j low high. word₁ j (omega arith))
         (λ area h′. omega (arith, window-words .few, window-words .pairs rider area h h′))
 
-    pub adults-ready : Adding t counts b₁ ride 0 (1 + ride .party .adults) amounts 0
+    pub adults-ready : Adding t counts b₁ ride (record { child = false; first = 0; count = 1 + ride .party .adults; from = 0 }) amounts
     adults-ready =
         record {
           size = size₁;
           read = p .rideable .read;
           area = p .rideable .area;
-          riders = omega (arith, p .rideable .adults);
+          known = omega (arith, p .rideable .adults);
           places = omega (arith, p .rideable .adults, p .charged .size);
           room = λ i h. room₁ (0 + i) (omega (arith, p .rideable .adults));
           range = λ i h. amounts-most (0 + i) (omega arith);
@@ -78,33 +79,35 @@ module _ {t : List ℕ} {counts : Counts} {b : List ℕ} {window : Window} {ride
     -- After the second: the adults' charges are added, and the words behind theirs are as they were.
     module _ {b₂ : List ℕ} (e₂ : b₂ ≡ addList t counts ride 0 (1 + ride .party .adults) amounts 0 b₁)
         (kept₂ : length b₂ ≡ length b₁) where
-      word₂ : (j : ℕ) → 3 + 64 * 11 ≤ j → word b₂ j ≡ word b₁ j
+      word₂ : (j : ℕ) → 3 + 64 * firstChild ≤ j → word b₂ j ≡ word b₁ j
       word₂ j h =
           ap (λ (l : List ℕ). word l j) e₂
           ∙ list-other right ride (p .rideable .area) 0 amounts 0 (1 + ride .party .adults) b₁
           (omega (arith, p .rideable .adults)) j (inr (omega (arith, p .rideable .adults)))
 
-      pub children-ready : Adding t counts b₂ ride 11 (ride .party .children) amounts (1 + ride .party .adults)
+      pub children-ready :
+          Adding t counts b₂ ride
+          (record { child = true; first = firstChild; count = ride .party .children; from = 1 + ride .party .adults }) amounts
       children-ready =
           record {
             size = kept₂ ∙ size₁;
             read = p .rideable .read;
             area = p .rideable .area;
-            riders = omega (arith, p .rideable .children);
+            known = omega (arith, p .rideable .children);
             places = omega (arith, p .rideable .adults, p .rideable .children, p .charged .size);
             room = λ i h.
-                room-same b₁ b₂ (11 + i) (λ j low high. word₂ j (omega arith)) (room₁ (11 + i) (omega (arith, p .rideable .children)));
+                room-same b₁ b₂ (firstChild + i) (λ j low high. word₂ j (omega arith)) (room₁ (firstChild + i) (omega (arith, p .rideable .children)));
             range = λ i h. amounts-most (1 + ride .party .adults + i) (omega arith);
           }
 
       -- After the third: the children's are added, and the bicycles' words are as they were.
       module _ {b₃ : List ℕ}
-          (e₃ : b₃ ≡ addList t counts ride 11 (ride .party .children) amounts (1 + ride .party .adults) b₂)
+          (e₃ : b₃ ≡ addList t counts ride firstChild (ride .party .children) amounts (1 + ride .party .adults) b₂)
           (kept₃ : length b₃ ≡ length b₂) where
         word₃ : (j : ℕ) → coverPlace 0 ≤ j → word b₃ j ≡ word (wordsIn window b) j
         word₃ j h =
             ap (λ (l : List ℕ). word l j) e₃
-            ∙ list-other right ride (p .rideable .area) 11 amounts (1 + ride .party .adults) (ride .party .children) b₂
+            ∙ list-other right ride (p .rideable .area) firstChild amounts (1 + ride .party .adults) (ride .party .children) b₂
             (omega (arith, p .rideable .children)) j (inr (omega (arith, p .rideable .children)))
             ∙ word₂ j (omega arith) ∙ word₁ j (omega arith)
 
@@ -127,7 +130,7 @@ module _ {t : List ℕ} {counts : Counts} {b : List ℕ} {window : Window} {ride
             let adults-same : b₂ ≡ addList t counts ride 0 adults l 0 b₁ =
             e₂ ∙ list-same t counts ride 0 adults amounts l 0 b₁ (λ i h. amounts-are (0 + i) (omega arith))
             in
-            let children-same : b₃ ≡ addList t counts ride 11 (ride .party .children) l adults b₂ =
-            e₃ ∙ list-same t counts ride 11 (ride .party .children) amounts l adults b₂ (λ i h. amounts-are (adults + i) (omega arith))
+            let children-same : b₃ ≡ addList t counts ride firstChild (ride .party .children) l adults b₂ =
+            e₃ ∙ list-same t counts ride firstChild (ride .party .children) amounts l adults b₂ (λ i h. amounts-are (adults + i) (omega arith))
             in
             e₄ ∙ rw (children-same, adults-same, e₁)

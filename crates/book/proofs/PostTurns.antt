@@ -3,7 +3,7 @@
 use Prim.Native.Nat.{ℕ, zero, suc, _+_, _-_, _*_, _^_, _≤_, _<_}
 use native.Mathlib.Omega.{arith}
 use native.Mathlib.Numerals.{add-one}
-use mathlib.Core.Path.{_≡_, refl, sym, ap, _∙_}
+use mathlib.Core.Path.{_≡_, refl, sym, ap, subst, _∙_}
 use mathlib.Core.Logic.{inr}
 use mathlib.Core.Bool.{Bool, true, false, cond, not, _&&_}
 use mathlib.Core.List.{List, _++_, append-nil}
@@ -11,20 +11,24 @@ use borrow.Author.Tests.{eq-eqb, ne-eqb, eqb-true, not-true, not-false}
 use lib.ListN.{length, getD, drop, replicate}
 use lib.Seq.{drop-length}
 use lib.Dec.{eqb}
+use Rattle.caps.specs.Tree.{IsTree, within}
+use Rattle.caps.proofs.Climb.{climb-top, climb-up, within-parent, within-there, not-within-child}
 use Rattle.tariff.specs.declared.Counts.{Counts}
 use Rattle.tariff.specs.Rules.{levelOf}
 use Rattle.tariff.specs.Areas.{parentOf, FaultlessTariff}
 use Rattle.wire.proofs.Tests.{both-left}
-use Rattle.tariff.proofs.Within.{above-of, parent-there}
+use Rattle.tariff.proofs.Within.{parent-there}
 use Rattle.fare.specs.declared.Ride.{Ride}
 use Rattle.fare.specs.Prices.{mostPrice}
 use Rattle.book.specs.declared.Window.{Window}
 use Rattle.book.specs.Words.{bookSize, freshBook, word, putWord, tripsOf, pairPlace, secondSum, allSum, coverPlace, coverWord}
 use Rattle.book.specs.Windows.{inWindow}
 use Rattle.book.specs.Charging.{newCover}
-use Rattle.book.specs.Posting.{FreshOrUsed, addHere, addUp, addList, coverBicycles, opened, RoomHere, Room}
+use Rattle.book.specs.Caps.{treeOf}
+use Rattle.book.specs.Posting.{addHere, addUp, addList, coverBicycles, opened}
+use Rattle.book.specs.Contracts.{FreshOrUsed, RoomHere, Room}
 use Rattle.book.proofs.WordLaws.{fresh-size, size-put, word-put-other}
-use Rattle.book.proofs.Chains.{below-state}
+use Rattle.book.proofs.Trees.{is-tree}
 use Rattle.book.proofs.SumLaws.{here-size, here-other, up-size, up-other}
 
 -- A list filled to its end is nothing but the filling.
@@ -118,57 +122,56 @@ pub record Climbing (t : List ℕ) (counts : Counts) (b₀ b : List ℕ) (rider 
   pub size : length b ≡ bookSize
   pub there : up < counts .areas
   pub level : above ≡ levelOf t counts up
-  pub room : (area : ℕ) → area ≤ up → RoomHere b rider area
-  pub rest : addUp above t counts b rider class up amount ≡ addUp (levelOf t counts at) t counts b₀ rider class at amount
-
--- the first step of the way up
-up-step :
-    (t : List ℕ) (counts : Counts) (b : List ℕ) (rider class area amount n : ℕ) → 0 < n
-    → addUp (n - 1) t counts (addHere b rider class area amount) rider class (parentOf t counts area) amount
-    ≡ addUp n t counts b rider class area amount
-unfolding addUp
-up-step t counts b rider class area amount zero some = absurd (omega arith)
-up-step t counts b rider class area amount (suc n) some =
-    let e : suc n - 1 ≡ n = omega arith in
-    ap (λ (k : ℕ). addUp k t counts (addHere b rider class area amount) rider class (parentOf t counts area) amount) e
+  pub room : (area : ℕ) → within (treeOf t counts false) up area ≡ true → RoomHere b rider area
+  pub rest : addUp t counts b rider class up amount ≡ addUp t counts b₀ rider class at amount
 
 module _ {t : List ℕ} {counts : Counts} (f : FaultlessTariff t counts) where
+  tree : IsTree (treeOf t counts false)
+  tree = is-tree f false
+
   pub climb-start :
       {b : List ℕ} {rider class at amount above : ℕ} → length b ≡ bookSize → at < counts .areas → Room b rider → above ≡ levelOf t counts at
       → Climbing t counts b b rider class at amount at above
-  climb-start {b} {rider} {class} {at} {amount} size there room level =
+  climb-start {at = at} size there room level =
       record {
         size = size;
         there = there;
         level = level;
-        room = λ area h. room area (omega (arith, f .few-areas));
-        rest = ap (λ (n : ℕ). addUp n t counts b rider class at amount) level;
+        room = λ area w. room area (omega (arith, f .few-areas, within-there tree at there area w));
+        rest = refl;
       }
 
   pub climb-turn :
       {b₀ b b′ : List ℕ} {rider class at amount up up′ above : ℕ} → Climbing t counts b₀ b rider class at amount up above
       → 0 < above → b′ ≡ addHere b rider class up amount → up′ ≡ parentOf t counts up
       → Climbing t counts b₀ b′ rider class at amount up′ (above - 1)
+  unfolding addUp
   climb-turn {b = b} {rider = rider} {class} {at} {amount} {up} {above = above} s some added next =
+      let low : 0 < levelOf t counts up = omega (arith, s .level) in
       rw (added, next)
       (record {
         size = here-size b rider class up amount ∙ s .size;
         there = parent-there f up (s .there);
-        level = omega (arith, above-of f up (s .there) .level-up);
-        room = λ area h.
-            let below = above-of f up (s .there) .earlier (below-state f up up (s .there) (omega arith)) in
+        level = omega (arith, s .level, tree .parent-level up (s .there) low);
+        room = λ area w.
+            let other : up ≡ area → ⊥ =
+            λ e.
+            not-within-child tree up (s .there) low
+            (subst (λ (z : ℕ). within (treeOf t counts false) (parentOf t counts up) z ≡ true) (sym e) w)
+            in
             room-here-same b (addHere b rider class up amount) rider area
-            (here-other b rider class up amount _ (λ e. omega arith) (λ e. omega arith))
-            (here-other b rider class up amount _ (λ e. omega arith) (λ e. omega arith)) (s .room area (omega arith));
-        rest = up-step t counts b rider class up amount above some ∙ s .rest;
+            (here-other b rider class up amount _ (λ e. other (omega arith)) (λ e. omega arith))
+            (here-other b rider class up amount _ (λ e. omega arith) (λ e. other (omega arith)))
+            (s .room area (within-parent tree up area (s .there) low w));
+        rest = sym (climb-up tree (λ a sums. addHere sums rider class a amount) up (s .there) low b) ∙ s .rest;
       })
 
-pub climb-end :
-    {t : List ℕ} {counts : Counts} {b₀ b b′ : List ℕ} {rider class at amount up above : ℕ} → Climbing t counts b₀ b rider class at amount up above → above ≤ 0
-    → b′ ≡ addHere b rider class up amount → b′ ≡ addUp (levelOf t counts at) t counts b₀ rider class at amount
-unfolding addUp
-climb-end {above = zero} s none added = added ∙ s .rest
-climb-end {above = suc above} s none added = absurd (omega arith)
+  pub climb-end :
+      {b₀ b b′ : List ℕ} {rider class at amount up above : ℕ} → Climbing t counts b₀ b rider class at amount up above → above ≤ 0
+      → b′ ≡ addHere b rider class up amount → b′ ≡ addUp t counts b₀ rider class at amount
+  unfolding addUp
+  climb-end {b = b} {rider = rider} {class} {amount = amount} {up} s none added =
+      added ∙ sym (climb-top tree (λ a sums. addHere sums rider class a amount) up (omega (arith, s .level)) b) ∙ s .rest
 
 -- After the first i riders: their charges are added, and the riders to come have room. A ride counts by its class and area alone.
 pub record RidersAdded (t : List ℕ) (counts : Counts) (b₀ b amounts : List ℕ) (first count from class at i : ℕ) : Type 0 where
@@ -187,18 +190,18 @@ riders-start size room =
 pub riders-turn :
     {t : List ℕ} {counts : Counts} → FaultlessTariff t counts → {b₀ b b′ amounts : List ℕ} {first count from class at i : ℕ}
     → RidersAdded t counts b₀ b amounts first count from class at i → i < count → at < counts .areas → first + count ≤ 21
-    → b′ ≡ addUp (levelOf t counts at) t counts b (first + i) class at (getD amounts (from + i) 0)
+    → b′ ≡ addUp t counts b (first + i) class at (getD amounts (from + i) 0)
     → RidersAdded t counts b₀ b′ amounts first count from class at (i + 1)
 unfolding addList
 riders-turn {t} {counts} f {b = b} {amounts = amounts} {first} {count} {from} {class} {at} {i} s more there few added =
     let amount = getD amounts (from + i) 0 in
     record {
-      size = ap length added ∙ up-size f (first + i) class amount (omega arith) (levelOf t counts at) b at ∙ s .size;
+      size = ap length added ∙ up-size f (first + i) class amount (omega arith) b at there ∙ s .size;
       within = omega arith;
       room = λ k low high.
           rw added
           (room-same b _ (first + k)
-          (λ j least most. up-other f (first + i) class amount (omega arith) (levelOf t counts at) b at there j (inr (omega arith)))
+          (λ j least most. up-other f (first + i) class amount (omega arith) b at there j (inr (omega arith)))
           (s .room k (omega arith) high));
       done = λ ride e e′. added ∙ rw (add-one i, ← s .done ride e e′, e, e′);
     }

@@ -9,23 +9,27 @@ use mathlib.Core.Path.{_≡_, refl, sym, ap, subst, _∙_}
 use mathlib.Core.Logic.{_⊎_, inl, inr, ⊎-elim}
 use mathlib.Core.Bool.{Bool, true, false, cond, _&&_}
 use mathlib.Core.List.{List}
-use borrow.Author.Tests.{lt-ltb, le-ltb}
+use borrow.Author.Tests.{lt-ltb, le-ltb, le-leb, lt-leb, ltb-true, leb-true}
 use lib.ListN.{length, getD}
-use lib.Dec.{ltb}
+use lib.Dec.{leb, ltb}
+use Rattle.caps.specs.Tree.{within}
+use Rattle.caps.proofs.Climb.{within-state}
 use Rattle.tariff.specs.declared.Counts.{Counts}
-use Rattle.tariff.specs.Areas.{liesWithin, FaultlessTariff}
-use Rattle.tariff.proofs.Within.{within-state}
+use Rattle.tariff.specs.Areas.{FaultlessTariff}
 use Rattle.tariff.proofs.Faultless.{faultless}
 use Rattle.fare.specs.declared.Ride.{Ride}
 use Rattle.fare.specs.Prices.{mostPrice}
 use Rattle.book.specs.declared.Window.{Window}
-use Rattle.book.specs.Words.{bookSize, freshBook, word, putWord, tripsOf, openingOf, lastOutOf, pairPlace, secondSum, allSum, pairAt, coverPlace, coverWord}
+use Rattle.book.specs.Words.{bookSize, freshBook, word, putWord, tripsOf, openingOf, lastOutOf, pairPlace, secondSum, allSum, pairAt, firstChild, coverPlace, coverWord}
 use Rattle.book.specs.Windows.{inWindow}
-use Rattle.book.specs.Charging.{Rideable, chargesOf, newCover}
+use Rattle.book.specs.Caps.{treeOf}
+use Rattle.book.specs.Charging.{isChild, carries, placeOf, riderCharge, chargesOf, newCover}
+use Rattle.book.specs.Contracts.{Rideable}
 use Rattle.book.specs.Posting.{addList, coverBicycles, opened, posted}
+use Rattle.book.proofs.Trees.{is-tree}
 use Rattle.book.proofs.WordLaws.{word-put-same, word-put-other, size-put, word-fresh, fresh-size}
 use Rattle.book.proofs.SoundLaws.{PairSound, SoundBook, sound-has}
-use Rattle.book.proofs.ChargeLaws.{charges-most, cover-there, cover-known}
+use Rattle.book.proofs.ChargeLaws.{adult-stands, child-stands, charges-most, cover-there, cover-known}
 use Rattle.book.proofs.SumLaws.{sumOf, counted, Fits, sum-by-words, list-size, list-other, list-riders, list-sum}
 
 -- ---- The bicycles.
@@ -172,32 +176,53 @@ chargesIn tariff counts book window ride = chargesOf tariff counts (wordsIn wind
 
 -- what a charge adds to one of a rider's two sums in an area: itself where its class counts and the ride's area lies within, else 0
 abbrev pub added : Bool → List ℕ → Counts → Ride → ℕ → ℕ → ℕ
-added which tariff counts ride area amount = cond (counted which (ride .class) && liesWithin tariff counts (ride .area) area) amount 0
+added which tariff counts ride area amount = cond (counted which (ride .class) && within (treeOf tariff counts false) (ride .area) area) amount 0
 
 -- a rider's charge among those of a party: 0 for a rider who is not carried
-unfoldable pub ownCharge : Ride → List ℕ → ℕ → ℕ
-ownCharge ride charges rider =
-    cond (ltb rider 11)
-    (cond (ltb rider (1 + ride .party .adults)) (getD charges rider 0) 0)
-    (cond (ltb rider (11 + ride .party .children)) (getD charges (1 + ride .party .adults + (rider - 11)) 0) 0)
+abbrev pub ownCharge : Ride → List ℕ → ℕ → ℕ
+ownCharge ride charges rider = cond (carries (ride .party) rider) (getD charges (placeOf (ride .party) rider) 0) 0
 
 -- a rider whom a party does not carry
-abbrev pub NotCarried : Ride → ℕ → Type 0
-NotCarried ride rider = ((1 + ride .party .adults ≤ rider) × (rider < 11)) ⊎ (11 + ride .party .children ≤ rider)
+abbrev NotCarried : Ride → ℕ → Type 0
+NotCarried ride rider = ((1 + ride .party .adults ≤ rider) × (rider < firstChild)) ⊎ (firstChild + ride .party .children ≤ rider)
+
+-- A rider who is carried has a place among the charges, and there stands what the rider is charged.
+pub place-there : (ride : Ride) (rider : ℕ) → carries (ride .party) rider ≡ true → placeOf (ride .party) rider < 1 + ride .party .adults + ride .party .children
+place-there ride rider = go (isChild rider) refl
+  where
+    go :
+        (child : Bool) → isChild rider ≡ child → cond child (ltb (rider - firstChild) (ride .party .children)) (leb rider (ride .party .adults)) ≡ true
+        → cond child (1 + ride .party .adults + (rider - firstChild)) rider < 1 + ride .party .adults + ride .party .children
+    go true e on = omega (arith, ltb-true)
+    go false e on = omega (arith, leb-true)
+
+pub rider-stands :
+    (tariff : List ℕ) (counts : Counts) (w : List ℕ) (ride : Ride) (rider : ℕ) → carries (ride .party) rider ≡ true
+    → getD (chargesOf tariff counts w ride) (placeOf (ride .party) rider) 0 ≡ riderCharge tariff counts w ride (isChild rider) rider
+rider-stands tariff counts w ride rider = go (isChild rider) refl
+  where
+    go :
+        (child : Bool) → isChild rider ≡ child → cond child (ltb (rider - firstChild) (ride .party .children)) (leb rider (ride .party .adults)) ≡ true
+        → getD (chargesOf tariff counts w ride) (cond child (1 + ride .party .adults + (rider - firstChild)) rider) 0
+        ≡ riderCharge tariff counts w ride child rider
+    go true e on =
+        let same : firstChild + (rider - firstChild) ≡ rider = omega (arith, ltb-true) in
+        child-stands tariff counts w ride (rider - firstChild) (ltb-true _ _ on) ∙ ap (riderCharge tariff counts w ride true) same
+    go false e on = adult-stands tariff counts w ride rider (omega (arith, leb-true))
 
 -- A rider is an adult, a child, or not carried.
-pub rider-cases :
-    {P : ℕ → Type 0} (ride : Ride) (rider : ℕ) → ((r : ℕ) → r < 1 + ride .party .adults → P r) → ((i : ℕ) → i < ride .party .children → P (11 + i))
+rider-cases :
+    {P : ℕ → Type 0} (ride : Ride) (rider : ℕ) → ((r : ℕ) → r < 1 + ride .party .adults → P r) → ((i : ℕ) → i < ride .party .children → P (firstChild + i))
     → (NotCarried ride rider → P rider) → P rider
 rider-cases {P} ride rider adult child none =
     elim (decLt rider (1 + ride .party .adults)) [
       | yes h ↦ adult rider h
       | no h ↦
-          elim (decLt rider 11) [
+          elim (decLt rider firstChild) [
             | yes h′ ↦ none (inl (omega arith, h′))
             | no h′ ↦
-                elim (decLt rider (11 + ride .party .children)) [
-                  | yes i ↦ subst P (omega arith) (child (rider - 11) (omega arith))
+                elim (decLt rider (firstChild + ride .party .children)) [
+                  | yes i ↦ subst P (omega arith) (child (rider - firstChild) (omega arith))
                   | no i ↦ none (inr (omega arith))
                 ]
           ]
@@ -205,32 +230,28 @@ rider-cases {P} ride rider adult child none =
 
 module _ (ride : Ride) (charges : List ℕ) where
   -- The account holder and the adults have the first charges.
-  pub own-adult : (rider : ℕ) → ride .party .adults ≤ 10 → rider < 1 + ride .party .adults → ownCharge ride charges rider ≡ getD charges rider 0
-  unfolding ownCharge
-  own-adult rider few h = rw (lt-ltb rider 11 (omega arith), lt-ltb rider (1 + ride .party .adults) h)
+  own-adult : (rider : ℕ) → ride .party .adults ≤ 10 → rider < 1 + ride .party .adults → ownCharge ride charges rider ≡ getD charges rider 0
+  own-adult rider few h = rw (le-ltb 10 rider (omega arith), le-leb rider (ride .party .adults) (omega arith))
 
   -- The children have those after the adults'.
-  pub own-child :
-      (i : ℕ) → i < ride .party .children → ownCharge ride charges (11 + i) ≡ getD charges (1 + ride .party .adults + i) 0
-  unfolding ownCharge
+  own-child : (i : ℕ) → i < ride .party .children → ownCharge ride charges (firstChild + i) ≡ getD charges (1 + ride .party .adults + i) 0
   own-child i h =
-      let back : 11 + i - 11 ≡ i = omega arith in
-      rw (le-ltb (11 + i) 11 (omega arith), lt-ltb (11 + i) (11 + ride .party .children) (omega arith), back)
+      let back : firstChild + i - firstChild ≡ i = omega arith in
+      rw (lt-ltb 10 (firstChild + i) (omega arith), back, lt-ltb i (ride .party .children) h)
 
   -- A rider who is not carried has none.
-  pub own-none : (rider : ℕ) → NotCarried ride rider → ownCharge ride charges rider ≡ 0
-  unfolding ownCharge
-  own-none rider (inl (past, adult)) = rw (lt-ltb rider 11 adult, le-ltb rider (1 + ride .party .adults) past)
-  own-none rider (inr past) = rw (le-ltb rider 11 (omega arith), le-ltb rider (11 + ride .party .children) past)
+  own-none : (rider : ℕ) → NotCarried ride rider → ownCharge ride charges rider ≡ 0
+  own-none rider (inl (past, adult)) = rw (le-ltb 10 rider (omega arith), lt-leb rider (ride .party .adults) (omega arith))
+  own-none rider (inr past) = rw (lt-ltb 10 rider (omega arith), le-ltb (rider - firstChild) (ride .party .children) (omega arith))
 
   -- No rider's charge is more than the charges are.
-  pub own-most :
+  own-most :
       (most : ℕ) → ride .party .adults ≤ 10 → ((i : ℕ) → getD charges i 0 ≤ most) → (rider : ℕ) → ownCharge ride charges rider ≤ most
   own-most most few each rider =
       rider-cases {P = λ r. ownCharge ride charges r ≤ most} ride rider (λ r h. rw (own-adult r few h) (each r))
       (λ i h. rw (own-child i h) (each (1 + ride .party .adults + i))) (λ out. omega (arith, own-none rider out))
 
--- In a ride no rider's own charge is more than 3,790,000.
+-- In a ride no rider's own charge is more than the most that a price is.
 pub own-range :
     {tariff : List ℕ} {counts : Counts} {book : List ℕ} {ride : Ride} → Rideable tariff counts book ride → (window : Window) (rider : ℕ)
     → ownCharge ride (chargesIn tariff counts book window ride) rider ≤ mostPrice
@@ -244,7 +265,7 @@ adultsIn tariff counts book window checkout ride =
 
 abbrev ridersIn : List ℕ → Counts → List ℕ → Window → ℕ → Ride → List ℕ
 ridersIn tariff counts book window checkout ride =
-    addList tariff counts ride 11 (ride .party .children) (chargesIn tariff counts book window ride) (1 + ride .party .adults)
+    addList tariff counts ride firstChild (ride .party .children) (chargesIn tariff counts book window ride) (1 + ride .party .adults)
     (adultsIn tariff counts book window checkout ride)
 
 posted-is :
@@ -272,7 +293,7 @@ module _ {tariff : List ℕ} {counts : Counts} {book : List ℕ} {ride : Ride} (
 
   riders-size : length (ridersIn tariff counts book window checkout ride) ≡ bookSize
   riders-size =
-      list-size t ride (ok .area) 11 (chargesIn tariff counts book window ride) (1 + ride .party .adults) (ride .party .children)
+      list-size t ride (ok .area) firstChild (chargesIn tariff counts book window ride) (1 + ride .party .adults) (ride .party .children)
       (adultsIn tariff counts book window checkout ride) (omega (arith, ok .children))
       ∙ adults-size
 
@@ -285,7 +306,7 @@ module _ {tariff : List ℕ} {counts : Counts} {book : List ℕ} {ride : Ride} (
       (j : ℕ) → (j < pairAt 0) ⊎ (coverPlace 0 ≤ j)
       → word (ridersIn tariff counts book window checkout ride) j ≡ word (opened window checkout (wordsIn window book)) j
   riders-other j out =
-      list-other t ride (ok .area) 11 (chargesIn tariff counts book window ride) (1 + ride .party .adults) (ride .party .children)
+      list-other t ride (ok .area) firstChild (chargesIn tariff counts book window ride) (1 + ride .party .adults) (ride .party .children)
       (adultsIn tariff counts book window checkout ride) (omega (arith, ok .children)) j
       (⊎-elim (λ h. inl (omega arith)) (λ h. inr (omega (arith, ok .children))) out)
       ∙ list-other t ride (ok .area) 0 (chargesIn tariff counts book window ride) 0 (1 + ride .party .adults)
@@ -350,10 +371,10 @@ module _ {tariff : List ℕ} {counts : Counts} {book : List ℕ} {ride : Ride} (
 
   -- the children's charges change no other rider's
   riders-adults :
-      (which : Bool) (rider x : ℕ) → (rider < 11) ⊎ (11 + ride .party .children ≤ rider) → x < 32
+      (which : Bool) (rider x : ℕ) → (rider < firstChild) ⊎ (firstChild + ride .party .children ≤ rider) → x < 32
       → sumOf which (ridersIn tariff counts book window checkout ride) rider x ≡ sumOf which (adultsIn tariff counts book window checkout ride) rider x
   riders-adults which rider x out hx =
-      list-riders t ride (ok .area) 11 (chargesIn tariff counts book window ride) (1 + ride .party .adults) which (ride .party .children)
+      list-riders t ride (ok .area) firstChild (chargesIn tariff counts book window ride) (1 + ride .party .adults) which (ride .party .children)
       (adultsIn tariff counts book window checkout ride) (omega (arith, ok .children)) rider x out hx
 
   -- and the adults' none past theirs
@@ -366,7 +387,7 @@ module _ {tariff : List ℕ} {counts : Counts} {book : List ℕ} {ride : Ride} (
       ∙ opened-sum window checkout (wordsIn window book) which rider x hx
 
   -- The sums of a rider who is not carried are those of the words that count.
-  pub posted-none :
+  posted-none :
       (which : Bool) (rider x : ℕ) → rider < 21 → NotCarried ride rider → x < 32
       → sumOf which (posted tariff counts book window checkout ride) rider x ≡ sumOf which (wordsIn window book) rider x
   posted-none which rider x hr out hx =
@@ -375,7 +396,7 @@ module _ {tariff : List ℕ} {counts : Counts} {book : List ℕ} {ride : Ride} (
       ∙ adults-riders which rider x (⊎-elim (λ h. h .0) (λ h. omega (arith, ok .adults)) out) hx
 
   -- The account holder's and each adult's sums are those with the rider's charge added.
-  pub posted-adult :
+  posted-adult :
       (which : Bool) (rider x : ℕ) → rider < 1 + ride .party .adults → x < 32
       → sumOf which (posted tariff counts book window checkout ride) rider x
       ≡ sumOf which (wordsIn window book) rider x + added which tariff counts ride x (getD (chargesIn tariff counts book window ride) rider 0)
@@ -392,22 +413,22 @@ module _ {tariff : List ℕ} {counts : Counts} {book : List ℕ} {ride : Ride} (
       (opened-sum window checkout (wordsIn window book) which rider x hx)
 
   -- So are each child's.
-  pub posted-child :
+  posted-child :
       (which : Bool) (i x : ℕ) → i < ride .party .children → x < 32
-      → sumOf which (posted tariff counts book window checkout ride) (11 + i) x
-      ≡ sumOf which (wordsIn window book) (11 + i) x
+      → sumOf which (posted tariff counts book window checkout ride) (firstChild + i) x
+      ≡ sumOf which (wordsIn window book) (firstChild + i) x
       + added which tariff counts ride x (getD (chargesIn tariff counts book window ride) (1 + ride .party .adults + i) 0)
   posted-child which i x h hx =
-      posted-riders which (11 + i) x (omega (arith, ok .children)) hx
-      ∙ list-sum t ride (ok .area) 11 (chargesIn tariff counts book window ride) (1 + ride .party .adults) which (ride .party .children)
+      posted-riders which (firstChild + i) x (omega (arith, ok .children)) hx
+      ∙ list-sum t ride (ok .area) firstChild (chargesIn tariff counts book window ride) (1 + ride .party .adults) which (ride .party .children)
       (adultsIn tariff counts book window checkout ride) adults-size (omega (arith, ok .children))
       (λ k hk y hy which′.
-      rw (adults-riders which′ (11 + k) y (omega (arith, ok .adults)) hy)
-      (counting-room c (11 + k) (getD (chargesIn tariff counts book window ride) (1 + ride .party .adults + k) 0) (omega (arith, ok .children))
+      rw (adults-riders which′ (firstChild + k) y (omega (arith, ok .adults)) hy)
+      (counting-room c (firstChild + k) (getD (chargesIn tariff counts book window ride) (1 + ride .party .adults + k) 0) (omega (arith, ok .children))
       (charges-most ok (window .current) (1 + ride .party .adults + k)) y hy which′))
       i h x hx
       ∙ ap (_+ added which tariff counts ride x (getD (chargesIn tariff counts book window ride) (1 + ride .party .adults + i) 0))
-      (adults-riders which (11 + i) x (omega (arith, ok .adults)) hx)
+      (adults-riders which (firstChild + i) x (omega (arith, ok .adults)) hx)
 
   -- Every rider's sums grow by the rider's own charge in each area that the ride's area lies within, and in no other.
   pub posted-sum :
@@ -422,7 +443,7 @@ module _ {tariff : List ℕ} {counts : Counts} {book : List ℕ} {ride : Ride} (
       (λ r h. rw (own-adult ride (chargesIn tariff counts book window ride) r (ok .adults) h) (posted-adult which r x h hx))
       (λ i h. rw (own-child ride (chargesIn tariff counts book window ride) i h) (posted-child which i x h hx))
       (λ out. rw (own-none ride (chargesIn tariff counts book window ride) rider out)
-      (posted-none which rider x hr out hx ∙ nothing (counted which (ride .class) && liesWithin tariff counts (ride .area) x) _))
+      (posted-none which rider x hr out hx ∙ nothing (counted which (ride .class) && within (treeOf tariff counts false) (ride .area) x) _))
     where
       nothing : (s : Bool) (n : ℕ) → n ≡ n + cond s 0 0
       nothing true n = sym (add-zero n)
@@ -433,4 +454,4 @@ module _ {tariff : List ℕ} {counts : Counts} {book : List ℕ} {ride : Ride} (
       (rider : ℕ) → rider < 21
       → allSum (posted tariff counts book window checkout ride) rider 0
       ≡ allSum (wordsIn window book) rider 0 + ownCharge ride (chargesIn tariff counts book window ride) rider
-  state-sum rider hr = rw (within-state t (ride .area) (ok .area)) at (posted-sum false rider 0 hr (omega arith))
+  state-sum rider hr = rw (within-state (is-tree t false) (ride .area) (ok .area)) at (posted-sum false rider 0 hr (omega arith))

@@ -12,8 +12,8 @@ use borrow.Author.Tests.{leb-true, ltb-false, eqb-false, ne-eqb, not-true}
 use lib.Dec.{eqb}
 use Rattle.units.specs.Day.{dayMinutes}
 use Rattle.calendar.specs.Stamps.{lastMinute}
+use Rattle.caps.specs.Tree.{within}
 use Rattle.tariff.specs.declared.Counts.{Counts}
-use Rattle.tariff.specs.Areas.{liesWithin}
 use Rattle.wire.proofs.Tests.{both-left, both-right}
 use Rattle.fare.specs.declared.Ride.{Ride}
 use Rattle.fare.specs.Prices.{mostPrice}
@@ -21,7 +21,8 @@ use Rattle.book.specs.declared.Window.{Window}
 use Rattle.book.specs.Words.{tripsOf, openingOf, lastOutOf}
 use Rattle.book.specs.Sound.{sound}
 use Rattle.book.specs.Windows.{tooEarly, belongs, windowOf}
-use Rattle.book.specs.Charging.{Rideable}
+use Rattle.book.specs.Caps.{treeOf}
+use Rattle.book.specs.Contracts.{Rideable}
 use Rattle.book.specs.Posting.{posted}
 use Rattle.book.proofs.SoundLaws.{HeadRight, PairSound, SoundBook, head-back, sound-has, sound-back}
 use Rattle.book.proofs.PostedLaws.{counting, chargesIn, ownCharge, posted-size, posted-trips, posted-opening, posted-out, posted-covers, posted-sum, own-range}
@@ -104,7 +105,7 @@ module _ {tariff : List ℕ} {counts : Counts} {book : List ℕ} {ride : Ride} (
   posted-pair rider area hr ha =
       let room = window-room right in
       let own = ownCharge ride (chargesIn tariff counts book window ride) rider in
-      let inside = liesWithin tariff counts (ride .area) area in
+      let inside = within (treeOf tariff counts false) (ride .area) area in
       let before = counting (window .current) (sound-has book (counts .areas) (ok .sound-book)) room .pairs rider area hr ha in
       let second = posted-sum ok window checkout room true rider area hr ha in
       let all = posted-sum ok window checkout room false rider area hr ha in

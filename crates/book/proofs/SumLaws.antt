@@ -4,22 +4,25 @@ use Prim.Native.Nat.{ℕ, zero, suc, _+_, _-_, _*_, _^_, _≤_, _<_}
 use native.Mathlib.Nat.{add-zero}
 use native.Mathlib.Omega.{arith}
 use native.Mathlib.Decide.{ℕ-discrete}
-use mathlib.Core.Path.{_≡_, refl, sym, ap, _∙_}
+use mathlib.Core.Path.{_≡_, refl, sym, ap, subst, _∙_}
 use mathlib.Core.Logic.{_⊎_, inl, inr, ⊎-elim}
 use mathlib.Core.Bool.{Bool, true, false, cond, _&&_, _||_, and-true, and-false}
 use mathlib.Core.List.{List}
 use borrow.Author.Tests.{eq-eqb, ne-eqb, eqb-true}
 use lib.ListN.{length, getD}
 use lib.Dec.{eqb}
+use Rattle.caps.specs.Tree.{IsTree, within}
+use Rattle.caps.proofs.Climb.{fold-keeps, upwards, climb-top, climb-up, within-top, within-above, within-self, within-parent, within-there, not-within-child}
 use Rattle.tariff.specs.declared.Counts.{Counts}
 use Rattle.tariff.specs.Rules.{levelOf}
-use Rattle.tariff.specs.Areas.{parentOf, liesWithin, FaultlessTariff}
-use Rattle.tariff.proofs.Within.{above-of, parent-there}
+use Rattle.tariff.specs.Areas.{parentOf, FaultlessTariff}
+use Rattle.tariff.proofs.Within.{parent-there}
 use Rattle.fare.specs.declared.Ride.{Ride}
 use Rattle.book.specs.Words.{bookSize, word, putWord, pairPlace, secondSum, allSum}
+use Rattle.book.specs.Caps.{treeOf}
 use Rattle.book.specs.Posting.{addHere, addUp, addList}
 use Rattle.book.proofs.WordLaws.{word-put-same, word-put-other, size-put}
-use Rattle.book.proofs.Chains.{within-top, within-above, below-state, above-other}
+use Rattle.book.proofs.Trees.{is-tree}
 
 -- the one or the other of a rider's two sums in an area
 abbrev pub sumOf : Bool → List ℕ → ℕ → ℕ → ℕ
@@ -105,11 +108,24 @@ one-hit true true v n c never = rw (never refl) (add-zero _)
 one-hit true false v n c never = ap (_+ cond v c 0) (add-zero n)
 one-hit false s v n c never = add-zero _
 
+-- what does not hold is false
+not-so : (s : Bool) → (s ≡ true → ⊥) → s ≡ false
+not-so true never = absurd (never refl)
+not-so false never = refl
+
 module _ {tariff : List ℕ} {counts : Counts} (t : FaultlessTariff tariff counts) (r class c : ℕ) (hr : r < 21) where
-  pub up-size : (l : ℕ) (b : List ℕ) (a : ℕ) → length (addUp l tariff counts b r class a c) ≡ length b
+  tree : IsTree (treeOf tariff counts false)
+  tree = is-tree t false
+
+  -- one step of the way up
+  abbrev adding : ℕ → List ℕ → List ℕ
+  adding a b = addHere b r class a c
+
+  pub up-size : (b : List ℕ) (a : ℕ) → a < counts .areas → length (addUp tariff counts b r class a c) ≡ length b
   unfolding addUp
-  up-size zero b a = here-size b r class a c
-  up-size (suc l) b a = up-size l (addHere b r class a c) (parentOf tariff counts a) ∙ here-size b r class a c
+  up-size b a there =
+      fold-keeps (parentOf tariff counts) (counts .areas) (parent-there t) adding (λ (l : List ℕ). length l ≡ length b)
+      (λ x h l e. here-size l r class x c ∙ e) (levelOf tariff counts a) a there b refl
 
   -- a word outside the rider's own is not one of the two in any area
   off : (b : List ℕ) (a : ℕ) → a < counts .areas → (j : ℕ) → (j < 3 + 64 * r) ⊎ (67 + 64 * r ≤ j) → word (addHere b r class a c) j ≡ word b j
@@ -120,38 +136,52 @@ module _ {tariff : List ℕ} {counts : Counts} (t : FaultlessTariff tariff count
 
   -- Every word outside the rider's own stays.
   pub up-other :
-      (l : ℕ) (b : List ℕ) (a : ℕ) → a < counts .areas → (j : ℕ) → (j < 3 + 64 * r) ⊎ (67 + 64 * r ≤ j)
-      → word (addUp l tariff counts b r class a c) j ≡ word b j
+      (b : List ℕ) (a : ℕ) → a < counts .areas → (j : ℕ) → (j < 3 + 64 * r) ⊎ (67 + 64 * r ≤ j)
+      → word (addUp tariff counts b r class a c) j ≡ word b j
   unfolding addUp
-  up-other zero b a there j out = off b a there j out
-  up-other (suc l) b a there j out =
-      up-other l (addHere b r class a c) (parentOf tariff counts a) (parent-there t a there) j out ∙ off b a there j out
+  up-other b a there j out =
+      fold-keeps (parentOf tariff counts) (counts .areas) (parent-there t) adding (λ (l : List ℕ). word l j ≡ word b j)
+      (λ x h l e. off l x h j out ∙ e) (levelOf tariff counts a) a there b refl
 
   -- The rider's sums grow by the charge in each area that the ride's area lies within, and in no other.
   pub up-sum :
-      (which : Bool) (l : ℕ) (b : List ℕ) (a : ℕ) → length b ≡ bookSize → a < counts .areas → levelOf tariff counts a ≡ l
-      → ((x : ℕ) → x ≤ a → Fits b r c x) → (x : ℕ) → x < 32
-      → sumOf which (addUp l tariff counts b r class a c) r x ≡ sumOf which b r x + cond (counted which class && liesWithin tariff counts a x) c 0
+      (which : Bool) (a : ℕ) → a < counts .areas → (b : List ℕ) → length b ≡ bookSize
+      → ((x : ℕ) → within (treeOf tariff counts false) a x ≡ true → Fits b r c x) → (x : ℕ) → x < 32
+      → sumOf which (addUp tariff counts b r class a c) r x
+      ≡ sumOf which b r x + cond (counted which class && within (treeOf tariff counts false) a x) c 0
   unfolding addUp
-  up-sum which zero b a size there level fits x hx =
-      let few = t .few-areas in
-      rw (within-top t a x there level) (here-sum which b r class a c size hr (omega arith) (fits a (omega arith)) x hx)
-  up-sum which (suc l) b a size there level fits x hx =
-      let few = t .few-areas in
-      let above = above-of t a there in
+  up-sum which =
+      upwards tree
+      (λ a.
+      (b : List ℕ) → length b ≡ bookSize → ((x : ℕ) → within (treeOf tariff counts false) a x ≡ true → Fits b r c x) → (x : ℕ) → x < 32
+      → sumOf which (addUp tariff counts b r class a c) r x
+      ≡ sumOf which b r x + cond (counted which class && within (treeOf tariff counts false) a x) c 0)
+      (λ a h top b size fits x hx.
+      ap (λ (l : List ℕ). sumOf which l r x) (climb-top tree adding a top b)
+      ∙ rw (within-top tree a x top) (one a h b size (fits a (within-self tree a h)) which x hx))
+      λ a h low above b size fits x hx.
       let up = parentOf tariff counts a in
-      let b′ = addHere b r class a c in
-      let earlier = above .earlier (below-state t a x there (omega arith)) in
-      let fits′ : (y : ℕ) → y ≤ up → Fits b′ r c y =
-      λ y h which′.
-      rw (here-sum which′ b r class a c size hr (omega arith) (fits a (omega arith)) y (omega arith), ne-eqb a y (λ e. omega arith), and-false, add-zero)
-      (fits y (omega arith) which′)
+      let own = fits a (within-self tree a h) in
+      let fits′ : (y : ℕ) → within (treeOf tariff counts false) up y ≡ true → Fits (adding a b) r c y =
+      λ y w which′.
+      let there = within-there tree up (parent-there t a h) y w in
+      let other : a ≡ y → ⊥ = λ e. not-within-child tree a h low (subst (λ (z : ℕ). within (treeOf tariff counts false) up z ≡ true) (sym e) w) in
+      rw (one a h b size own which′ y (omega (arith, t .few-areas)), ne-eqb a y other, and-false, add-zero)
+      (fits y (within-parent tree a y h low w) which′)
       in
-      up-sum which l b′ up (here-size b r class a c ∙ size) (parent-there t a there) (omega (arith, above .level-up)) fits′ x hx
-      ∙ ap (_+ cond (counted which class && liesWithin tariff counts up x) c 0) (here-sum which b r class a c size hr (omega arith) (fits a (omega arith)) x hx)
-      ∙ one-hit (counted which class) (eqb a x) (liesWithin tariff counts up x) (sumOf which b r x) c
-      (λ is. above-other t a x there (omega arith) (eqb-true a x is))
-      ∙ rw (within-above t a x there)
+      ap (λ (l : List ℕ). sumOf which l r x) (climb-up tree adding a h low b)
+      ∙ above (adding a b) (here-size b r class a c ∙ size) fits′ x hx
+      ∙ ap (_+ cond (counted which class && within (treeOf tariff counts false) up x) c 0) (one a h b size own which x hx)
+      ∙ one-hit (counted which class) (eqb a x) (within (treeOf tariff counts false) up x) (sumOf which b r x) c
+      (λ is.
+      not-so (within (treeOf tariff counts false) up x)
+      (λ w. not-within-child tree a h low (subst (λ (z : ℕ). within (treeOf tariff counts false) up z ≡ true) (sym (eqb-true a x is)) w)))
+      ∙ rw (within-above tree a x h low)
+    where
+      one :
+          (a : ℕ) → a < counts .areas → (b : List ℕ) → length b ≡ bookSize → Fits b r c a → (which : Bool) (x : ℕ) → x < 32
+          → sumOf which (addHere b r class a c) r x ≡ sumOf which b r x + cond (counted which class && eqb a x) c 0
+      one a h b size fits which x hx = here-sum which b r class a c size hr (omega (arith, t .few-areas)) fits x hx
 
 -- ---- Several riders.
 
@@ -167,7 +197,7 @@ module _ {tariff : List ℕ} {counts : Counts} (t : FaultlessTariff tariff count
   pub list-size : (n : ℕ) (b : List ℕ) → first + n ≤ 21 → length (addList tariff counts ride first n charges from b) ≡ length b
   unfolding addList
   list-size zero b few = refl
-  list-size (suc n) b few = up-size t (first + n) _ _ (omega arith) _ _ _ ∙ list-size n b (omega arith)
+  list-size (suc n) b few = up-size t (first + n) _ _ (omega arith) _ _ there ∙ list-size n b (omega arith)
 
   -- Every word outside the riders' own stays.
   pub list-other :
@@ -176,7 +206,7 @@ module _ {tariff : List ℕ} {counts : Counts} (t : FaultlessTariff tariff count
   unfolding addList
   list-other zero b few j out = refl
   list-other (suc n) b few j out =
-      up-other t (first + n) _ _ (omega arith) _ _ _ there j (⊎-elim (λ h. inl (omega arith)) (λ h. inr (omega arith)) out)
+      up-other t (first + n) _ _ (omega arith) _ _ there j (⊎-elim (λ h. inl (omega arith)) (λ h. inr (omega arith)) out)
       ∙ list-other n b (omega arith) j (⊎-elim inl (λ h. inr (omega arith)) out)
 
   -- Sums of other riders stay.
@@ -192,7 +222,7 @@ module _ {tariff : List ℕ} {counts : Counts} (t : FaultlessTariff tariff count
       (which : Bool) (n : ℕ) (b : List ℕ) → length b ≡ bookSize → first + n ≤ 21
       → ((i : ℕ) → i < n → (x : ℕ) → x < 32 → Fits b (first + i) (getD charges (from + i) 0) x) → (i : ℕ) → i < n → (x : ℕ) → x < 32
       → sumOf which (addList tariff counts ride first n charges from b) (first + i) x
-      ≡ sumOf which b (first + i) x + cond (counted which (ride .class) && liesWithin tariff counts (ride .area) x) (getD charges (from + i) 0) 0
+      ≡ sumOf which b (first + i) x + cond (counted which (ride .class) && within (treeOf tariff counts false) (ride .area) x) (getD charges (from + i) 0) 0
   unfolding addList
   list-sum which zero b size few fits i h x hx = absurd (omega arith)
   list-sum which (suc n) b size few fits i h x hx =
@@ -202,18 +232,19 @@ module _ {tariff : List ℕ} {counts : Counts} (t : FaultlessTariff tariff count
       let class = ride .class in
       let a = ride .area in
       let sized : length before ≡ bookSize = list-size n b (omega arith) ∙ size in
-      let fits′ : (y : ℕ) → y ≤ a → Fits before (first + n) c y =
-      λ y le which′.
-      rw (list-riders which′ n b (omega arith) (first + n) y (inr (omega arith)) (omega arith)) (fits n (omega arith) y (omega arith) which′)
+      let fits′ : (y : ℕ) → within (treeOf tariff counts false) a y ≡ true → Fits before (first + n) c y =
+      λ y w which′.
+      let small : y < 32 = omega (arith, within-there (is-tree t false) a there y w) in
+      rw (list-riders which′ n b (omega arith) (first + n) y (inr (omega arith)) small) (fits n (omega arith) y small which′)
       in
       elim (ℕ-discrete i n) [
         | yes is ↦
             rw is
-            (up-sum t (first + n) class c (omega arith) which (levelOf tariff counts a) before a sized there refl fits′ x hx
-            ∙ ap (_+ cond (counted which class && liesWithin tariff counts a x) c 0)
+            (up-sum t (first + n) class c (omega arith) which a there before sized fits′ x hx
+            ∙ ap (_+ cond (counted which class && within (treeOf tariff counts false) a x) c 0)
             (list-riders which n b (omega arith) (first + n) x (inr (omega arith)) hx))
         | no ne ↦
             sum-by-words which _ before (first + i) x
-            (λ j low high. up-other t (first + n) class c (omega arith) (levelOf tariff counts a) before a there j (inl (omega arith))) hx
+            (λ j low high. up-other t (first + n) class c (omega arith) before a there j (inl (omega arith))) hx
             ∙ list-sum which n b size (omega arith) (λ k hk. fits k (omega arith)) i (omega arith) x hx
       ]

@@ -4,3 +4,4 @@ pub mod Windows
 pub mod Caps
 pub mod Charging
 pub mod Posting
+pub mod Contracts

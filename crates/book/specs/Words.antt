@@ -1,6 +1,5 @@
 -- Paper 01, "The book": 5,428 bytes, 1,357 little-endian words of 4 bytes.
-use Prim.Native.Nat.{ℕ, _+_, _*_, _^_, _<_}
-use mathlib.Core.Path.{_≡_}
+use Prim.Native.Nat.{ℕ, _+_, _*_}
 use mathlib.Core.List.{List}
 use lib.ListN.{replicate}
 use Rattle.wire.specs.Number.{getLe, putLe}
@@ -31,7 +30,11 @@ openingOf book = word book 1
 abbrev pub lastOutOf : List ℕ → ℕ
 lastOutOf book = word book 2
 
--- for rider r (0 holder, 1..10 adults, 11..20 children) and area a, words 3+64r+2a and the next
+-- riders: 0 holder, 1..10 adults, 11..20 children
+abbrev pub firstChild : ℕ
+firstChild = 11
+
+-- for rider r and area a, words 3+64r+2a and the next
 abbrev pub pairPlace : ℕ → ℕ → ℕ
 pairPlace rider area = 3 + 64 * rider + 2 * area
 
@@ -55,7 +58,3 @@ coverPlace bicycle = 1347 + bicycle
 
 abbrev pub coverWord : List ℕ → ℕ → ℕ
 coverWord book bicycle = word book (coverPlace bicycle)
-
-pub record Word (book : List ℕ) (place r : ℕ) : Type 0 where
-  pub value : r ≡ word book place
-  pub range : r < 2 ^ 32

@@ -1,5 +1,6 @@
 // What each of a party is charged. Nothing here writes to a book; in a new window the sums and bicycles count as none.
 use crate::Charge;
+use crate::Riders;
 use crate::limits::Chain;
 use crate::limits::Link;
 use crate::limits::chain_of;
@@ -19,12 +20,10 @@ ghost use mathlib.Core.Path.{_≡_};
 ghost use mathlib.Core.Bool.{true};
 ghost use Prim.Native.Nat.{_+_, _≤_, _<_};
 ghost use lib.ListN.{length};
-ghost use lib.Seq.{sets};
 ghost use Rattle.tariff.specs.Areas.{Read};
-ghost use Rattle.book.specs.Words.{bookSize, bookWords, Word};
+ghost use Rattle.book.specs.Words.{bookSize, bookWords};
 ghost use Rattle.book.specs.Windows.{inWindow};
-ghost use Rattle.book.specs.Caps.{Places};
-ghost use Rattle.book.specs.Charging.{Rideable, cappedAtLink, ChargeBy, NewCover, BicycleCharge, riderCharges, bicycleCharges, chargesOf};
+ghost use Rattle.book.specs.Contracts.{Word, Rideable, Places, cappedAtLink, ChargeBy, Chargeable, withRiders, withBicycles, AllCharged, NewCover, BicycleCharge};
 
 // A word of the book, which is 0 in a new window.
 fn get_in(book: &[u8], current: bool, place: usize) -> u32
@@ -75,25 +74,26 @@ pub fn charge(
     }
 }
 
-// The charges of `count` riders from `first` on, adults or children, into the party's amounts from `from` on.
+// The charges of riders, into the party's amounts.
 fn charge_riders(
     tariff: &[u8],
     counts: Counts,
     book: &[u8],
     current: bool,
     ride: Ride,
-    child: bool,
-    first: usize,
-    count: usize,
+    riders: Riders,
     amounts: &mut [u32],
-    from: usize,
 )
-    requires { ⌜ Rideable (now tariff) counts (now book) ride × ((first + count ≤ 21) × (from + count ≤ length (now amounts))) ⌝ }
-    ensures { λ _. ⌜ now (amounts .exit) ≡ sets (now (amounts .entry)) from (riderCharges (now (tariff .entry)) counts (inWindow current (now (book .entry))) ride child first count) ⌝ }
+    requires { ⌜ Chargeable (now tariff) counts (now book) ride riders (now amounts) ⌝ }
+    ensures { λ _. ⌜ now (amounts .exit) ≡ withRiders (now (tariff .entry)) counts (inWindow current (now (book .entry))) ride riders (now (amounts .entry)) ⌝ }
 {
+    let count = riders.count;
     if count == 0 {
         return;
     }
+    let child = riders.child;
+    let first = riders.first;
+    let from = riders.from;
     let class = ride.class;
     let at = ride.area;
     let fare = price(area(tariff, counts, at), ride, child);
@@ -145,7 +145,7 @@ fn charge_bicycles(
     from: usize,
 )
     requires { ⌜ Rideable (now tariff) counts (now book) ride × ((count ≤ 10) × (from + count ≤ length (now amounts))) ⌝ }
-    ensures { λ _. ⌜ now (amounts .exit) ≡ sets (now (amounts .entry)) from (bicycleCharges (now (tariff .entry)) counts (inWindow current (now (book .entry))) ride count) ⌝ }
+    ensures { λ _. ⌜ now (amounts .exit) ≡ withBicycles (now (tariff .entry)) counts (inWindow current (now (book .entry))) ride count from (now (amounts .entry)) ⌝ }
 {
     let at = ride.area;
     for i in 0..count {
@@ -166,36 +166,26 @@ pub fn charges_of(
     amounts: &mut [u32],
 ) -> usize
     requires { ⌜ Rideable (now tariff) counts (now book) ride × (length (now amounts) ≡ 31) ⌝ }
-    ensures { λ r. ⌜ (r ≡ length (chargesOf (now (tariff .entry)) counts (inWindow current (now (book .entry))) ride)) × (now (amounts .exit) ≡ sets (now (amounts .entry)) 0 (chargesOf (now (tariff .entry)) counts (inWindow current (now (book .entry))) ride)) ⌝ }
+    ensures { λ r. ⌜ AllCharged (now (tariff .entry)) counts (inWindow current (now (book .entry))) ride (now (amounts .entry)) (now (amounts .exit)) r ⌝ }
 {
     let party = ride.party;
     let adults = 1 + party.adults as usize;
     let children = party.children as usize;
     let bicycles = party.bicycles as usize;
-    charge_riders(
-        tariff,
-        counts,
-        book,
-        current,
-        ride,
-        false,
-        0,
-        adults,
-        amounts,
-        0,
-    );
-    charge_riders(
-        tariff,
-        counts,
-        book,
-        current,
-        ride,
-        true,
-        FIRST_CHILD,
-        children,
-        amounts,
-        adults,
-    );
+    let older = Riders {
+        child: false,
+        first: 0,
+        count: adults,
+        from: 0,
+    };
+    let younger = Riders {
+        child: true,
+        first: FIRST_CHILD,
+        count: children,
+        from: adults,
+    };
+    charge_riders(tariff, counts, book, current, ride, older, amounts);
+    charge_riders(tariff, counts, book, current, ride, younger, amounts);
     charge_bicycles(
         tariff,
         counts,

@@ -24,6 +24,15 @@ pub struct Window {
     pub trips: u32,
 }
 
+// Riders who are charged alike, adults or children: `count` of them from number `first` on. Their amounts stand among the party's from
+// `from` on.
+pub struct Riders {
+    pub child: bool,
+    pub first: usize,
+    pub count: usize,
+    pub from: usize,
+}
+
 // One person's charge.
 pub struct Charge {
     pub amount: Cents,

@@ -10,7 +10,8 @@ use units::reduced;
 ghost use mathlib.Core.Path.{_≡_};
 ghost use Prim.Native.Nat.{_<_};
 ghost use Rattle.tariff.specs.Areas.{AreaRanges, Read};
-ghost use Rattle.book.specs.Caps.{capsHere, linkOf, ChainOf};
+ghost use Rattle.book.specs.Caps.{capsHere};
+ghost use Rattle.book.specs.Contracts.{linkOf, ChainOf};
 
 // An area of a chain, with its caps.
 pub struct Link {

@@ -1,4 +1,5 @@
 // The window opened, the charges added to the sums, the bicycles' covering areas: all that is ever written to a book.
+use crate::Riders;
 use crate::Window;
 use crate::charging::new_cover;
 use crate::words::FIRST_CHILD;
@@ -14,16 +15,15 @@ use fare::Ride;
 use tariff::Counts;
 use tariff::areas::level;
 use tariff::areas::parent;
+use units::Cents;
 use units::Minutes;
 ghost use mathlib.Core.Path.{_≡_};
-ghost use Prim.Native.Nat.{_≤_, _<_};
+ghost use Prim.Native.Nat.{_≤_};
 ghost use lib.ListN.{length};
-ghost use Rattle.tariff.specs.Areas.{Read};
-ghost use Rattle.tariff.specs.Rules.{levelOf};
-ghost use Rattle.fare.specs.Prices.{mostPrice};
 ghost use Rattle.book.specs.Words.{bookSize, freshBook};
 ghost use Rattle.book.specs.Windows.{inWindow};
-ghost use Rattle.book.specs.Posting.{FreshOrUsed, Room, RoomHere, Adding, Covering, Postable, addHere, addUp, addList, coverBicycles, opened, posted};
+ghost use Rattle.book.specs.Posting.{addHere, addUp, coverBicycles, opened, posted};
+ghost use Rattle.book.specs.Contracts.{FreshOrUsed, AddingHere, AddingUp, Adding, addRiders, Covering, Postable};
 
 // All sums and bicycles back to none.
 fn clear(book: &mut [u8])
@@ -51,16 +51,17 @@ fn open_window(book: &mut [u8], window: Window, checkout: Minutes)
 }
 
 // A charge added to a rider's sums in one area: in all classes, and in second class if that is the class.
-fn add_here(book: &mut [u8], rider: usize, class: u8, at: usize, amount: u32)
-    requires { ⌜ ((length (now book) ≡ bookSize) × (rider < 21)) × ((at < 32) × ((amount ≤ mostPrice) × RoomHere (now book) rider at)) ⌝ }
-    ensures { λ _. ⌜ now (book .exit) ≡ addHere (now (book .entry)) rider class at amount ⌝ }
+fn add_here(book: &mut [u8], rider: usize, class: u8, at: usize, amount: Cents)
+    requires { ⌜ AddingHere (now book) rider at (amount .0) ⌝ }
+    ensures { λ _. ⌜ now (book .exit) ≡ addHere (now (book .entry)) rider class at (amount .0) ⌝ }
 {
+    let cents = amount.0;
     let place = pair(rider, at);
     if class == 2 {
-        let second = get(book, place) + amount;
+        let second = get(book, place) + cents;
         put(book, place, second);
     }
-    let all = get(book, place + 1) + amount;
+    let all = get(book, place + 1) + cents;
     put(book, place + 1, all);
 }
 
@@ -72,10 +73,10 @@ fn add_up(
     rider: usize,
     class: u8,
     at: usize,
-    amount: u32,
+    amount: Cents,
 )
-    requires { ⌜ ((length (now book) ≡ bookSize) × (rider < 21)) × ((Read (now tariff) counts × (at < counts .areas)) × ((amount ≤ mostPrice) × Room (now book) rider)) ⌝ }
-    ensures { λ _. ⌜ now (book .exit) ≡ addUp (levelOf (now (tariff .entry)) counts at) (now (tariff .entry)) counts (now (book .entry)) rider class at amount ⌝ }
+    requires { ⌜ AddingUp (now tariff) counts (now book) rider at (amount .0) ⌝ }
+    ensures { λ _. ⌜ now (book .exit) ≡ addUp (now (tariff .entry)) counts (now (book .entry)) rider class at (amount .0) ⌝ }
 {
     let mut up = at;
     let mut above = level(tariff, counts, at);
@@ -87,24 +88,25 @@ fn add_up(
     add_here(book, rider, class, up, amount);
 }
 
-// The charges of `count` riders from `first` on, which stand in the party's amounts from `from` on.
+// The charges of riders, which stand in the party's amounts.
 fn add_riders(
     tariff: &[u8],
     counts: Counts,
     book: &mut [u8],
     ride: Ride,
-    first: usize,
-    count: usize,
+    riders: Riders,
     amounts: &[u32],
-    from: usize,
 )
-    requires { ⌜ Adding (now tariff) counts (now book) ride first count (now amounts) from ⌝ }
-    ensures { λ _. ⌜ now (book .exit) ≡ addList (now (tariff .entry)) counts ride first count (now (amounts .entry)) from (now (book .entry)) ⌝ }
+    requires { ⌜ Adding (now tariff) counts (now book) ride riders (now amounts) ⌝ }
+    ensures { λ _. ⌜ now (book .exit) ≡ addRiders (now (tariff .entry)) counts ride riders (now (amounts .entry)) (now (book .entry)) ⌝ }
 {
+    let count = riders.count;
+    let first = riders.first;
+    let from = riders.from;
     let class = ride.class;
     let at = ride.area;
     for i in 0..count {
-        let amount = amounts[from + i];
+        let amount = Cents(amounts[from + i]);
         add_up(tariff, counts, book, first + i, class, at, amount);
     }
 }
@@ -139,17 +141,20 @@ pub fn post(
     let party = ride.party;
     let adults = 1 + party.adults as usize;
     let children = party.children as usize;
+    let older = Riders {
+        child: false,
+        first: 0,
+        count: adults,
+        from: 0,
+    };
+    let younger = Riders {
+        child: true,
+        first: FIRST_CHILD,
+        count: children,
+        from: adults,
+    };
     open_window(book, window, checkout);
-    add_riders(tariff, counts, book, ride, 0, adults, amounts, 0);
-    add_riders(
-        tariff,
-        counts,
-        book,
-        ride,
-        FIRST_CHILD,
-        children,
-        amounts,
-        adults,
-    );
+    add_riders(tariff, counts, book, ride, older, amounts);
+    add_riders(tariff, counts, book, ride, younger, amounts);
     cover_bicycles(tariff, counts, book, ride, party.bicycles as usize);
 }

@@ -4,7 +4,8 @@ use wire::put_four;
 ghost use mathlib.Core.Path.{_≡_};
 ghost use Prim.Native.Nat.{_<_};
 ghost use lib.ListN.{length};
-ghost use Rattle.book.specs.Words.{bookSize, bookWords, putWord, pairPlace, pairs, pairAt, coverPlace, Word};
+ghost use Rattle.book.specs.Words.{bookSize, bookWords, putWord, pairPlace, pairs, pairAt, coverPlace};
+ghost use Rattle.book.specs.Contracts.{Word};
 
 pub const SIZE: usize = 5_428;
 

@@ -97,12 +97,12 @@ module _ {t : Tree} (tree : IsTree t) where
 
   -- the state lies within itself alone
   pub within-top : (a x : ℕ) → t .level a ≡ 0 → within t a x ≡ eqb a x
-  unfolding within among
+  unfolding among
   within-top a x top = climb-top (λ b found. found || eqb b x) a top false
 
   -- any other area lies within itself, and within what its parent lies within
   pub within-above : (a x : ℕ) → a < t .size → 0 < t .level a → within t a x ≡ eqb a x || within t (t .parent a) x
-  unfolding within among
+  unfolding among
   within-above a x h low =
       climb-up (λ b found. found || eqb b x) a h low false
       ∙ fold-related (t .parent) (t .size) (tree .parent-there) (λ b found. found || eqb b x) (λ b found. found || eqb b x)
@@ -115,7 +115,7 @@ module _ {t : Tree} (tree : IsTree t) where
 
   -- "Within" by a way of n steps, where n is enough.
   pub within-past : (a x n : ℕ) → a < t .size → t .level a ≤ n → among (t .parent) n a x ≡ within t a x
-  unfolding within among
+  unfolding among
   within-past a x n h some = climb-past (λ b found. found || eqb b x) (λ found. or-again found (eqb 0 x)) a h n some false
 
   -- an area lies within itself
@@ -159,6 +159,12 @@ module _ {t : Tree} (tree : IsTree t) where
       λ a h low ih x w.
       ⊎-elim (λ (same : a ≡ x). rw same (le-refl (t .level x))) (λ r. omega (arith, ih x (r .1), tree .parent-level a h low))
       (within-cases a x h w)
+
+  -- and is an area of the tree
+  pub within-there : (a : ℕ) → a < t .size → (x : ℕ) → within t a x ≡ true → x < t .size
+  within-there =
+      upwards (λ a. (x : ℕ) → within t a x ≡ true → x < t .size) (λ a h top x w. rw (← (top-alone a x top w)) h)
+      (λ a h low ih x w. ⊎-elim (λ (same : a ≡ x). rw (← same) h) (λ r. ih x (r .1)) (within-cases a x h w))
 
   -- a parent lies within none of its children
   pub not-within-child : (a : ℕ) → a < t .size → 0 < t .level a → within t (t .parent a) a ≡ true → ⊥

@@ -37,7 +37,7 @@ abbrev pub climb : {X : Type 0} → Tree → (ℕ → X → X) → ℕ → X →
 climb t step area x = foldUp (t .parent) step (t .level area) area x
 
 -- an area lies within itself and within every area above it
-unfoldable pub within : Tree → ℕ → ℕ → Bool
+abbrev pub within : Tree → ℕ → ℕ → Bool
 within t area x = among (t .parent) (t .level area) area x
 
 -- the charge: an amount, cut at an area and at every area above it to what the caps there have left over these sums

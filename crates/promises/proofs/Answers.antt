@@ -28,7 +28,8 @@ use Rattle.fare.specs.Contracts.{Riding}
 use Rattle.fare.proofs.Distance.{km-holds, km-least, km-range}
 use Rattle.fare.proofs.Stops.{stop-there, area-of-stops}
 use Rattle.book.specs.Windows.{windowOf, inWindow}
-use Rattle.book.specs.Charging.{Rideable, chargesOf}
+use Rattle.book.specs.Charging.{chargesOf}
+use Rattle.book.specs.Contracts.{Rideable}
 use Rattle.book.specs.Posting.{posted}
 use Rattle.book.proofs.SoundLaws.{sound-has}
 use Rattle.book.proofs.SoundAgain.{WindowRight, window-right}

@@ -21,7 +21,7 @@ use Rattle.fare.specs.Contracts.{Riding}
 use Rattle.fare.proofs.Distance.{across, km-range}
 use Rattle.fare.proofs.Stops.{stop-there, area-of-stops}
 use Rattle.book.specs.Sound.{sound}
-use Rattle.book.specs.Charging.{Rideable}
+use Rattle.book.specs.Contracts.{Rideable}
 
 -- two stops of the plane are no farther apart than 1,415 kilometres reach
 pub apart-most : {areas : ℕ} (from to : Stop) → StopRanges areas from → StopRanges areas to → apart from to ≤ square (1000 * 1415)
@@ -53,8 +53,3 @@ good-ride tariff counts book bytes trip read right is =
       children = party .children;
       bicycles = party .bicycles;
     }
-
--- Its class is 1 or 2.
-pub good-class :
-    (bytes : List ℕ) (stops : ℕ) (trip : Trip) → readTrip bytes stops ≡ Good trip → (trip .class ≡ 1) ⊎ (trip .class ≡ 2)
-good-class bytes stops trip is = party-ranges (trip .class) (trip .level) (trip .party) (trip .stops) (good bytes stops trip is .right) .class-is

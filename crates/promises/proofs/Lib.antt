@@ -9,4 +9,3 @@ pub mod Shifts
 pub mod Alike
 pub mod RunLaws
 pub mod GoodRides
-pub mod Trees

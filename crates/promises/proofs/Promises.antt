@@ -28,12 +28,14 @@ use Rattle.caps.proofs.Window.{earlier, no-cap-passed, each-no-more-than-price,
 use Rattle.caps.proofs.OneClass.{one-class-total, order-free}
 use Rattle.tariff.specs.declared.Counts.{Counts}
 use Rattle.tariff.specs.Areas.{areaAt, Read}
+use Rattle.tariff.proofs.Faultless.{faultless}
 use Rattle.book.specs.Words.{secondSum, allSum}
 use Rattle.book.specs.Sound.{sound}
-use Rattle.book.specs.Caps.{secondCap, allCap}
+use Rattle.book.specs.Caps.{secondCap, allCap, treeOf}
+use Rattle.book.specs.Charging.{isChild}
+use Rattle.book.proofs.Trees.{is-tree}
 use Rattle.settle.specs.Runs.{Offer}
-use Rattle.promises.specs.Runs.{bookOf, isChild, ridesOf, treeOf, PromiseThree}
-use Rattle.promises.proofs.Trees.{is-tree}
+use Rattle.promises.specs.Runs.{bookOf, ridesOf, PromiseThree}
 use Rattle.promises.proofs.RunLaws.{Kept, kept}
 
 module _ (tariff : List ℕ) (counts : Counts) (read : Read tariff counts) (rider : ℕ) (known : rider < 21) where
@@ -42,7 +44,7 @@ module _ (tariff : List ℕ) (counts : Counts) (read : Read tariff counts) (ride
   tree = treeOf tariff counts (isChild rider)
 
   tree-is : IsTree tree
-  tree-is = is-tree tariff counts read (isChild rider)
+  tree-is = is-tree (faultless tariff counts read) (isChild rider)
 
   module _ (run : List Offer) where
     -- the rider's rides in the window that is open at the run's end, the latest first

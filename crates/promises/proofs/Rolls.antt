@@ -9,13 +9,15 @@ use lib.ListN.{take}
 use Rattle.tariff.specs.declared.Counts.{Counts}
 use Rattle.tariff.specs.Areas.{Read}
 use Rattle.book.specs.Words.{freshBook}
+use Rattle.book.specs.Caps.{treeOf}
+use Rattle.book.specs.Charging.{isChild}
 use Rattle.settle.specs.Outcome.{settled, bookAfter}
 use Rattle.settle.specs.Runs.{Offer, runFrom}
 use Rattle.roll.specs.declared.Line.the-variants.{Refused}
 use Rattle.roll.specs.Lines.{offersOf, brokenIn, lineOf, linesIn, linesOf}
 use Rattle.roll.specs.Pieces.{joined, fedLines}
 use Rattle.roll.proofs.Pieces.{cut-same}
-use Rattle.promises.specs.Runs.{isChild, ridesOf, treeOf, PromiseThree}
+use Rattle.promises.specs.Runs.{ridesOf, PromiseThree}
 use Rattle.promises.proofs.Promises.{promise-three}
 
 -- the first lines of a run are those of its beginning

@@ -1,23 +1,18 @@
 -- A run from a fresh book, trip by trip: the book stays sound, each rider's sums in it are the totals of the rider's rides in its window,
 -- and each of these rides was charged what the caps had left over the totals of the rides before it.
 -- Assumes nothing.
-use Prim.Native.Nat.{ℕ, zero, suc, _+_, _-_, _*_, _≤_, _<_}
+use Prim.Native.Nat.{ℕ, _+_, _≤_, _<_}
+use native.Mathlib.Nat.{add-zero}
 use native.Mathlib.Omega.{arith}
-use mathlib.Core.Path.{_≡_, refl, sym, ap, subst, _∙_}
-use mathlib.Core.Logic.{inl, inr}
+use mathlib.Core.Path.{_≡_, refl, sym, ap, _∙_}
 use mathlib.Core.Bool.{Bool, true, false, cond, _&&_}
 use mathlib.Core.List.{List, [], _∷_}
-use borrow.Author.Tests.{ltb-true, ltb-false, leb-true, leb-false}
-use lib.ListN.{getD}
-use lib.Dec.{leb, ltb}
-use Rattle.caps.specs.Limits.{cappedHere}
-use Rattle.caps.specs.Tree.{Tree, foldUp, within, chargeIn}
+use Rattle.caps.specs.Tree.{Tree, within}
 use Rattle.caps.specs.Rides.{ChargedRide, ChargedInTurn, none, more, allTotal, secondTotal}
+use Rattle.caps.proofs.Charge.{charge-same}
 use Rattle.tariff.specs.declared.Counts.{Counts}
-use Rattle.tariff.specs.Rules.{levelOf}
-use Rattle.tariff.specs.Areas.{areaAt, parentOf, Read}
+use Rattle.tariff.specs.Areas.{Read}
 use Rattle.tariff.proofs.Faultless.{faultless, read-one}
-use Rattle.tariff.proofs.Within.{parent-there}
 use Rattle.trip.specs.declared.Trip.{Trip}
 use Rattle.trip.specs.declared.Offered.the-variants.{Good}
 use Rattle.trip.specs.Trips.{readTrip}
@@ -25,104 +20,27 @@ use Rattle.trip.proofs.Good.{good, good-times}
 use Rattle.fare.specs.declared.Ride.{Ride}
 use Rattle.fare.specs.Rides.{rideOf}
 use Rattle.book.specs.declared.Window.{Window}
-use Rattle.book.specs.Caps.{capsHere}
-use Rattle.book.specs.Words.{freshBook, tripsOf, pairPlace, secondSum, allSum}
+use Rattle.book.specs.Words.{freshBook, tripsOf, pairPlace}
 use Rattle.book.specs.Sound.{sound}
 use Rattle.book.specs.Windows.{tooEarly, belongs, windowOf, inWindow}
-use Rattle.book.specs.Charging.{Rideable, cappedAt, chargeUp, riderCharge, chargesOf}
+use Rattle.book.specs.Caps.{treeOf}
+use Rattle.book.specs.Charging.{isChild, carries, riderCharge, chargesOf}
 use Rattle.book.specs.Posting.{posted}
+use Rattle.book.specs.Contracts.{Rideable}
+use Rattle.book.proofs.Trees.{is-tree}
 use Rattle.book.proofs.WordLaws.{word-fresh}
 use Rattle.book.proofs.SoundLaws.{fresh-sound}
 use Rattle.book.proofs.SumLaws.{sumOf, counted}
-use Rattle.book.proofs.ChargeLaws.{adult-stands, child-stands}
-use Rattle.book.proofs.PostedLaws.{NotCarried, added, posted-adult, posted-child, posted-none}
+use Rattle.book.proofs.PostedLaws.{added, ownCharge, rider-stands, posted-sum}
 use Rattle.book.proofs.SoundAgain.{sound-again}
 use Rattle.statement.specs.Record.{Part}
 use Rattle.settle.specs.Outcome.{Outcome, refused, accepted, partOf, settled, bookAfter}
 use Rattle.settle.specs.Runs.{Offer, runFrom, bookFrom}
 use Rattle.promises.specs.Conditions.{checkoutOf}
-use Rattle.promises.specs.Runs.{bookOf, isChild, carries, placeOf, entryOf, ridesWith, ridesAfter, ridesOver, ridesOf, treeOf}
-use Rattle.promises.proofs.Trees.{lies-within}
+use Rattle.promises.specs.Runs.{bookOf, entryOf, ridesWith, ridesAfter, ridesOver, ridesOf}
 use Rattle.promises.proofs.TripConditions.{good-read}
 use Rattle.promises.proofs.GoodRides.{good-ride}
 use Rattle.promises.proofs.Answers.{accepted-is, parts-are, new-posted}
-
--- ---- What a rider is charged goes by the sums alone.
-
-module _ (tariff : List ℕ) (counts : Counts) (read : Read tariff counts) (w : List ℕ) (rider : ℕ) (child : Bool) (class : ℕ) (second all : ℕ → ℕ)
-    (second-is : (x : ℕ) → x < counts .areas → secondSum w rider x ≡ second x)
-    (all-is : (x : ℕ) → x < counts .areas → allSum w rider x ≡ all x) where
-  charge-same :
-      (a amount : ℕ) → a < counts .areas
-      → chargeUp (levelOf tariff counts a) tariff counts w rider child class a amount ≡ chargeIn (treeOf tariff counts child) second all class a amount
-  unfolding chargeUp cappedAt chargeIn foldUp
-  charge-same a = go (levelOf tariff counts a) a
-    where
-      step : ℕ → ℕ → ℕ
-      step b rest = cappedHere (capsHere (areaAt tariff counts b) child) class (second b) (all b) rest
-
-      go :
-          (level a amount : ℕ) → a < counts .areas
-          → chargeUp level tariff counts w rider child class a amount ≡ foldUp (parentOf tariff counts) step level a amount
-      go zero a amount h = rw (second-is a h, all-is a h)
-      go (suc level) a amount h =
-          rw (second-is a h, all-is a h) (go level (parentOf tariff counts a) _ (parent-there (faultless tariff counts read) a h))
-
--- ---- Who is carried.
-
--- what a ride comes to for one rider: the rider's charge among the party's charges, and the sums that it is added to
-record Carried (tariff : List ℕ) (counts : Counts) (ride : Ride) (w after : List ℕ) (rider : ℕ) (child : Bool) (place : ℕ) : Type 0 where
-  there : place < 1 + ride .party .adults + ride .party .children
-  charge : getD (chargesOf tariff counts w ride) place 0 ≡ riderCharge tariff counts w ride child rider
-  sums :
-      (which : Bool) (x : ℕ) → x < 32
-      → sumOf which after rider x ≡ sumOf which w rider x + added which tariff counts ride x (getD (chargesOf tariff counts w ride) place 0)
-
-module _ {tariff : List ℕ} {counts : Counts} {book : List ℕ} {ride : Ride} (ok : Rideable tariff counts book ride) (window : Window) (checkout : ℕ)
-    (room : window .current ≡ true → tripsOf book ≤ 255) (rider : ℕ) where
-  carried :
-      carries (ride .party) rider ≡ true
-      → Carried tariff counts ride (inWindow (window .current) book) (posted tariff counts book window checkout ride) rider (isChild rider)
-      (placeOf (ride .party) rider)
-  carried is = go (isChild rider) refl is
-    where
-      w : List ℕ
-      w = inWindow (window .current) book
-
-      go :
-          (child : Bool) → isChild rider ≡ child → cond child (ltb (rider - 11) (ride .party .children)) (leb rider (ride .party .adults)) ≡ true
-          → Carried tariff counts ride w (posted tariff counts book window checkout ride) rider child
-          (cond child (1 + ride .party .adults + (rider - 11)) rider)
-      go false e on =
-          let h : rider < 1 + ride .party .adults = omega (arith, leb-true) in
-          record {
-            there = omega arith;
-            charge = adult-stands tariff counts w ride rider h;
-            sums = λ which x hx. posted-adult ok window checkout room which rider x h hx;
-          }
-      go true e on =
-          let h = ltb-true (rider - 11) (ride .party .children) on in
-          let same : 11 + (rider - 11) ≡ rider = omega (arith, ltb-true) in
-          record {
-            there = omega arith;
-            charge = child-stands tariff counts w ride (rider - 11) h ∙ ap (riderCharge tariff counts w ride true) same;
-            sums = λ which x hx.
-                subst
-                (λ (r : ℕ).
-                sumOf which (posted tariff counts book window checkout ride) r x
-                ≡ sumOf which w r x + added which tariff counts ride x (getD (chargesOf tariff counts w ride) (1 + ride .party .adults + (rider - 11)) 0))
-                same
-                (posted-child ok window checkout room which (rider - 11) x h hx);
-          }
-
-  not-carried : carries (ride .party) rider ≡ false → NotCarried ride rider
-  not-carried is = go (isChild rider) refl is
-    where
-      go :
-          (child : Bool) → isChild rider ≡ child → cond child (ltb (rider - 11) (ride .party .children)) (leb rider (ride .party .adults)) ≡ false
-          → NotCarried ride rider
-      go false e off = inl (omega (arith, leb-false), omega (arith, ltb-false))
-      go true e off = inr (omega (arith, ltb-false, ltb-true))
 
 -- ---- A book and a rider's rides.
 
@@ -216,6 +134,18 @@ module _ {tariff : List ℕ} {counts : Counts} {rider : ℕ} {book : List ℕ} {
       let times = good-times bytes (counts .stops) trip (good bytes (counts .stops) trip is) in
       sound-again ok refl few (times .forward) (times .short) (times .range) on-time
 
+  -- the charges of the party, and each sum with what the rider's own adds to it
+  abbrev charges : List ℕ
+  charges = chargesOf tariff counts w ride
+
+  grown :
+      (which : Bool) (x : ℕ) → x < counts .areas
+      → sumOf which new rider x
+      ≡ totalOf which (treeOf tariff counts (isChild rider)) x before + added which tariff counts ride x (ownCharge ride charges rider)
+  grown which x h =
+      posted-sum ok window (trip .checkout .0) room which rider x known (omega (arith, faultless tariff counts read .few-areas))
+      ∙ ap (_+ added which tariff counts ride x (ownCharge ride charges rider)) (words .sums which x h)
+
   -- a rider who is not carried keeps the rides
   without : carries (trip .party) rider ≡ false → Kept tariff counts rider new before
   unfolding rideOf
@@ -223,26 +153,25 @@ module _ {tariff : List ℕ} {counts : Counts} {rider : ℕ} {book : List ℕ} {
       record {
         sound-book = new-sound;
         sums = λ which x h.
-            posted-none ok window (trip .checkout .0) room which rider x known (not-carried ok window (trip .checkout .0) room rider off)
-            (omega (arith, faultless tariff counts read .few-areas))
-            ∙ words .sums which x h;
+            grown which x h ∙ rw off (nothing (counted which (ride .class) && within (treeOf tariff counts false) (ride .area) x) _);
         charged = words .charged;
       }
+    where
+      nothing : (s : Bool) (n : ℕ) → n + cond s 0 0 ≡ n
+      nothing true n = add-zero n
+      nothing false n = add-zero n
 
   -- a rider who is carried has one more
   riding : carries (trip .party) rider ≡ true → Kept tariff counts rider new (entryOf tariff counts rider part ∷ before)
   unfolding rideOf entryOf riderCharge partOf
   riding on =
-      let c = carried ok window (trip .checkout .0) room rider on in
       record {
         sound-book = new-sound;
-        sums = λ which x h.
-            c .sums which x (omega (arith, faultless tariff counts read .few-areas))
-            ∙ rw (words .sums which x h, lies-within tariff counts read (isChild rider) (ride .area) x (ok .area)) (sym (total-more which (treeOf tariff counts (isChild rider)) x _ before));
+        sums = λ which x h. grown which x h ∙ rw on (sym (total-more which (treeOf tariff counts (isChild rider)) x _ before));
         charged =
             more (words .charged) (ok .area)
-            (c .charge
-            ∙ charge-same tariff counts read w rider (isChild rider) (trip .class) _ _ (words .sums true) (words .sums false)
+            (rider-stands tariff counts w ride rider on
+            ∙ charge-same (is-tree (faultless tariff counts read) (isChild rider)) _ _ _ _ (words .sums true) (words .sums false) (trip .class)
             (ride .area) _ (ok .area));
       }
 

@@ -19,7 +19,7 @@ use Rattle.calendar.specs.Stamps.{isStamp, lastMinute}
 use Rattle.tariff.specs.declared.Counts.{Counts}
 use Rattle.tariff.specs.declared.Stop.{Stop}
 use Rattle.tariff.specs.Areas.{smallestOf}
-use Rattle.tariff.proofs.Faultless.{read-one}
+use Rattle.tariff.proofs.Faultless.{faultless, read-one}
 use Rattle.trip.specs.declared.Trip.{Trip}
 use Rattle.trip.specs.Record.{countAt, classAt, levelAt, partyAt, stopNumber}
 use Rattle.fare.specs.Rides.{stopOf, areaOfStops, rideOf}
@@ -368,13 +368,16 @@ module _ {tariff : List ℕ} {room d : ℕ} {book bytes book′ bytes′ : List 
   later-opening : a′ .window .opening .0 ≡ a .window .opening .0 + d
   later-opening = rw (window-is, window-is′) (sym (add-zero _) ∙ opening-moved s)
 
+  there : rideOf tariff (a .counts) bytes (a .trip) .area < a .counts .areas
+  there = good-ride tariff (a .counts) book bytes (a .trip) (a .read) (a .sound-book) (a .good) .area
+
   same-charges :
       chargesOf tariff (a′ .counts) (inWindow (a′ .window .current) book′) (rideOf tariff (a′ .counts) bytes′ (a′ .trip))
       ≡ chargesOf tariff (a .counts) (inWindow (a .window .current) book) (rideOf tariff (a .counts) bytes (a .trip))
   same-charges =
       rw (same-current, one-ride, counts-same)
-      (charges-alike tariff (a .counts) (inWindow (a .window .current) book) (inWindow (a .window .current) book′)
-      (sums-alike (words-alike tariff (a .counts) (a .window .current) (s .others))) (rideOf tariff (a .counts) bytes (a .trip)))
+      (charges-alike (faultless tariff (a .counts) (a .read)) (rideOf tariff (a .counts) bytes (a .trip)) there
+      (inWindow (a .window .current) book) (inWindow (a .window .current) book′) (words-alike (a .window .current) (s .others)))
 
   pub moved-parts : MovedParts d parts parts′
   unfolding partOf
@@ -389,8 +392,8 @@ module _ {tariff : List ℕ} {room d : ℕ} {book bytes book′ bytes′ : List 
       record {
         alike =
             rw (new-posted a, new-posted a′, one-ride, counts-same)
-            (posted-alike tariff (a .counts) (a .window) (a′ .window) (a .trip .checkout .0) (a′ .trip .checkout .0)
-            (rideOf tariff (a .counts) bytes (a .trip)) (s .others) same-current same-trips);
+            (posted-alike (faultless tariff (a .counts) (a .read)) (rideOf tariff (a .counts) bytes (a .trip)) there (a .window) (a′ .window)
+            (a .trip .checkout .0) (a′ .trip .checkout .0) (s .others) same-current same-trips);
         opening = rw (ne-eqb (tripsOf new) 0 (l .used)) (omega (arith, l .opening-is, l′ .opening-is, later-opening));
         last =
             rw (ne-eqb (tripsOf new) 0 (l .used))

@@ -4,9 +4,9 @@
 use Prim.Native.Nat.{ℕ, zero, suc, _+_, _*_, _%_, _/_, _≤_, _<_}
 use native.Mathlib.Omega.{arith}
 use native.Mathlib.Decide.{ℕ-discrete}
-use mathlib.Core.Path.{_≡_, refl, sym, ap, _∙_}
+use mathlib.Core.Path.{_≡_, refl, sym, _∙_}
 use mathlib.Core.List.{List, [], _∷_}
-use mathlib.Core.Bool.{Bool, true, false, cond, _&&_}
+use mathlib.Core.Bool.{Bool, true, _&&_}
 use lib.ListN.{length, getD, set, replicate, length-set, length-replicate, getD-replicate}
 use lib.Seq.{getD-set-same, getD-set-other}
 use lib.Dec.{eqb, ltb}
@@ -18,13 +18,12 @@ use Rattle.wire.proofs.Number.{get-same}
 use Rattle.calendar.specs.Days.{monthDays, daysOfMonths, daysOfYears, dayNumber}
 use Rattle.calendar.specs.Stamps.{stampOf, minuteNumber}
 use Rattle.tariff.specs.Fields.{areaFields}
-use Rattle.tariff.specs.Rules.{levelOf, capsRight, placeRight}
+use Rattle.tariff.specs.Rules.{capsRight, placeRight}
 use Rattle.tariff.specs.Scan.{areaEntry, entryAt, readFrom, readTariff}
 use Rattle.tariff.specs.Levels.{levelCap}
-use Rattle.tariff.specs.Areas.{tripCapOf, dayCapOf, areaOf, areaAt, Read, parentOf}
+use Rattle.tariff.specs.Areas.{tripCapOf, dayCapOf, areaOf, areaAt, Read}
 use Rattle.wire.proofs.Tests.{told, both-left, both-right}
 use Rattle.tariff.proofs.Faultless.{faultless}
-use Rattle.tariff.proofs.Within.{parent-there}
 use Rattle.trip.specs.Record.{shapeAt, partyAt, partyRight, stopNumber}
 use Rattle.trip.specs.Moments.{momentAt}
 use Rattle.trip.specs.Trips.{stopsKnown, tripOf, readTrip, refusal}
@@ -32,11 +31,13 @@ use Rattle.fare.specs.declared.Ride.{Ride}
 use Rattle.fare.specs.Distance.{apart, kmFrom, kmOf}
 use Rattle.fare.specs.Rides.{rideOf}
 use Rattle.fare.specs.Prices.{step1, step2, step3, step4, tripCap, priceOf}
-use Rattle.book.specs.Words.{bookSize, freshBook, word, putWord, pairPlace, secondSum, allSum}
 use Rattle.caps.specs.Limits.{leftOf, cappedHere}
+use Rattle.caps.specs.Tree.{foldUp, chargeIn}
+use Rattle.book.specs.Words.{bookSize, freshBook, word}
 use Rattle.book.specs.Caps.{secondCap, allCap}
-use Rattle.book.specs.Charging.{cappedAt, chargeUp, riderCharge, riderCharges, bicycleCharges, chargesOf}
+use Rattle.book.specs.Charging.{riderCharge, riderCharges, bicycleCharges, chargesOf}
 use Rattle.book.specs.Posting.{addHere, addUp, addList, coverBicycles, opened, posted}
+use Rattle.book.proofs.AlikeBooks.{Alike, Touches, charges-alike, posted-alike}
 use Rattle.promises.specs.Cases.{
   sampleArea,
   areaBytes,
@@ -95,55 +96,10 @@ word-start {b} {b′} s i h = get-same 4 b′ b (4 * i) (λ j low high. s .same 
 
 -- ---- The sample.
 
--- the sample is faultless, so each parent is one of its seven areas
+-- the sample is faultless
 sample-read : Read sample sampleCounts
 unfolding readTariff readFrom entryAt areaEntry frameAt broken areaFields capsRight placeRight getLe bytesOf sample areasBytes areaBytes sampleArea
 sample-read = refl
-
-parent-of : (a : ℕ) → a < 7 → parentOf sample sampleCounts a < 7
-parent-of = parent-there (faultless sample sampleCounts sample-read)
-
--- the holder's charge in one of the seven areas
-capped-start :
-    {b b′ : List ℕ} → SameStart 68 b b′ → (class a amount : ℕ) → a < 7
-    → cappedAt sample sampleCounts b′ 0 false class a amount ≡ cappedAt sample sampleCounts b 0 false class a amount
-unfolding cappedAt
-capped-start s class a amount h = rw (word-start s (pairPlace 0 a) (omega arith), word-start s (pairPlace 0 a + 1) (omega arith))
-
-charge-start :
-    (level : ℕ) {b b′ : List ℕ} → SameStart 68 b b′ → (class a amount : ℕ) → a < 7
-    → chargeUp level sample sampleCounts b′ 0 false class a amount ≡ chargeUp level sample sampleCounts b 0 false class a amount
-unfolding chargeUp
-charge-start zero s class a amount h = capped-start s class a amount h
-charge-start (suc level) {b} {b′} s class a amount h =
-    charge-start level s class (parentOf sample sampleCounts a) (cappedAt sample sampleCounts b′ 0 false class a amount) (parent-of a h)
-    ∙ ap (chargeUp level sample sampleCounts b 0 false class (parentOf sample sampleCounts a)) (capped-start s class a amount h)
-
--- and the sums that it is added to
-here-start :
-    {b b′ : List ℕ} → SameStart 68 b b′ → (class a amount : ℕ) → a < 7 → SameStart 68 (addHere b 0 class a amount) (addHere b′ 0 class a amount)
-unfolding addHere
-here-start {b} {b′} s class a amount h = all (second (eqb class 2))
-  where
-    second :
-        (two : Bool)
-        → SameStart 68 (cond two (putWord b (pairPlace 0 a) (secondSum b 0 a + amount)) b)
-        (cond two (putWord b′ (pairPlace 0 a) (secondSum b′ 0 a + amount)) b′)
-    second true = rw (word-start s (pairPlace 0 a) (omega arith)) (put-start 4 s (4 * pairPlace 0 a) (secondSum b 0 a + amount))
-    second false = s
-
-    all :
-        {c c′ : List ℕ} → SameStart 68 c c′
-        → SameStart 68 (putWord c (pairPlace 0 a + 1) (allSum c 0 a + amount)) (putWord c′ (pairPlace 0 a + 1) (allSum c′ 0 a + amount))
-    all {c} {c′} t =
-        rw (word-start t (pairPlace 0 a + 1) (omega arith)) (put-start 4 t (4 * (pairPlace 0 a + 1)) (allSum c 0 a + amount))
-
-up-start :
-    (level : ℕ) {b b′ : List ℕ} → SameStart 68 b b′ → (class a amount : ℕ) → a < 7
-    → SameStart 68 (addUp level sample sampleCounts b 0 class a amount) (addUp level sample sampleCounts b′ 0 class a amount)
-unfolding addUp
-up-start zero s class a amount h = here-start s class a amount h
-up-start (suc level) s class a amount h = up-start level (here-start s class a amount h) class (parentOf sample sampleCounts a) amount (parent-of a h)
 
 -- ---- The holder's rides.
 
@@ -154,26 +110,21 @@ record Alone (ride : Ride) : Type 0 where
   bicycles : ride .party .bicycles ≡ 0
   area : ride .area < 7
 
-module _ (ride : Ride) (alone : Alone ride) (book : List ℕ) where
-  charges-alone : chargesOf sample sampleCounts book ride ≡ riderCharge sample sampleCounts book ride false 0 ∷ []
-  unfolding chargesOf riderCharges bicycleCharges
-  charges-alone = rw (alone .adults, alone .children, alone .bicycles)
+-- the holder's sums in the seven areas are among the first 17 words
+start-alike : Alike (SameStart 68) (λ i. i < 17)
+start-alike = record { same = λ b b′ s. word-start s; put = λ b b′ s p v. put-start 4 s (4 * p) v }
 
-  posted-alone :
-      posted sample sampleCounts book oneWindow 0 ride
-      ≡ addUp (levelOf sample sampleCounts (ride .area)) sample sampleCounts (opened oneWindow 0 book) 0 (ride .class) (ride .area) (riderCharge sample sampleCounts book ride false 0)
-  unfolding posted addList coverBicycles
-  posted-alone = rw (charges-alone, alone .adults, alone .children, alone .bicycles)
+touches : (ride : Ride) → Alone ride → Touches (λ i. i < 17) sampleCounts ride
+touches ride alone =
+    record {
+      adults = λ i h a ha. (omega (arith, alone .adults), omega (arith, alone .adults));
+      children = λ i h. absurd (omega (arith, alone .children));
+      bicycles = λ i h. absurd (omega (arith, alone .bicycles));
+    }
 
 module _ (ride : Ride) (alone : Alone ride) {b b′ : List ℕ} (s : SameStart 68 b b′) where
-  rider-start : riderCharge sample sampleCounts b′ ride false 0 ≡ riderCharge sample sampleCounts b ride false 0
-  unfolding riderCharge
-  rider-start =
-      charge-start (levelOf sample sampleCounts (ride .area)) s (ride .class) (ride .area) (priceOf (areaAt sample sampleCounts (ride .area)) ride false)
-      (alone .area)
-
   charges-start : chargesOf sample sampleCounts b′ ride ≡ chargesOf sample sampleCounts b ride
-  charges-start = rw (charges-alone ride alone b, charges-alone ride alone b′, rider-start)
+  charges-start = charges-alike start-alike (faultless sample sampleCounts sample-read) ride (alone .area) (touches ride alone) b b′ s
 
   opened-start : SameStart 68 (opened oneWindow 0 b) (opened oneWindow 0 b′)
   unfolding opened
@@ -181,8 +132,8 @@ module _ (ride : Ride) (alone : Alone ride) {b b′ : List ℕ} (s : SameStart 6
 
   posted-start : SameStart 68 (posted sample sampleCounts b oneWindow 0 ride) (posted sample sampleCounts b′ oneWindow 0 ride)
   posted-start =
-      rw (posted-alone ride alone b, posted-alone ride alone b′, rider-start)
-      (up-start (levelOf sample sampleCounts (ride .area)) opened-start (ride .class) (ride .area) (riderCharge sample sampleCounts b ride false 0) (alone .area))
+      posted-alike start-alike (faultless sample sampleCounts sample-read) ride (alone .area) (touches ride alone) oneWindow oneWindow 0 0 b b′ s
+      opened-start
 
 -- ---- The cases.
 
@@ -251,7 +202,7 @@ unfolding everyHolds holds cases sample sampleArea areaBytes areasBytes rideIn c
     getLe putLe bytesOf each broken frameAt dividedUp hundredthsOf periods monthDays daysOfMonths daysOfYears dayNumber stampOf minuteNumber
     areaFields capsRight placeRight areaEntry entryAt readFrom readTariff levelCap tripCapOf dayCapOf areaOf areaAt
     shapeAt partyAt partyRight stopNumber momentAt stopsKnown tripOf readTrip refusal apart kmFrom kmOf rideOf
-    step1 step2 step3 step4 tripCap priceOf secondCap allCap leftOf cappedHere cappedAt chargeUp riderCharge riderCharges bicycleCharges chargesOf
+    step1 step2 step3 step4 tripCap priceOf secondCap allCap leftOf cappedHere foldUp chargeIn riderCharge riderCharges bicycleCharges chargesOf
     addHere addUp addList coverBicycles opened posted
 computed = refl
 

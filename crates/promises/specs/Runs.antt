@@ -1,38 +1,23 @@
 -- A rider's rides in the window that is open at the end of a run, read off the parts that the trips were charged in. Every window of a
 -- longer run is the window open at the end of one of its beginnings.
-use Prim.Native.Nat.{ℕ, _+_, _-_, _≤_, _<_}
+use Prim.Native.Nat.{ℕ, _≤_, _<_}
 use mathlib.Core.Path.{_≡_}
 use mathlib.Core.List.{List, [], _∷_, _++_, List·Memᴰ}
-use mathlib.Core.Bool.{Bool, true, cond}
+use mathlib.Core.Bool.{true, cond}
 use lib.ListN.{getD}
-use lib.Dec.{leb, ltb}
 use Rattle.caps.specs.Limits.{AtMost}
 use Rattle.caps.specs.Tree.{Tree}
 use Rattle.caps.specs.Rides.{ChargedRide, allTotal, secondTotal, CapFull, oneClass, charges, totalsAlone}
 use Rattle.tariff.specs.declared.Counts.{Counts}
-use Rattle.tariff.specs.Rules.{levelOf}
-use Rattle.tariff.specs.Areas.{areaAt, parentOf}
-use Rattle.trip.specs.declared.Party.{Party}
+use Rattle.tariff.specs.Areas.{areaAt}
 use Rattle.fare.specs.Prices.{priceOf}
 use Rattle.book.specs.Words.{freshBook}
 use Rattle.book.specs.Windows.{belongs}
-use Rattle.book.specs.Caps.{capsHere}
+use Rattle.book.specs.Charging.{isChild, carries, placeOf}
 use Rattle.statement.specs.Record.{Part}
 use Rattle.settle.specs.Outcome.{Outcome, refused, accepted}
 use Rattle.settle.specs.Runs.{Offer, Settlement, runFrom, bookFrom}
 use Rattle.promises.specs.Conditions.{checkoutOf}
-
--- riders 11 to 20 are the children
-abbrev pub isChild : ℕ → Bool
-isChild rider = ltb 10 rider
-
--- whether a party carries a rider: the holder is always there, adults and children are those numbered from 1
-abbrev pub carries : Party → ℕ → Bool
-carries party rider = cond (isChild rider) (ltb (rider - 11) (party .children)) (leb rider (party .adults))
-
--- where a carried rider's charge stands among the record's charges: account holder, adults, children
-abbrev pub placeOf : Party → ℕ → ℕ
-placeOf party rider = cond (isChild rider) (1 + party .adults + (rider - 11)) rider
 
 -- a rider's ride: the area, class and price of a part's ride, and the charge at the rider's place
 unfoldable pub entryOf : List ℕ → Counts → ℕ → Part → ChargedRide
@@ -73,16 +58,6 @@ bookOf tariff run = bookFrom tariff freshBook run
 -- a rider's rides in the window that is open at its end, the latest first
 abbrev pub ridesOf : List ℕ → Counts → ℕ → List Offer → List ChargedRide
 ridesOf tariff counts rider run = ridesOver tariff counts rider (runFrom tariff freshBook run) []
-
--- the tariff's areas, with a rider's caps
-abbrev pub treeOf : List ℕ → Counts → Bool → Tree
-treeOf tariff counts child =
-    record {
-      size = counts .areas;
-      parent = parentOf tariff counts;
-      level = levelOf tariff counts;
-      caps = λ area. capsHere (areaAt tariff counts area) child;
-    }
 
 -- ---- Promise 3.
 

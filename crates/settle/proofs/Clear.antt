@@ -18,8 +18,9 @@ use Rattle.fare.specs.Rides.{rideOf}
 use Rattle.fare.specs.Contracts.{Riding, InOrder, RideOf}
 use Rattle.book.specs.declared.Window.{Window}
 use Rattle.book.specs.Windows.{inWindow}
-use Rattle.book.specs.Charging.{Rideable, Charged, chargesOf}
-use Rattle.book.specs.Posting.{Postable, posted}
+use Rattle.book.specs.Charging.{chargesOf}
+use Rattle.book.specs.Posting.{posted}
+use Rattle.book.specs.Contracts.{Rideable, PartyAmounts, Postable}
 use Rattle.book.proofs.SoundLaws.{sound-has}
 use Rattle.book.proofs.ChargeLaws.{charges-length, charges-most}
 use Rattle.book.proofs.SoundAgain.{WindowRight, window-right, posted-sound}
@@ -65,7 +66,7 @@ module _ {tariff : List ℕ} {counts : Counts} {book : List ℕ} {window : Windo
   -- stored at the start of an array of 31
   module _ (start amounts : List ℕ) (count : ℕ) (full : length start ≡ 31)
       (made : (count ≡ length charges) × (amounts ≡ sets start 0 charges)) where
-    charged : Charged tariff counts (inWindow (window .current) book) ride amounts
+    charged : PartyAmounts tariff counts (inWindow (window .current) book) ride amounts
     charged =
         record {
           size = rw (made .1) (length-sets start 0 charges ∙ full);

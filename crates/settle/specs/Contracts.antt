@@ -13,7 +13,7 @@ use Rattle.fare.specs.declared.Ride.{Ride}
 use Rattle.book.specs.declared.Window.{Window}
 use Rattle.book.specs.Sound.{sound}
 use Rattle.book.specs.Windows.{tooEarly, windowOf}
-use Rattle.book.specs.Charging.{Rideable}
+use Rattle.book.specs.Contracts.{Rideable}
 use Rattle.book.specs.Posting.{posted}
 use Rattle.book.proofs.SoundAgain.{WindowRight}
 use Rattle.statement.specs.Record.{recordSize, recordOf, statementOf, Recordable}

@@ -2,7 +2,7 @@
 -- Assumes nothing.
 use native.Mathlib.Omega.{arith}
 use borrow.Author.Needs.{needs}
-use Rattle.book.specs.Charging.{chargeBy}
+use Rattle.book.specs.Contracts.{chargeBy}
 use Rattle.book.proofs.charging.charge.Statement.{statement}
 use Rattle.book.proofs.charging.charge.Tie as tie
 

@@ -7,18 +7,19 @@ use mathlib.Core.Path.{_∙_}
 use borrow.Author.Needs.{needs}
 use Rattle.tariff.proofs.Faultless.{faultless}
 use Rattle.book.specs.Windows.{inWindow}
-use Rattle.book.specs.Charging.{chargeBy, riderCharges}
+use Rattle.book.specs.Charging.{riderCharges}
+use Rattle.book.specs.Contracts.{chargeBy}
 use Rattle.book.proofs.SoundLaws.{sound-has}
 use Rattle.book.proofs.ChargeLaws.{Filled, filled-none, filled-size, filled-more, filled-all, riders-by-chain, priceable}
 use Rattle.book.proofs.charging.charge_riders.Statement.{statement}
 use Rattle.book.proofs.charging.charge_riders.Tie as tie
 
 abbrev Inv-loop : tie.InvT-loop
-Inv-loop tariff book current child first count amounts₀ from class at fare chain i₀ amounts i =
+Inv-loop tariff book current amounts₀ count child first from class at fare chain i₀ amounts i =
     Filled (λ k. chargeBy chain (inWindow current book) (first + k) class (fare .0)) amounts₀ amounts from count i
 
 abbrev μ-loop : tie.MeasureT-loop
-μ-loop tariff book current child first count amounts₀ from class at fare chain i₀ amounts i = count - i
+μ-loop tariff book current amounts₀ count child first from class at fare chain i₀ amounts i = count - i
 
 returns : tie.Need-returns Inv-loop μ-loop
 unfolding riderCharges
@@ -28,11 +29,11 @@ area-requires : tie.Need-area-requires Inv-loop μ-loop
 area-requires c κs = search needs
 
 price-requires : tie.Need-price-requires Inv-loop μ-loop
-price-requires c κs = rw (c .area .ensures) (priceable (c .before .before .before .before .before .pre .0))
+price-requires c κs = rw (c .area .ensures) (priceable (c .before .before .before .before .before .pre .rideable))
 
 chain-of-requires : tie.Need-chain-of-requires Inv-loop μ-loop
 chain-of-requires c κs =
-    let p = c .before .before .before .before .before .before .pre .0 in (p .read, p .area)
+    let p = c .before .before .before .before .before .before .pre .rideable in (p .read, p .area)
 
 loop-holds : tie.Need-loop-holds Inv-loop μ-loop
 loop-holds c = filled-none _ _ _ _
@@ -44,11 +45,11 @@ charge-requires : tie.Need-charge-requires Inv-loop μ-loop
 charge-requires c κs =
     let s = c .before .before in
     let p = s .before .before .before .before .before .before .before .pre in
-    (sound-has _ _ (p .0 .sound-book) .size, (omega (arith, p .1), s .chain-of .ensures .places))
+    (sound-has _ _ (p .rideable .sound-book) .size, (omega (arith, p .known), s .chain-of .ensures .places))
 
 -- the places are those of a list, so their bytes are counted by 64 bits
-room : (s : tie.After-slice-known Inv-loop μ-loop) → let a = s .before .before .before .args in (a .from + a .count) * 4 < 2 ^ 64
-room s = omega arith
+room : (s : tie.After-slice-known Inv-loop μ-loop) → let a = s .before .before .before .args in (a .riders .from + a .riders .count) * 4 < 2 ^ 64
+room s = omega (arith, s .before .before .before .pre .places)
 
 add-amounts : tie.Need-add-amounts Inv-loop μ-loop
 add-amounts c = omega (arith, room (c .before .before .before .before .before .before .before .before))
@@ -57,7 +58,7 @@ mul-amounts : tie.Need-mul-amounts Inv-loop μ-loop
 mul-amounts c = omega (arith, room (c .before .before .before .before .before .before .before .before))
 
 slice-write-amounts : tie.Need-slice-write-amounts Inv-loop μ-loop
-slice-write-amounts c = omega (arith, filled-size (c .before .before .before .loop .inv), c .before .before .before .before .before .before .before .before .before .before .before .pre .1 .1)
+slice-write-amounts c = omega (arith, filled-size (c .before .before .before .loop .inv), c .before .before .before .before .before .before .before .before .before .before .before .pre .places)
 
 add-i : tie.Need-add-i Inv-loop μ-loop
 add-i c = omega (arith, room (c .before .before .before .before .before .before .before .before))
@@ -77,10 +78,10 @@ returns-2 c =
     let s = c .before .before in
     let first = s .before .before .before .before .before .before .before in
     let a = first .args in
-    let p = first .pre .0 in
+    let p = first .pre .rideable in
     let listed =
-    riders-by-chain (a .tariff .now) (a .counts) (inWindow (a .current) (a .book .now)) (a .ride) (faultless _ _ (p .read)) (p .area) (a .child)
-    (a .first) (s .before .before .area .ensures) (s .chain-of .ensures .value) (s .before .price .ensures .value) (a .count)
+    riders-by-chain (a .tariff .now) (a .counts) (inWindow (a .current) (a .book .now)) (a .ride) (faultless _ _ (p .read)) (p .area) (a .riders .child)
+    (a .riders .first) (s .before .before .area .ensures) (s .chain-of .ensures .value) (s .before .price .ensures .value) (a .riders .count)
     in
     filled-all (c .before .loop .inv) (c .loop-test .left) ∙ rw listed
 

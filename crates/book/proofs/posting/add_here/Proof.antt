@@ -20,7 +20,7 @@ add-second c =
     let s = c .before .before .before .before .before in
     record {
       fits =
-          second-fits (s .args .book .now) (s .args .rider) (s .args .at) (s .pre .1 .1 .1) (s .pre .1 .1 .0)
+          second-fits (s .args .book .now) (s .args .rider) (s .args .at) (s .pre .room) (s .pre .range)
           (c .before .before .before .pair .ensures .0) (c .get .ensures .value);
     }
 
@@ -29,7 +29,7 @@ put-requires c κs = search needs
 
 joined :
     (c : tie.Joined1)
-    → let a = c .before .before .before .args in SecondAdded (a .book .now) (c .if1 .book) (a .rider) (a .class) (a .at) (a .amount)
+    → let a = c .before .before .before .args in SecondAdded (a .book .now) (c .if1 .book) (a .rider) (a .class) (a .at) (a .amount .0)
 joined c =
     let is = c .before .pair .ensures .0 in
     ⊎-elim (λ w. second-put is (w .0 .taken) (w .2 .ensures .value) (w .7 ∙ w .4 .ensures)) (λ w. second-left is (w .0 .left) (w .1))
@@ -46,7 +46,7 @@ add-all c =
     let s = c .before .before .before .before .before in
     record {
       fits =
-          all-fits (c .before .before .before .pair .ensures .0) (s .pre .1 .1 .1) (s .pre .1 .1 .0) (joined (c .before .before))
+          all-fits (c .before .before .before .pair .ensures .0) (s .pre .room) (s .pre .range) (joined (c .before .before))
           (c .get2 .ensures .value);
     }
 

@@ -9,33 +9,40 @@ use Rattle.book.proofs.posting.add_riders.Statement.{statement}
 use Rattle.book.proofs.posting.add_riders.Tie as tie
 
 abbrev Inv-loop : tie.InvT-loop
-Inv-loop tariff counts book₀ first count amounts from class at i₀ book i =
+Inv-loop tariff counts book₀ amounts count first from class at i₀ book i =
     RidersAdded tariff counts book₀ book amounts first count from class at i
 
 abbrev μ-loop : tie.MeasureT-loop
-μ-loop tariff counts book₀ first count amounts from class at i₀ book i = count - i
+μ-loop tariff counts book₀ amounts count first from class at i₀ book i = count - i
 
 loop-holds : tie.Need-loop-holds Inv-loop μ-loop
 loop-holds c = riders-start (c .before .before .before .pre .size) (c .before .before .before .pre .room)
 
-add-amount : tie.Need-add-amount Inv-loop μ-loop
-add-amount c = omega (arith, c .before .before .before .before .before .pre .places)
+add-t15 : tie.Need-add-t15 Inv-loop μ-loop
+add-t15 c = omega (arith, c .before .before .before .before .before .pre .places)
 
-mul-amount : tie.Need-mul-amount Inv-loop μ-loop
-mul-amount c = omega (arith, c .before .before .before .before .before .pre .places)
+mul-t16 : tie.Need-mul-t16 Inv-loop μ-loop
+mul-t16 c = omega (arith, c .before .before .before .before .before .pre .places)
 
-shared-slice-read-amount : tie.Need-shared-slice-read-amount Inv-loop μ-loop
-shared-slice-read-amount c = omega (arith, c .before .before .before .before .before .before .pre .places)
+shared-slice-read-t18 : tie.Need-shared-slice-read-t18 Inv-loop μ-loop
+shared-slice-read-t18 c = omega (arith, c .before .before .before .before .before .before .pre .places)
 
 add-add-up : tie.Need-add-add-up Inv-loop μ-loop
-add-add-up c = omega (arith, c .before .before .before .before .before .before .before .pre .riders)
+add-add-up c = omega (arith, c .before .before .before .before .before .before .before .pre .known)
 
 add-up-requires : tie.Need-add-up-requires Inv-loop μ-loop
 add-up-requires c κs =
     let p = c .before .before .before .before .before .before .before .pre in
     let l = c .before .before .before .loop in
     let more = c .before .before .loop-test .taken in
-    ((l .inv .size, omega (arith, p .riders)), ((p .read, p .area), (p .range (l .i) more, l .inv .room (l .i) (omega arith) more)))
+    record {
+      size = l .inv .size;
+      known = omega (arith, p .known);
+      read = p .read;
+      area = p .area;
+      range = p .range (l .i) more;
+      room = l .inv .room (l .i) (omega arith) more;
+    }
 
 add-i : tie.Need-add-i Inv-loop μ-loop
 add-i c = let s = c .before .before .before .before .before in omega (arith, s .loop-test .taken, s .before .before .before .before .before .pre .places)
@@ -47,7 +54,7 @@ loop-again : tie.Need-loop-again Inv-loop μ-loop
 loop-again c =
     let s = c .before .before .before .before .before in
     let p = s .before .before .before .before .before .pre in
-    riders-turn (faultless _ _ (p .read)) (s .before .loop .inv) (s .loop-test .taken) (p .area) (p .riders)
+    riders-turn (faultless _ _ (p .read)) (s .before .loop .inv) (s .loop-test .taken) (p .area) (p .known)
     (c .before .before .add-up .ensures)
 
 same-length : tie.Need-same-length Inv-loop μ-loop
@@ -63,9 +70,9 @@ add-riders-spec =
     Inv-loop
     μ-loop
     loop-holds
-    add-amount
-    mul-amount
-    shared-slice-read-amount
+    add-t15
+    mul-t16
+    shared-slice-read-t18
     add-add-up
     add-up-requires
     add-i

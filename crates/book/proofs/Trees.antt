@@ -4,7 +4,7 @@
 use Prim.Native.Nat.{ℕ, _+_, _≤_, _<_}
 use native.Mathlib.Nat.{le-trans, mul-le-mul-right}
 use native.Mathlib.Omega.{arith}
-use mathlib.Core.Path.{_≡_, refl, sym}
+use mathlib.Core.Path.{_≡_, refl}
 use mathlib.Core.Bool.{Bool, true, false}
 use mathlib.Core.List.{List}
 use Rattle.units.specs.declared.Cap.{Cap}
@@ -16,12 +16,10 @@ use Rattle.caps.specs.Tree.{foldUp, among, IsTree, within}
 use Rattle.caps.proofs.Climb.{within-past}
 use Rattle.tariff.specs.declared.Area.{Area}
 use Rattle.tariff.specs.declared.Counts.{Counts}
-use Rattle.tariff.specs.Areas.{areaAt, liesWithin, Read}
-use Rattle.tariff.proofs.Faultless.{faultless}
+use Rattle.tariff.specs.Areas.{areaAt, liesWithin, FaultlessTariff}
 use Rattle.tariff.proofs.Within.{above-of, parent-there}
 use Rattle.fare.specs.Prices.{step4}
-use Rattle.book.specs.Caps.{secondCap, allCap}
-use Rattle.promises.specs.Runs.{treeOf}
+use Rattle.book.specs.Caps.{secondCap, allCap, treeOf}
 
 -- hundredths keep the order of amounts
 hundredths-mono : (hundredths : ℕ) {m n : ℕ} → m ≤ n → hundredthsOf hundredths m ≤ hundredthsOf hundredths n
@@ -49,24 +47,20 @@ caps-in-order area child = go (area .«day_cap»)
     go NoCap = neither
     go (UpTo day) = both (step4-mono area child (raised-least (area .surcharge) (day .0)))
 
-pub is-tree : (tariff : List ℕ) (counts : Counts) → Read tariff counts → (child : Bool) → IsTree (treeOf tariff counts child)
-is-tree tariff counts read child =
-    let t = faultless tariff counts read in
-    record {
-      state = t .some;
-      state-parent = above-of t 0 (t .some) .state-parent refl;
-      few-levels = λ a h. above-of t a h .level;
-      parent-there = parent-there t;
-      parent-level = λ a h low. omega (arith, above-of t a h .level-up);
-      top-level = λ a h. above-of t a h .state-only;
-      caps-order = λ a h. caps-in-order (areaAt tariff counts a) _;
-    }
+module _ {tariff : List ℕ} {counts : Counts} (t : FaultlessTariff tariff counts) (child : Bool) where
+  pub is-tree : IsTree (treeOf tariff counts child)
+  is-tree =
+      record {
+        state = t .some;
+        state-parent = above-of t 0 (t .some) .state-parent refl;
+        few-levels = λ a h. above-of t a h .level;
+        parent-there = parent-there t;
+        parent-level = λ a h low. omega (arith, above-of t a h .level-up);
+        top-level = λ a h. above-of t a h .state-only;
+        caps-order = λ a h. caps-in-order (areaAt tariff counts a) _;
+      }
 
--- An area lies within what it lies within in the tree: three areas are enough for all levels.
-pub lies-within :
-    (tariff : List ℕ) (counts : Counts) → Read tariff counts → (child : Bool) (a x : ℕ) → a < counts .areas
-    → liesWithin tariff counts a x ≡ within (treeOf tariff counts child) a x
-unfolding liesWithin among foldUp
-lies-within tariff counts read child a x h =
-    let tree = is-tree tariff counts read child in
-    within-past tree a x 2 h (tree .few-levels a h)
+  -- An area lies within what it lies within in the tree: three areas are enough for all levels.
+  pub lies-within : (a x : ℕ) → a < counts .areas → liesWithin tariff counts a x ≡ within (treeOf tariff counts child) a x
+  unfolding liesWithin among foldUp
+  lies-within a x h = within-past is-tree a x 2 h (is-tree .few-levels a h)

@@ -1,0 +1,134 @@
+-- A ride is charged alike on alike books and leaves alike books, whatever "alike" means: as long as the words that the ride touches are the
+-- same in both, and the same word written to both leaves them alike.
+-- Assumes nothing.
+use Prim.Native.Nat.{ℕ, zero, suc, _+_, _<_}
+use native.Mathlib.Omega.{arith}
+use mathlib.Core.Path.{_≡_, refl}
+use mathlib.Core.Bool.{Bool, true, false, cond}
+use mathlib.Core.List.{List}
+use lib.ListN.{getD}
+use lib.Dec.{eqb}
+use Rattle.caps.proofs.Climb.{fold-related}
+use Rattle.caps.proofs.Charge.{charge-same}
+use Rattle.tariff.specs.declared.Counts.{Counts}
+use Rattle.tariff.specs.Rules.{levelOf}
+use Rattle.tariff.specs.Areas.{parentOf, FaultlessTariff}
+use Rattle.tariff.proofs.Within.{parent-there}
+use Rattle.fare.specs.declared.Ride.{Ride}
+use Rattle.book.specs.declared.Window.{Window}
+use Rattle.book.specs.Words.{word, putWord, pairPlace, secondSum, allSum, firstChild, coverPlace, coverWord}
+use Rattle.book.specs.Windows.{inWindow}
+use Rattle.book.specs.Charging.{riderCharge, riderCharges, newCover, bicycleCharges, chargesOf}
+use Rattle.book.specs.Posting.{addHere, addUp, addList, coverBicycles, opened, posted}
+use Rattle.book.proofs.Trees.{is-tree}
+
+-- alike books have the same known words, and stay alike with a word put in both
+pub record Alike (R : List ℕ → List ℕ → Type 0) (Known : ℕ → Type 0) : Type 0 where
+  pub same : (b b′ : List ℕ) → R b b′ → (p : ℕ) → Known p → word b′ p ≡ word b p
+  pub put : (b b′ : List ℕ) → R b b′ → (p v : ℕ) → R (putWord b p v) (putWord b′ p v)
+
+-- a rider's two words in every area are known
+abbrev pub KnownRider : (ℕ → Type 0) → Counts → ℕ → Type 0
+KnownRider Known counts rider = (a : ℕ) → a < counts .areas → Known (pairPlace rider a) × Known (pairPlace rider a + 1)
+
+-- the words that a ride touches are known: those of each rider and of each bicycle that it carries
+pub record Touches (Known : ℕ → Type 0) (counts : Counts) (ride : Ride) : Type 0 where
+  pub adults : (i : ℕ) → i < 1 + ride .party .adults → KnownRider Known counts (0 + i)
+  pub children : (i : ℕ) → i < ride .party .children → KnownRider Known counts (firstChild + i)
+  pub bicycles : (i : ℕ) → i < ride .party .bicycles → Known (coverPlace i)
+
+module _ {R : List ℕ → List ℕ → Type 0} {Known : ℕ → Type 0} (alike : Alike R Known) {tariff : List ℕ} {counts : Counts}
+    (t : FaultlessTariff tariff counts) (ride : Ride) (there : ride .area < counts .areas) where
+  -- ---- Charges.
+
+  riders-alike :
+      (w w′ : List ℕ) → R w w′ → (child : Bool) (first count : ℕ) → ((i : ℕ) → i < count → KnownRider Known counts (first + i))
+      → riderCharges tariff counts w′ ride child first count ≡ riderCharges tariff counts w ride child first count
+  unfolding riderCharges riderCharge
+  riders-alike w w′ r child first zero known = refl
+  riders-alike w w′ r child first (suc count) known =
+      let own = known count (omega arith) in
+      rw (
+        riders-alike w w′ r child first count (λ i h. known i (omega arith)),
+        charge-same (is-tree t child) (secondSum w′ (first + count)) (allSum w′ (first + count)) (secondSum w (first + count))
+            (allSum w (first + count)) (λ x h. alike .same w w′ r _ (own x h .0)) (λ x h. alike .same w w′ r _ (own x h .1)) (ride .class)
+            (ride .area) _ there,
+      )
+
+  bicycles-alike :
+      (w w′ : List ℕ) → R w w′ → (count : ℕ) → ((i : ℕ) → i < count → Known (coverPlace i))
+      → bicycleCharges tariff counts w′ ride count ≡ bicycleCharges tariff counts w ride count
+  unfolding bicycleCharges
+  bicycles-alike w w′ r zero known = refl
+  bicycles-alike w w′ r (suc count) known =
+      rw (bicycles-alike w w′ r count (λ i h. known i (omega arith)), alike .same w w′ r (coverPlace count) (known count (omega arith)))
+
+  -- A ride's charges go by the words that it touches.
+  pub charges-alike : Touches Known counts ride → (w w′ : List ℕ) → R w w′ → chargesOf tariff counts w′ ride ≡ chargesOf tariff counts w ride
+  unfolding chargesOf
+  charges-alike touches w w′ r =
+      rw (
+        riders-alike w w′ r false 0 (1 + ride .party .adults) (touches .adults),
+        riders-alike w w′ r true firstChild (ride .party .children) (touches .children),
+        bicycles-alike w w′ r (ride .party .bicycles) (touches .bicycles),
+      )
+
+  -- ---- The book left behind.
+
+  here-alike :
+      (b b′ : List ℕ) → R b b′ → (rider class a amount : ℕ) → Known (pairPlace rider a) × Known (pairPlace rider a + 1)
+      → R (addHere b rider class a amount) (addHere b′ rider class a amount)
+  unfolding addHere
+  here-alike b b′ r rider class a amount known = all _ _ (second (eqb class 2))
+    where
+      second :
+          (two : Bool)
+          → R (cond two (putWord b (pairPlace rider a) (secondSum b rider a + amount)) b)
+          (cond two (putWord b′ (pairPlace rider a) (secondSum b′ rider a + amount)) b′)
+      second true = rw (alike .same b b′ r (pairPlace rider a) (known .0)) (alike .put b b′ r (pairPlace rider a) (secondSum b rider a + amount))
+      second false = r
+
+      all :
+          (c c′ : List ℕ) → R c c′
+          → R (putWord c (pairPlace rider a + 1) (allSum c rider a + amount)) (putWord c′ (pairPlace rider a + 1) (allSum c′ rider a + amount))
+      all c c′ s = rw (alike .same c c′ s (pairPlace rider a + 1) (known .1)) (alike .put c c′ s (pairPlace rider a + 1) (allSum c rider a + amount))
+
+  list-alike :
+      (first count : ℕ) (charges : List ℕ) (from : ℕ) (b b′ : List ℕ) → R b b′ → ((i : ℕ) → i < count → KnownRider Known counts (first + i))
+      → R (addList tariff counts ride first count charges from b) (addList tariff counts ride first count charges from b′)
+  unfolding addList addUp
+  list-alike first zero charges from b b′ r known = r
+  list-alike first (suc count) charges from b b′ r known =
+      fold-related (parentOf tariff counts) (counts .areas) (parent-there t) _ _ R
+      (λ a h x y s. here-alike x y s (first + count) (ride .class) a (getD charges (from + count) 0) (known count (omega arith) a h))
+      (levelOf tariff counts (ride .area)) (ride .area) there _ _
+      (list-alike first count charges from b b′ r (λ i h. known i (omega arith)))
+
+  cover-alike :
+      (count : ℕ) (b b′ : List ℕ) → R b b′ → ((i : ℕ) → i < count → Known (coverPlace i))
+      → R (coverBicycles tariff counts ride count b) (coverBicycles tariff counts ride count b′)
+  unfolding coverBicycles
+  cover-alike zero b b′ r known = r
+  cover-alike (suc count) b b′ r known = behind _ _ (cover-alike count b b′ r (λ i h. known i (omega arith)))
+    where
+      behind :
+          (c c′ : List ℕ) → R c c′
+          → R (putWord c (coverPlace count) (1 + newCover tariff counts (ride .area) (coverWord c count)))
+          (putWord c′ (coverPlace count) (1 + newCover tariff counts (ride .area) (coverWord c′ count)))
+      behind c c′ s =
+          rw (alike .same c c′ s (coverPlace count) (known count (omega arith)))
+          (alike .put c c′ s (coverPlace count) (1 + newCover tariff counts (ride .area) (coverWord c count)))
+
+  -- Posting on alike books gives alike books, where opening their windows leaves them alike.
+  pub posted-alike :
+      Touches Known counts ride → (window window′ : Window) (checkout checkout′ : ℕ) (book book′ : List ℕ)
+      → R (inWindow (window .current) book) (inWindow (window′ .current) book′)
+      → R (opened window checkout (inWindow (window .current) book)) (opened window′ checkout′ (inWindow (window′ .current) book′))
+      → R (posted tariff counts book window checkout ride) (posted tariff counts book′ window′ checkout′ ride)
+  unfolding posted
+  posted-alike touches window window′ checkout checkout′ book book′ words opens =
+      rw (charges-alike touches (inWindow (window .current) book) (inWindow (window′ .current) book′) words)
+      (cover-alike (ride .party .bicycles) _ _
+      (list-alike firstChild (ride .party .children) _ _ _ _
+      (list-alike 0 (1 + ride .party .adults) _ _ _ _ opens (touches .adults)) (touches .children))
+      (touches .bicycles))
