@@ -13,6 +13,10 @@ use Rattle.settle.specs.Runs.{Offer, Settlement, runFrom}
 use Rattle.roll.specs.declared.Line.{Line}
 use Rattle.roll.specs.declared.Line.the-variants.{Charged, Refused}
 
+-- at most so many records of a roll are settled
+abbrev pub mostRecords : ℕ
+mostRecords = 65535
+
 -- ---- The records of a roll: at most so many, until its end or a broken frame, which counts as a record.
 
 -- each is offered with room for the largest record

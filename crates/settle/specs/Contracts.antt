@@ -20,7 +20,7 @@ use Rattle.statement.specs.Record.{recordSize, recordOf, statementOf, Recordabl
 use Rattle.statement.specs.Contracts.{Recordables, Wrote}
 use Rattle.settle.specs.declared.Answer.{Answer}
 use Rattle.settle.specs.declared.Answer.the-variants.{Refused, Written}
-use Rattle.settle.specs.Outcome.{Outcome, refused, accepted, bookAfter, statementAfter, partOf, partsIn}
+use Rattle.settle.specs.Outcome.{Outcome, refused, accepted, partOf, acceptedTrip, settledUnder, settled, partsIn, bookAfter, statementAfter}
 
 -- ---- Writing.
 
@@ -76,3 +76,25 @@ pub record Ready (tariff : List ℕ) (counts : Counts) (book : List ℕ) : Type 
 pub record ToldSound (outcome : Outcome) (areas : ℕ) (book book′ statement statement′ : List ℕ) (r : Answer) : Type 0 where
   pub told : Told outcome book book′ statement statement′ r
   pub sound-again : sound book′ areas ≡ true
+
+-- ---- What each function answers, of the slices at its entry and at its exit.
+
+-- `write`
+abbrev pub TripWritten : List ℕ → Counts → List ℕ → List ℕ → Trip → Window → List ℕ → List ℕ → List ℕ → ℕ → Type 0
+TripWritten tariff counts book bytes trip window statement book′ statement′ size =
+    ToldSound (acceptedTrip tariff counts book bytes trip window) (counts .areas) book book′ statement statement′ (Written size)
+
+-- `settle_next`
+abbrev pub NextSettled : List ℕ → Counts → List ℕ → List ℕ → List ℕ → List ℕ → List ℕ → Answer → Type 0
+NextSettled tariff counts book trip statement book′ statement′ r =
+    ToldSound (settledUnder tariff counts book trip (length statement)) (counts .areas) book book′ statement statement′ r
+
+-- `settle_under`
+abbrev pub UnderSettled : List ℕ → Counts → List ℕ → List ℕ → List ℕ → List ℕ → List ℕ → Answer → Type 0
+UnderSettled tariff counts book trip statement book′ statement′ r =
+    Told (settledUnder tariff counts book trip (length statement)) book book′ statement statement′ r
+
+-- `settle`
+abbrev pub TripSettled : List ℕ → List ℕ → List ℕ → List ℕ → List ℕ → List ℕ → Answer → Type 0
+TripSettled tariff book trip statement book′ statement′ r =
+    Told (settled tariff book trip (length statement)) book book′ statement statement′ r

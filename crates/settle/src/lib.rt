@@ -18,11 +18,8 @@ use tariff::Reading;
 use tariff::scan::read_tariff;
 use trip::Trip;
 use units::Minutes;
-ghost use lib.ListN.{length};
 ghost use Rattle.tariff.specs.Areas.{Read};
-ghost use Rattle.settle.specs.declared.Answer.the-variants.{Written};
-ghost use Rattle.settle.specs.Outcome.{settled, settledUnder, acceptedTrip};
-ghost use Rattle.settle.specs.Contracts.{AllClear, Chargeable, RideCharged, Ready, Told, ToldSound};
+ghost use Rattle.settle.specs.Contracts.{AllClear, Chargeable, RideCharged, TripWritten, Ready, NextSettled, UnderSettled, TripSettled};
 
 pub mod decide;
 
@@ -66,7 +63,7 @@ fn write(
     statement: &mut [u8],
 ) -> usize
     requires { ⌜ AllClear (now tariff) counts (now book) (now bytes) trip window (now statement) ⌝ }
-    ensures { λ r. ⌜ ToldSound (acceptedTrip (now (tariff .entry)) counts (now (book .entry)) (now (bytes .entry)) trip window) (counts .areas) (now (book .entry)) (now (book .exit)) (now (statement .entry)) (now (statement .exit)) (Written r) ⌝ }
+    ensures { λ r. ⌜ TripWritten (now (tariff .entry)) counts (now (book .entry)) (now (bytes .entry)) trip window (now (statement .entry)) (now (book .exit)) (now (statement .exit)) r ⌝ }
 {
     let ride = ride_of(tariff, counts, bytes, trip);
     let checkout = trip.checkout;
@@ -83,7 +80,7 @@ pub fn settle_next(
     statement: &mut [u8],
 ) -> Answer
     requires { ⌜ Ready (now tariff) counts (now book) ⌝ }
-    ensures { λ r. ⌜ ToldSound (settledUnder (now (tariff .entry)) counts (now (book .entry)) (now (trip .entry)) (length (now (statement .entry)))) (counts .areas) (now (book .entry)) (now (book .exit)) (now (statement .entry)) (now (statement .exit)) r ⌝ }
+    ensures { λ r. ⌜ NextSettled (now (tariff .entry)) counts (now (book .entry)) (now (trip .entry)) (now (statement .entry)) (now (book .exit)) (now (statement .exit)) r ⌝ }
 {
     match decide(counts, book, trip, statement.len()) {
         Decision::Refused(number) => Answer::Refused {
@@ -111,7 +108,7 @@ pub fn settle_under(
     statement: &mut [u8],
 ) -> Answer
     requires { ⌜ Read (now tariff) counts ⌝ }
-    ensures { λ r. ⌜ Told (settledUnder (now (tariff .entry)) counts (now (book .entry)) (now (trip .entry)) (length (now (statement .entry)))) (now (book .entry)) (now (book .exit)) (now (statement .entry)) (now (statement .exit)) r ⌝ }
+    ensures { λ r. ⌜ UnderSettled (now (tariff .entry)) counts (now (book .entry)) (now (trip .entry)) (now (statement .entry)) (now (book .exit)) (now (statement .exit)) r ⌝ }
 {
     if is_sound(book, counts.areas) {
         settle_next(tariff, counts, book, trip, statement)
@@ -126,7 +123,7 @@ pub fn settle_under(
 // 1 to 12: under any byte string as a tariff. The charge record goes to the start of the statement, and the book is brought up to date; a
 // refusal touches neither.
 pub fn settle(tariff: &[u8], book: &mut [u8], trip: &[u8], statement: &mut [u8]) -> Answer
-    ensures { λ r. ⌜ Told (settled (now (tariff .entry)) (now (book .entry)) (now (trip .entry)) (length (now (statement .entry)))) (now (book .entry)) (now (book .exit)) (now (statement .entry)) (now (statement .exit)) r ⌝ }
+    ensures { λ r. ⌜ TripSettled (now (tariff .entry)) (now (book .entry)) (now (trip .entry)) (now (statement .entry)) (now (book .exit)) (now (statement .exit)) r ⌝ }
 {
     match read_tariff(tariff) {
         Reading::Fault { number, at } => Answer::Refused { number, place: at },

@@ -20,8 +20,9 @@ ghost use lib.ListN.{length};
 ghost use Rattle.tariff.specs.Areas.{Read};
 ghost use Rattle.statement.specs.Contracts.{mostCents};
 ghost use Rattle.settle.specs.Contracts.{Ready};
+ghost use Rattle.roll.specs.Lines.{mostRecords};
 ghost use Rattle.roll.specs.Contracts.{lineCents};
-ghost use Rattle.settle_roll.specs.Runs.{records, CentsFit, InRange, Turned};
+ghost use Rattle.settle_roll.specs.Contracts.{inputSize, outputSize, records, CentsFit, InRange, Turned, MoreToRead};
 
 // Room for the roll's bytes: a record has 1,026 at most.
 const INPUT: usize = 8_192;
@@ -51,7 +52,7 @@ pub enum Turn {
 
 // One record more.
 fn counted(tally: Tally, line: Line) -> Tally
-    requires { ⌜ (records tally < 65535) × (CentsFit tally × (lineCents line ≤ mostCents)) ⌝ }
+    requires { ⌜ (records tally < mostRecords) × (CentsFit tally × (lineCents line ≤ mostCents)) ⌝ }
     ensures { λ r. ⌜ (records r ≡ records tally + 1) × CentsFit r ⌝ }
 {
     let accepted = tally.accepted;
@@ -79,7 +80,7 @@ fn counted(tally: Tally, line: Line) -> Tally
 
 // A record's line behind the others'. `last` says that the run ends with it.
 fn take_line(out: &mut [u8], run: Run, line: Line, used: usize, last: bool) -> Turn
-    requires { ⌜ (length (now out) ≡ 8192) × (InRange run × ((lineCents line ≤ mostCents) × (run .from + used ≤ run .to))) ⌝ }
+    requires { ⌜ (length (now out) ≡ outputSize) × (InRange run × ((lineCents line ≤ mostCents) × (run .from + used ≤ run .to))) ⌝ }
     ensures { λ r. ⌜ Turned run r ⌝ }
 {
     let so_far = run.tally;
@@ -117,7 +118,7 @@ fn take_line(out: &mut [u8], run: Run, line: Line, used: usize, last: bool) -> T
 // The bytes that are not settled yet, and the roll's next behind them. After a failed read nothing more is settled: the lines so far
 // are written, and no tail.
 fn read_more(input: &mut [u8], out: &[u8], run: Run) -> Turn
-    requires { ⌜ (length (now input) ≡ 8192) × ((length (now out) ≡ 8192) × (InRange run × ((run .more ≡ true) × (run .to < run .from + 8192)))) ⌝ }
+    requires { ⌜ MoreToRead (now input) (now out) run ⌝ }
     ensures { λ r. ⌜ Turned run r ⌝ }
 {
     let end = run.end;
@@ -146,7 +147,7 @@ fn take_step(
     out: &mut [u8],
     run: Run,
 ) -> Turn
-    requires { ⌜ Ready (now tariff) counts (now book) × ((length (now input) ≡ 8192) × ((length (now out) ≡ 8192) × InRange run)) ⌝ }
+    requires { ⌜ Ready (now tariff) counts (now book) × ((length (now input) ≡ inputSize) × ((length (now out) ≡ outputSize) × InRange run)) ⌝ }
     ensures { λ r. ⌜ Ready (now (tariff .entry)) counts (now (book .exit)) × Turned run r ⌝ }
 {
     let from = run.from;
@@ -172,7 +173,7 @@ fn settle_all(
     out: &mut [u8],
     start: Run,
 )
-    requires { ⌜ Ready (now tariff) counts (now book) × ((length (now input) ≡ 8192) × ((length (now out) ≡ 8192) × InRange start)) ⌝ }
+    requires { ⌜ Ready (now tariff) counts (now book) × ((length (now input) ≡ inputSize) × ((length (now out) ≡ outputSize) × InRange start)) ⌝ }
 {
     let mut run = start;
     loop {

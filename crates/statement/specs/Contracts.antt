@@ -28,6 +28,10 @@ pub record Wrote (bytes before : List ℕ) (place : ℕ) (after : List ℕ) (r :
   pub next : r ≡ place + length bytes
   pub stored : after ≡ sets before place bytes
 
+-- the record of such a part
+abbrev pub RecordWrote : List ℕ → ℕ → ℕ → Ride → List ℕ → ℕ → List ℕ → ℕ → Type 0
+RecordWrote before place opening ride amounts count after r = Wrote (recordOf (partWith opening ride amounts count)) before place after r
+
 -- a part's record stands at a place of a statement, whatever is behind it
 pub record StandsAt (part : Part) (statement : List ℕ) (place : ℕ) : Type 0 where
   pub rest : List ℕ

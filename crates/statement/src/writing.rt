@@ -10,8 +10,8 @@ ghost use Prim.Native.Nat.{_+_, _*_, _≤_};
 ghost use lib.ListN.{length, take};
 ghost use lib.Seq.{sets};
 ghost use Rattle.wire.specs.Number.{bytesOf};
-ghost use Rattle.statement.specs.Record.{headSize, mostCharges, headBytes, chargeBytes, recordOf};
-ghost use Rattle.statement.specs.Contracts.{partWith, Writable, Wrote};
+ghost use Rattle.statement.specs.Record.{headSize, chargeSize, mostCharges, headBytes, chargeBytes};
+ghost use Rattle.statement.specs.Contracts.{Writable, Wrote, RecordWrote};
 
 // The record up to its first charge; `long` is the record's length field. The answer is the place of the first charge.
 pub fn write_head(
@@ -38,15 +38,15 @@ pub fn write_head(
 
 // One person's charge. The answer is the place of the next.
 pub fn write_charge(statement: &mut [u8], place: usize, charge: u32) -> usize
-    requires { ⌜ place + 4 ≤ length (now statement) ⌝ }
-    ensures { λ r. ⌜ (r ≡ place + 4) × (now (statement .exit) ≡ sets (now (statement .entry)) place (bytesOf 4 charge)) ⌝ }
+    requires { ⌜ place + chargeSize ≤ length (now statement) ⌝ }
+    ensures { λ r. ⌜ (r ≡ place + chargeSize) × (now (statement .exit) ≡ sets (now (statement .entry)) place (bytesOf 4 charge)) ⌝ }
 {
     Writer::new(statement, place).four(charge).end()
 }
 
 // The first `count` of the amounts as charges, one after another. The answer is the place behind the last.
 fn write_charges(statement: &mut [u8], place: usize, amounts: &[u32], count: usize) -> usize
-    requires { ⌜ (count ≤ length (now amounts)) × ((count ≤ mostCharges) × (place + 4 * count ≤ length (now statement))) ⌝ }
+    requires { ⌜ (count ≤ length (now amounts)) × ((count ≤ mostCharges) × (place + chargeSize * count ≤ length (now statement))) ⌝ }
     ensures { λ r. ⌜ Wrote (chargeBytes (take count (now (amounts .entry)))) (now (statement .entry)) place (now (statement .exit)) r ⌝ }
 {
     let mut next = place;
@@ -66,7 +66,7 @@ pub fn write_record(
     count: usize,
 ) -> usize
     requires { ⌜ Writable (now statement) place (opening .0) ride (now amounts) count ⌝ }
-    ensures { λ r. ⌜ Wrote (recordOf (partWith (opening .0) ride (now (amounts .entry)) count)) (now (statement .entry)) place (now (statement .exit)) r ⌝ }
+    ensures { λ r. ⌜ RecordWrote (now (statement .entry)) place (opening .0) ride (now (amounts .entry)) count (now (statement .exit)) r ⌝ }
 {
     let area = ride.area;
     let km = ride.km;

@@ -1,6 +1,7 @@
 // Runs outside vectors: each section of the input is a tariff, a trip to be priced, a trip to be settled, or a fresh book, and prints a
 // line or two. A section is a tag byte, a length in 4 bytes, and that many bytes. samples/vectors.txt is the readable source of input and
 // output.
+use book::words::SIZE;
 use fare::prices::price;
 use fare::rides::ride_of;
 use libc::STDIN_FILENO;
@@ -182,6 +183,6 @@ fn sections(input: &[u8], book: &mut [u8]) {
 fn main() {
     let mut room = io::large_buffer();
     let end = io::read_full(STDIN_FILENO, &mut room);
-    let mut book = [0u8; 5428];
+    let mut book = [0u8; SIZE];
     sections(&room[..end], &mut book);
 }

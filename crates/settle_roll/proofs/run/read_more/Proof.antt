@@ -32,7 +32,7 @@ returns-2 c =
     let start = c .before .before .before .before .before .before .before .before .before .before .before .before .before .before in
     let keep = c .before .before .before .before .before .before .before .before .before .keep in
     let got = c .before .before .before .before .before .read-roll in
-    read-turned _ _ _ (start .pre .1 .1 .0) (start .pre .1 .1 .1 .0) (keep .ensures) (omega arith)
+    read-turned _ _ _ (start .pre .range) (start .pre .more) (keep .ensures) (omega arith)
 
 pub read-more-spec : {M : Type 1} → statement M
 read-more-spec =

@@ -7,13 +7,13 @@ use borrow.Author.Needs.{needs}
 use lib.ListN.{length}
 use Rattle.settle.specs.Contracts.{Ready}
 use Rattle.settle_roll.specs.declared.run.Turn.{Turn}
-use Rattle.settle_roll.specs.Runs.{InRange, left, Turned}
+use Rattle.settle_roll.specs.Contracts.{inputSize, outputSize, InRange, left, Turned}
 use Rattle.settle_roll.proofs.run.settle_all.Statement.{statement}
 use Rattle.settle_roll.proofs.run.settle_all.Tie as tie
 
 abbrev Inv-loop : tie.InvT-loop
 Inv-loop tariff counts book₀ input₀ out₀ run₀ book input out run =
-    Ready tariff counts book × (length book ≡ length book₀) × (length input ≡ 8192) × (length out ≡ 8192) × InRange run
+    Ready tariff counts book × (length book ≡ length book₀) × (length input ≡ inputSize) × (length out ≡ outputSize) × InRange run
 
 abbrev μ-loop : tie.MeasureT-loop
 μ-loop tariff counts book₀ input₀ out₀ run₀ book input out run = left run

@@ -26,7 +26,7 @@ read-more-requires c κs =
     let input = start .pre .1 .0 in
     let range = start .pre .1 .1 .1 in
     let room = more-room _ _ _ _ range input (c .before .before .before .before .before .before .next .ensures .found) (c .before .before .enum-told .given .1) in
-    (input, (start .pre .1 .1 .0, (range, (room .0, room .1))))
+    record { input-size = input; output-size = start .pre .1 .1 .0; range = range; more = room .0; room = room .1 }
 
 enum-known-line : tie.Need-enum-known-line
 enum-known-line c = search needs
