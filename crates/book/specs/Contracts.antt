@@ -10,6 +10,7 @@ use Rattle.caps.specs.Limits.{cappedHere}
 use Rattle.tariff.specs.declared.Counts.{Counts}
 use Rattle.tariff.specs.Areas.{Read, areaAt, parentOf}
 use Rattle.fare.specs.declared.Ride.{Ride}
+use Rattle.fare.specs.Distance.{mostKm}
 use Rattle.fare.specs.Prices.{mostPrice}
 use Rattle.book.specs.declared.Riders.{Riders}
 use Rattle.book.specs.declared.Window.{Window}
@@ -34,7 +35,7 @@ pub record Rideable (tariff : List ℕ) (counts : Counts) (book : List ℕ) (rid
   pub read : Read tariff counts
   pub sound-book : sound book (counts .areas) ≡ true
   pub area : ride .area < counts .areas
-  pub km : ride .km .0 ≤ 1415
+  pub km : ride .km .0 ≤ mostKm
   pub minutes : ride .minutes .0 ≤ dayMinutes
   pub adults : ride .party .adults ≤ 10
   pub children : ride .party .children ≤ 10

@@ -1,4 +1,4 @@
--- Paper 01, "Clock and place": kilometres are the least k with dx² + dy² ≤ (1,000k)².
+-- Rules, section 7: kilometres are the least k with dx² + dy² ≤ (1,000k)².
 use Prim.Native.Nat.{ℕ, zero, suc, _+_, _-_, _*_, _≤_}
 use mathlib.Core.Path.{_≡_}
 use mathlib.Core.Bool.{true, false}

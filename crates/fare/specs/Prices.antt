@@ -1,4 +1,4 @@
--- Paper 01, "Price, in order".
+-- Rules, section 8: the price of a ride, in four steps.
 use Prim.Native.Nat.{ℕ, _+_, _*_}
 use mathlib.Core.Bool.{Bool, cond}
 use lib.Dec.{leb, eqb}

@@ -1,4 +1,4 @@
--- Paper 01, "Clock and place": the trip's area is the smallest containing all its stops; kilometres lie between its first and last stop;
+-- Rules, section 7: the trip's area is the smallest containing all its stops; kilometres lie between its first and last stop;
 -- duration is check-out minus check-in.
 use Prim.Native.Nat.{ℕ, zero, suc, _+_, _-_, _≤_, _<_}
 use mathlib.Core.Path.{_≡_}

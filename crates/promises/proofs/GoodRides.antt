@@ -15,7 +15,7 @@ use Rattle.trip.specs.declared.Offered.the-variants.{Good}
 use Rattle.trip.specs.Trips.{readTrip}
 use Rattle.trip.proofs.Good.{good, good-times}
 use Rattle.trip.proofs.Ranges.{party-ranges}
-use Rattle.fare.specs.Distance.{square, apart}
+use Rattle.fare.specs.Distance.{mostKm, square, apart}
 use Rattle.fare.specs.Rides.{rideOf}
 use Rattle.fare.specs.Contracts.{Riding}
 use Rattle.fare.proofs.Distance.{across, km-range}
@@ -24,7 +24,7 @@ use Rattle.book.specs.Sound.{sound}
 use Rattle.book.specs.Contracts.{Rideable}
 
 -- two stops of the plane are no farther apart than 1,415 kilometres reach
-pub apart-most : {areas : ℕ} (from to : Stop) → StopRanges areas from → StopRanges areas to → apart from to ≤ square (1000 * 1415)
+pub apart-most : {areas : ℕ} (from to : Stop) → StopRanges areas from → StopRanges areas to → apart from to ≤ square (1000 * mostKm)
 unfolding apart
 apart-most from to one other = omega (arith, across _ _ (wide (from .x .0) (to .x .0) (one .x) (other .x)) (wide (from .y .0) (to .y .0) (one .y) (other .y)))
   where

@@ -1,20 +1,18 @@
 -- Paper 01, "Sums to check": the starred cases, computed with the definitions that `settled` uses. A whole book is too large to compute
 -- with; but the holder's rides in the sample's seven areas go by the book's first 17 words alone.
 -- Assumes nothing.
-use Prim.Native.Nat.{ℕ, zero, suc, _+_, _*_, _%_, _/_, _≤_, _<_}
+use Prim.Native.Nat.{ℕ, zero, suc, _+_, _*_, _<_}
 use native.Mathlib.Omega.{arith}
-use native.Mathlib.Decide.{ℕ-discrete}
 use mathlib.Core.Path.{_≡_, refl, sym, _∙_}
 use mathlib.Core.List.{List, [], _∷_}
 use mathlib.Core.Bool.{Bool, true, _&&_}
-use lib.ListN.{length, getD, set, replicate, length-set, length-replicate, getD-replicate}
-use lib.Seq.{getD-set-same, getD-set-other}
+use lib.ListN.{length, replicate, length-replicate, getD-replicate}
 use lib.Dec.{eqb, ltb}
 use Rattle.units.specs.Rounding.{dividedUp, hundredthsOf, periods}
 use Rattle.wire.specs.Number.{getLe, putLe, bytesOf}
 use Rattle.wire.specs.Each.{each}
 use Rattle.wire.specs.Frame.{broken, frameAt}
-use Rattle.wire.proofs.Number.{get-same}
+use Rattle.wire.proofs.Starts.{SameStart, put-start, get-start}
 use Rattle.calendar.specs.Days.{monthDays, daysOfMonths, daysOfYears, dayNumber}
 use Rattle.calendar.specs.Stamps.{stampOf, minuteNumber}
 use Rattle.tariff.specs.Fields.{areaFields}
@@ -66,33 +64,9 @@ use Rattle.promises.specs.Cases.{
 
 -- ---- Books with the same first words.
 
--- two byte strings begin with the same n bytes
-record SameStart (n : ℕ) (b b′ : List ℕ) : Type 0 where
-  long : n ≤ length b
-  long′ : n ≤ length b′
-  same : (i : ℕ) → i < n → getD b′ i 0 ≡ getD b i 0
-
-set-start : {n : ℕ} {b b′ : List ℕ} → SameStart n b b′ → (p x : ℕ) → SameStart n (set b p x) (set b′ p x)
-set-start {n} {b} {b′} s p x =
-    record {
-      long = omega (arith, s .long, length-set b p x);
-      long′ = omega (arith, s .long′, length-set b′ p x);
-      same = λ i h. at i h (ℕ-discrete i p);
-    }
-  where
-    at : (i : ℕ) → i < n → Dec (i ≡ p) → getD (set b′ p x) i 0 ≡ getD (set b p x) i 0
-    at i h (no ne) = getD-set-other b′ p i x 0 ne ∙ s .same i h ∙ sym (getD-set-other b p i x 0 ne)
-    at i h (yes e) =
-        rw e (getD-set-same b′ p x 0 (omega (arith, s .long′)) ∙ sym (getD-set-same b p x 0 (omega (arith, s .long))))
-
-put-start : (k : ℕ) {n : ℕ} {b b′ : List ℕ} → SameStart n b b′ → (p v : ℕ) → SameStart n (putLe k b p v) (putLe k b′ p v)
-unfolding putLe
-put-start zero s p v = s
-put-start (suc k) s p v = put-start k (set-start s p (v % 256)) (p + 1) (v / 256)
-
 -- the first 17 words
 word-start : {b b′ : List ℕ} → SameStart 68 b b′ → (i : ℕ) → i < 17 → word b′ i ≡ word b i
-word-start {b} {b′} s i h = get-same 4 b′ b (4 * i) (λ j low high. s .same j (omega arith))
+word-start s i h = get-start 4 s (4 * i) (omega arith)
 
 -- ---- The sample.
 

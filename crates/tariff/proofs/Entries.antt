@@ -125,7 +125,7 @@ module _ (b : List ℕ) (at : ℕ) (soFar : Counts) where
   unfolding entryAt
   other-frame kind body e not-one not-two = rw (within kind body e, e, ne-eqb kind 1 not-one, ne-eqb kind 2 not-two)
 
--- Kind, body length, order and number, by the tests and by the paper's words.
+-- Kind, body length, order and number, by the tests and by the rules' words.
 module _ (b : List ℕ) (at : ℕ) (soFar : Counts) where
   area-in : (body : ℕ) → frameAt b at ≡ Whole 1 body → areaDue body soFar ≡ true → AreaInPlace b at soFar
   area-in body frame due =

@@ -28,7 +28,7 @@ tripCapOf f =
     (record { 0 = f .cap5 }))
     trip.NoCap)
 
--- what stands for no day cap
+-- the day cap, where there is one
 unfoldable pub dayCapOf : ℕ → Cap
 dayCapOf amount = cond (eqb amount noDayCap) day.NoCap (day.UpTo (record { 0 = amount }))
 

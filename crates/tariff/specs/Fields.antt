@@ -1,4 +1,4 @@
--- Paper 01, "Records": where the fields of an area record (kind 1) and of a stop record (kind 2) stand.
+-- Rules, section 4: where the fields of an area record (kind 1) and of a stop record (kind 2) stand.
 use Prim.Native.Nat.{ℕ, _+_}
 use mathlib.Core.List.{List}
 use Rattle.wire.specs.Number.{getLe}

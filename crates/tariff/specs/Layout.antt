@@ -1,4 +1,4 @@
--- Paper 01, "Records": a tariff is its area records, then its stop records. How long each is and where each begins: the counts are the
+-- Rules, sections 3 and 4: a tariff is its area records, then its stop records. How long each is and where each begins: the counts are the
 -- layout. No other crate knows where a record stands.
 use Prim.Native.Nat.{ℕ, _+_, _*_}
 use Rattle.wire.specs.Frame.{headSize, longestRecord}

@@ -1,4 +1,4 @@
--- Paper 01, "Price, in order", step 2: by level, 1 = K to 5 = D, and level 0 has none. A level above 5 is refused.
+-- Rules, section 8, step 2: by level, 1 = K to 5 = D, and level 0 has none. A level above 5 is refused.
 use Prim.Native.Nat.{ℕ}
 use mathlib.Core.Bool.{cond}
 use lib.Dec.{eqb}

@@ -1,4 +1,4 @@
--- Paper 01, "Records": the ranges, and what one record's values have to do with another's.
+-- Rules, section 4: the ranges, and what one record's values have to do with another's.
 use Prim.Native.Nat.{ℕ}
 use mathlib.Core.List.{List}
 use mathlib.Core.Bool.{Bool, cond, _&&_, _||_}

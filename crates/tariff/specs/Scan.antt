@@ -1,4 +1,4 @@
--- Paper 01, "Records" and "What comes back": a tariff is 1 to 32 area records, then 0 to 1,000 stop records, nothing else;
+-- Rules, section 4: a tariff is 1 to 32 area records, then 0 to 1,000 stop records, nothing else;
 -- the first faulty record decides.
 use Prim.Native.Nat.{ℕ, zero, suc, _+_, _≤_, _<_}
 use mathlib.Core.Path.{_≡_}

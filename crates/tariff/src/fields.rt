@@ -1,4 +1,4 @@
-// Where the fields of an area record and of a stop record stand: the layout of the paper's "Records", once.
+// Where the fields of an area record and of a stop record stand: the layout of the records, once.
 use wire::HEAD;
 use wire::LONGEST_RECORD;
 use wire::four_at;

@@ -1,4 +1,4 @@
-// Which values a record may have: the ranges of the paper, the trip-cap sorts and their zeros, levels, parents and flats.
+// Which values a record may have: the ranges, the trip-cap sorts and their zeros, levels, parents and flats.
 use crate::Counts;
 use crate::areas::flat_there;
 use crate::areas::level_there;

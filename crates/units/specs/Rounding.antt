@@ -1,4 +1,4 @@
--- Paper 01, "Price, in order": rounding up by a percentage (steps 3 and 4) and the periods of step 1.
+-- Rules, sections 2 and 8: rounding up by a percentage (steps 3 and 4) and the periods of step 1.
 -- Each function's contract is a record: the value by its definition, and the range beside it that its callers' sums rest on.
 use Prim.Native.Nat.{ℕ, _+_, _-_, _*_, _/_, _%_, _≤_, max}
 use mathlib.Core.Path.{_≡_}

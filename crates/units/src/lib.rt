@@ -1,4 +1,4 @@
-// The four units that the papers count in, caps on an amount, and the two roundings that a price is made with.
+// The four units that the rules count in, caps on an amount, and the two roundings that a price is made with.
 // All money is whole cents. A count in one unit is never taken where another belongs.
 ghost use mathlib.Core.Path.{_≡_};
 ghost use Prim.Native.Nat.{_≤_, _<_};

@@ -57,12 +57,12 @@ pub unbroken-given : (b : List ℕ) (p : ℕ) → broken b p ≡ false → frame
 unfolding frameAt
 unbroken-given b p e = rw e
 
--- A frame that is broken by the paper's words is given as broken.
+-- A frame that is broken by the rules' words is given as broken.
 pub broken-back : (b : List ℕ) (p : ℕ) → broken b p ≡ true → frameAt b p ≡ Broken
 unfolding frameAt
 broken-back b p e = rw e
 
--- A frame that is given as broken is broken by the paper's words.
+-- A frame that is given as broken is broken by the rules' words.
 pub broken-is : (b : List ℕ) (p : ℕ) → frameAt b p ≡ Broken → broken b p ≡ true
 broken-is b p e = go (broken b p) refl
   where

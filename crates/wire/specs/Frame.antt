@@ -1,4 +1,4 @@
--- Paper 01, "Records": two-byte length, two-byte kind, body. The length counts kind and body.
+-- Rules, section 3: two-byte length, two-byte kind, body. The length counts kind and body.
 use Prim.Native.Nat.{ℕ, _+_, _-_}
 use mathlib.Core.List.{List}
 use mathlib.Core.Bool.{Bool, cond, _||_}

@@ -1,4 +1,4 @@
--- What a writer is once a number is put: paper 01, "a writer that holds the lent statement slice".
+-- What a writer, which holds the lent statement, is once a number is put.
 use Prim.Native.Nat.{ℕ, _+_}
 use denote.Ref.{now, at-last}
 use Rattle.wire.specs.Number.{putLe}
