@@ -10,3 +10,4 @@ pub mod SoundAgain
 pub mod PostSteps
 pub mod PostTurns
 pub mod AlikeBooks
+pub mod GoodRides

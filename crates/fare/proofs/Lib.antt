@@ -1,3 +1,4 @@
 pub mod Distance
 pub mod Steps
 pub mod Stops
+pub mod GoodTrips

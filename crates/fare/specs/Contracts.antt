@@ -12,8 +12,7 @@ use Rattle.tariff.specs.Rules.{mostMetres}
 use Rattle.tariff.specs.Areas.{Read, AreaRanges, StopRanges}
 use Rattle.trip.specs.declared.Trip.{Trip}
 use Rattle.trip.specs.Record.{tripSize}
-use Rattle.trip.specs.Moments.{inOrder}
-use Rattle.trip.specs.Trips.{stopsKnown}
+use Rattle.trip.specs.Trips.{stopsKnown, inOrder}
 use Rattle.fare.specs.declared.Ride.{Ride}
 use Rattle.fare.specs.Distance.{mostKm}
 use Rattle.fare.specs.Rides.{stopOf, rideOf}

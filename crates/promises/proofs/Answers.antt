@@ -3,91 +3,99 @@
 use Prim.Native.Nat.{ℕ, _+_, _-_, _*_, _/_, _%_, _^_, _≤_, _<_}
 use native.Mathlib.Nat.{zero-add}
 use native.Mathlib.Omega.{arith}
-use native.Mathlib.Decide.{decLt}
 use mathlib.Core.Path.{_≡_, refl, sym, ap, _∙_}
 use mathlib.Core.Logic.{_↔_, ⊎-elim}
 use mathlib.Core.List.{List, [], _∷_, append-nil}
 use lib.ListN.{length, getD}
-use Rattle.calendar.specs.Stamps.{lastMinute}
 use Rattle.tariff.specs.declared.Counts.{Counts}
 use Rattle.tariff.specs.Layout.{longestTariff}
-use Rattle.tariff.specs.Scan.{FaultSays}
+use Rattle.tariff.specs.Scan.{Passed, FaultSays}
 use Rattle.tariff.specs.Scan as scan
-use Rattle.tariff.specs.Areas.{Read}
 use Rattle.tariff.proofs.Faultless.{faultless}
 use Rattle.tariff.proofs.Faults.{fault-exactly, fault-number, fault-most}
-use Rattle.trip.specs.declared.Trip.{Trip}
-use Rattle.trip.specs.declared.Offered.the-variants.{Good}
-use Rattle.trip.specs.Record.{partyAt}
-use Rattle.trip.specs.Trips.{readTrip}
-use Rattle.trip.proofs.Ranges.{party-ranges}
-use Rattle.trip.proofs.Good as offered
+use Rattle.trip.specs.Record.{countAt}
+use Rattle.trip.specs.Moments.{checkoutOf}
+use Rattle.trip.specs.Trips.{tripOf}
+use Rattle.trip.proofs.Clear.{good-fields}
 use Rattle.fare.specs.declared.Ride.{Ride}
 use Rattle.fare.specs.Rides.{rideOf}
-use Rattle.fare.specs.Contracts.{Riding}
 use Rattle.fare.proofs.Distance.{km-holds, km-least, km-range}
 use Rattle.fare.proofs.Stops.{stop-there, area-of-stops}
-use Rattle.book.specs.Windows.{windowOf, inWindow}
+use Rattle.fare.proofs.GoodTrips.{riding}
+use Rattle.book.specs.Windows.{inWindow}
 use Rattle.book.specs.Charging.{chargesOf}
 use Rattle.book.specs.Contracts.{Rideable}
 use Rattle.book.specs.Posting.{posted}
 use Rattle.book.proofs.SoundLaws.{sound-has}
 use Rattle.book.proofs.SoundAgain.{WindowRight, window-right}
 use Rattle.book.proofs.ChargeLaws.{charges-length, adult-stands, child-stands, bicycle-stands, charges-most}
-use Rattle.statement.specs.Record.{Part, sizeWith, recordSize, recordOf, statementOf, Recordable}
+use Rattle.book.proofs.GoodRides.{apart-most, good-ride}
+use Rattle.statement.specs.Record.{Part, sizeWith, recordOf, statementOf, Recordable}
 use Rattle.statement.specs.Reading.{chargeIn}
 use Rattle.statement.specs.Contracts.{StandsAt}
 use Rattle.statement.proofs.Charges.{length-record, one-part as one-record}
 use Rattle.statement.proofs.Records.{long-is, kind-is, opening-is, area-is, km-is, minutes-is, charge-is}
+use Rattle.settle.specs.Refusals.{refusal, lastRefusal, rows}
 use Rattle.settle.specs.Outcome.{Outcome, refused, accepted, partOf, acceptedTrip, settled, answerOf, Settled}
+use Rattle.settle.proofs.Rows.{first-holds, first-range, rows-range}
 use Rattle.settle.proofs.Parts.{one-part, one-posted}
-use Rattle.settle.proofs.Ways.{sound-way, clear-way, fault-way, accepted-way}
-use Rattle.promises.specs.Conditions.{checkinOf, checkoutOf, condition, RefusedBy, by-tariff, by-others, AcceptedBy, RecordSays}
-use Rattle.promises.proofs.TripConditions.{good-read}
-use Rattle.promises.proofs.Refusing.{
-  Answered,
-  refusing,
-  accepting,
-  answered,
-  NoneBelow,
-  next,
-  no-fault,
-  none-of-ten,
-  no-more,
-  early-not,
+use Rattle.settle.proofs.Ways.{refused-first, clear-first, NoneHolds, no-row, fault-way, refused-way, accepted-way}
+use Rattle.promises.specs.Conditions.{
+  tripRide,
+  tripWindow,
+  condition,
+  NoCondition,
+  RefusedBy,
+  by-tariff,
+  by-others,
+  AcceptedBy,
+  RecordSays,
 }
-use Rattle.promises.proofs.GoodRides.{apart-most, good-ride}
+use Rattle.promises.proofs.Refusing.{first-exactly, none-exactly, counts-are, no-fault, Answered, refusing, accepting, answered}
 
 -- ---- What the record says.
 
--- the window of an accepted trip
+-- where no row holds: the book is sound, the trip good and on time, its window not full, and there is room for the record
+pub clear :
+    {tariff book bytes : List ℕ} {room : ℕ} {new : List ℕ} {parts : List Part} (a : AcceptedBy tariff book bytes room new parts)
+    → NoneHolds (a .counts) book bytes room
+clear {tariff} {book} {bytes} {room} a =
+    no-row (a .counts) book bytes room (none-exactly (a .counts) book bytes room .1 (a .none))
+
+-- its ride, and its window
+pub charged-ride :
+    {tariff book bytes : List ℕ} {room : ℕ} {new : List ℕ} {parts : List Part} (a : AcceptedBy tariff book bytes room new parts)
+    → Rideable tariff (a .counts) book (tripRide tariff (a .counts) bytes)
+charged-ride {tariff} {book} {bytes} a = good-ride tariff (a .counts) book bytes (a .read) (clear a .sound-book) (clear a .good)
+
 pub right-window :
     {tariff book bytes : List ℕ} {room : ℕ} {new : List ℕ} {parts : List Part} (a : AcceptedBy tariff book bytes room new parts)
-    → WindowRight book (a .window) (a .trip .checkout .0)
+    → WindowRight book (tripWindow book bytes) (checkoutOf bytes)
 right-window {tariff} {book} {bytes} a =
-    let times = offered.good-times bytes (a .counts .stops) (a .trip) (offered.good bytes (a .counts .stops) (a .trip) (a .good)) in
-    window-right (sound-has book (a .counts .areas) (a .sound-book)) (times .forward) (times .short) (times .range) (a .on-time) (a .window)
-    (a .window-is) (a .few)
+    let c = clear a in
+    let fields = good-fields (c .good) in
+    window-right (sound-has book (a .counts .areas) (c .sound-book)) (fields .forward) (fields .short) (fields .range) (c .on-time)
+    (tripWindow book bytes) refl (c .few)
 
 -- an accepted trip's part, and its record at the start of the bytes written
 module _ {tariff book bytes : List ℕ} {room : ℕ} {new : List ℕ} {parts : List Part} (a : AcceptedBy tariff book bytes room new parts) where
   abbrev ride : Ride
-  ride = rideOf tariff (a .counts) bytes (a .trip)
+  ride = tripRide tariff (a .counts) bytes
 
   abbrev w : List ℕ
-  w = inWindow (a .window .current) book
+  w = inWindow (tripWindow book bytes .current) book
 
   abbrev part : Part
-  part = partOf tariff (a .counts) book (a .window) ride
+  part = partOf tariff (a .counts) book (tripWindow book bytes) ride
 
   pub parts-are : parts ≡ part ∷ []
-  parts-are = a .parts-is ∙ one-part tariff (a .counts) book bytes (a .trip) (a .window)
+  parts-are = a .parts-is ∙ one-part tariff (a .counts) book bytes (tripOf bytes) (tripWindow book bytes)
 
-  pub new-posted : new ≡ posted tariff (a .counts) book (a .window) (a .trip .checkout .0) ride
-  new-posted = a .new-is ∙ one-posted tariff (a .counts) book bytes (a .trip) (a .window)
+  pub new-posted : new ≡ posted tariff (a .counts) book (tripWindow book bytes) (checkoutOf bytes) ride
+  new-posted = a .new-is ∙ one-posted tariff (a .counts) book bytes (tripOf bytes) (tripWindow book bytes)
 
   rideable : Rideable tariff (a .counts) book ride
-  rideable = good-ride tariff (a .counts) book bytes (a .trip) (a .read) (a .sound-book) (a .good)
+  rideable = charged-ride a
 
   recordable : Recordable part
   unfolding partOf
@@ -101,7 +109,7 @@ module _ {tariff book bytes : List ℕ} {room : ℕ} {new : List ℕ} {parts : L
         km = omega (arith, rideable .km);
         minutes = omega (arith, rideable .minutes);
         few = omega (arith, rideable .adults, rideable .children, rideable .bicycles);
-        charges = λ i. omega (arith, charges-most rideable (a .window .current) i);
+        charges = λ i. omega (arith, charges-most rideable (tripWindow book bytes .current) i);
       }
 
   stands : StandsAt part (statementOf parts) 0
@@ -112,22 +120,18 @@ module _ {tariff book bytes : List ℕ} {room : ℕ} {new : List ℕ} {parts : L
   unfolding partOf
   charge-stands i h = charge-is part (statementOf parts) 0 stands recordable i h
 
-  said : RecordSays tariff bytes w (a .counts) (a .window .opening .0) (a .trip .stops - 1) ride (statementOf parts)
+  said : RecordSays tariff bytes w (a .counts) (tripWindow book bytes .opening .0) (countAt bytes 0 - 1) ride (statementOf parts)
   unfolding rideOf partOf
   said =
       let counts = a .counts in
-      let trip = a .trip in
-      let facts = offered.good bytes (counts .stops) trip (a .good) in
-      let g = good-read bytes (counts .stops) trip (a .good) in
-      let party = party-ranges (trip .class) (trip .level) (trip .party) (trip .stops) (facts .right) in
-      let riding : Riding tariff counts bytes (trip .stops) =
-      record { read = a .read; known = facts .known-stops; fits = omega (arith, facts .size) }
-      in
-      let last = trip .stops - 1 in
-      let there : last < trip .stops = omega arith in
-      let smallest = rw zero-add at (area-of-stops riding 0 last (omega arith)) in
-      let from = stop-there riding 0 (omega arith) in
-      let to = stop-there riding last there in
+      let fields = good-fields (clear a .good) in
+      let party = fields .ranges in
+      let stops = riding (a .read) (clear a .good) in
+      let last = countAt bytes 0 - 1 in
+      let there : last < countAt bytes 0 = omega arith in
+      let smallest = rw zero-add at (area-of-stops stops 0 last (omega arith)) in
+      let from = stop-there stops 0 (omega arith) in
+      let to = stop-there stops last there in
       let near = apart-most _ _ (from .ranges) (to .ranges) in
       let count = charges-length tariff (a .counts) w ride in
       let s = statementOf parts in
@@ -140,7 +144,7 @@ module _ {tariff book bytes : List ℕ} {room : ℕ} {new : List ℕ} {parts : L
         area = rw (area-is part s 0 stands recordable) smallest;
         km = rw (km-is part s 0 stands recordable)
             (record { value = refl; holds = km-holds _ near; least = km-least _ near; range = km-range _ near });
-        minutes = rw (← g .from, ← g .to) (minutes-is part s 0 stands recordable);
+        minutes = minutes-is part s 0 stands recordable;
         holder = charge-stands 0 (omega arith) ∙ adult-stands tariff (a .counts) w ride 0 (omega arith);
         adults = λ i h. charge-stands (1 + i) (omega arith) ∙ adult-stands tariff (a .counts) w ride (1 + i) (omega arith);
         children = λ i h. charge-stands (1 + ride .party .adults + i) (omega arith) ∙ child-stands tariff (a .counts) w ride i h;
@@ -167,54 +171,46 @@ module _ (tariff book bytes : List ℕ) (room : ℕ) where
       met : Answered tariff book bytes room (refused n place) → RefusedBy tariff book bytes room n place
       met (refusing says) = says
 
-  -- a refusal's condition holds
-  refused-holds : {n place : ℕ} → RefusedBy tariff book bytes room n place → condition tariff book bytes room n
-  unfolding condition
-  refused-holds (by-others counts read none low high holds before) = holds
-  refused-holds {n} {place} (by-tariff soFar found says) = faulty says
-    where
-      faulty : FaultSays tariff place soFar n → condition tariff book bytes room n
-      faulty (scan.one e w) = rw e (record { place = place; soFar = soFar; passed = found .passed; wrong = w })
-      faulty (scan.two e w) = rw e (record { place = place; soFar = soFar; passed = found .passed; wrong = w })
-      faulty (scan.three e w) = rw e (record { place = place; soFar = soFar; passed = found .passed; wrong = w })
-
   -- Where none of the twelve conditions holds, the trip is accepted.
   pub accepts :
-      ((n : ℕ) → condition tariff book bytes room n → ⊥)
-      → (new : List ℕ) × (parts : List Part) × (settled tariff book bytes room ≡ accepted new parts)
+      NoCondition tariff book bytes room → (new : List ℕ) × (parts : List Part) × (settled tariff book bytes room ≡ accepted new parts)
   accepts none = go (settled tariff book bytes room) refl
     where
+      no-fault-says : (n place : ℕ) (soFar : Counts) → Passed tariff place soFar → FaultSays tariff place soFar n → ⊥
+      no-fault-says n place soFar passed (scan.one e w) =
+          none .no-broken-frame (record { place = place; soFar = soFar; passed = passed; wrong = w })
+      no-fault-says n place soFar passed (scan.two e w) =
+          none .none-out-of-place (record { place = place; soFar = soFar; passed = passed; wrong = w })
+      no-fault-says n place soFar passed (scan.three e w) =
+          none .no-wrong-value (record { place = place; soFar = soFar; passed = passed; wrong = w })
+
+      met : {n place : ℕ} → RefusedBy tariff book bytes room n place → ⊥
+      met {n} {place} (by-tariff soFar found says) = no-fault-says n place soFar (found .passed) says
+      met (by-others counts read why is at first) =
+          none .none-of-table why (rw (counts-are tariff counts read) (first-holds (condition counts book bytes room) (rows counts book bytes room) first))
+
       go : (o : Outcome) → settled tariff book bytes room ≡ o
           → (new : List ℕ) × (parts : List Part) × (settled tariff book bytes room ≡ accepted new parts)
-      go (refused n place) e = absurd (none n (refused-holds (refused-is e)))
+      go (refused n place) e = absurd (met (refused-is e))
       go (accepted new parts) e = (new, parts, e)
 
   -- And an accepted trip meets none of the twelve.
-  pub accepted-meets-none : {new : List ℕ} {parts : List Part} → AcceptedBy tariff book bytes room new parts → (n : ℕ) → condition tariff book bytes room n → ⊥
-  unfolding condition
-  accepted-meets-none a n =
-      let counts = a .counts in
-      let trip = a .trip in
-      let g = good-read bytes (counts .stops) trip (a .good) in
-      let at-most : windowOf book (checkinOf bytes) (checkoutOf bytes) .trips + 1 ≤ 256 = rw (← g .from, ← g .to, ← a .window-is) (a .few) in
-      let fits : recordSize (partyAt bytes 0) ≤ room = rw (← g .party) (a .fits) in
-      let below : NoneBelow tariff book bytes room 13 =
-      next tariff book bytes room 12
-      (next tariff book bytes room 11
-      (next tariff book bytes room 10
-      (none-of-ten tariff book bytes room counts (a .read) (a .sound-book) trip g)
-      (λ w. early-not book (trip .checkin .0) (a .on-time) (w .in-use) (rw (g .from) (w .early))))
-      (λ h. omega arith))
-      (λ h. omega arith)
-      in
-      elim (decLt n 13) [ yes h ↦ below n h | no h ↦ no-more tariff book bytes room n (omega arith) ]
+  pub accepted-meets-none : {new : List ℕ} {parts : List Part} → AcceptedBy tariff book bytes room new parts → NoCondition tariff book bytes room
+  accepted-meets-none a =
+      let never = no-fault tariff (a .counts) (a .read) in
+      record {
+        no-broken-frame = λ w. never 1 (w .place) (w .soFar) (w .passed) (scan.one refl (w .wrong));
+        none-out-of-place = λ w. never 2 (w .place) (w .soFar) (w .passed) (scan.two refl (w .wrong));
+        no-wrong-value = λ w. never 3 (w .place) (w .soFar) (w .passed) (scan.three refl (w .wrong));
+        none-of-table = rw (counts-are tariff (a .counts) (a .read)) (a .none);
+      }
 
   -- The record of an accepted trip says the window's opening, the smallest area containing all its stops, the least kilometres between
   -- the first and the last, check-out less check-in, and the charges in the order holder, adults, children, bicycles.
   pub record-says :
       {new : List ℕ} {parts : List Part} (a : AcceptedBy tariff book bytes room new parts)
-      → RecordSays tariff bytes (inWindow (a .window .current) book) (a .counts) (a .window .opening .0) (a .trip .stops - 1)
-      (rideOf tariff (a .counts) bytes (a .trip)) (statementOf parts)
+      → RecordSays tariff bytes (inWindow (tripWindow book bytes .current) book) (a .counts) (tripWindow book bytes .opening .0)
+      (countAt bytes 0 - 1) (tripRide tariff (a .counts) bytes) (statementOf parts)
   record-says a = said a
 
   -- An acceptance is given exactly when what it says holds.
@@ -222,67 +218,41 @@ module _ (tariff book bytes : List ℕ) (room : ℕ) where
   unfolding acceptedTrip
   accepted-exactly new parts = (accepted-is, back)
     where
-      made : (a : AcceptedBy tariff book bytes room new parts)
-          → acceptedTrip tariff (a .counts) book bytes (a .trip) (windowOf book (a .trip .checkin .0) (a .trip .checkout .0)) ≡ accepted new parts
-      made a = rw (a .new-is, a .parts-is, a .window-is)
-
       back : AcceptedBy tariff book bytes room new parts → settled tariff book bytes room ≡ accepted new parts
       back a =
-          let counts = a .counts in
-          let trip = a .trip in
-          let window = windowOf book (trip .checkin .0) (trip .checkout .0) in
-          let few : window .trips + 1 ≤ 256 = rw (← a .window-is) (a .few) in
-          accepted-way tariff book bytes room counts (a .read) trip window
-          (sound-way counts book bytes room (a .sound-book) (Good trip) (a .good)
-          ∙ sym (clear-way book trip room (a .on-time) window refl few (a .fits)))
-          ∙ made a
+          accepted-way tariff book bytes room (a .counts) (a .read) _ _
+          (clear-first (a .counts) book bytes room (none-exactly (a .counts) book bytes room .1 (a .none)))
+          ∙ rw (a .new-is, a .parts-is)
 
   -- A trip is accepted exactly when none of the twelve conditions holds.
   pub accepts-exactly :
       ((new : List ℕ) × (parts : List Part) × (settled tariff book bytes room ≡ accepted new parts))
-      ↔ ((n : ℕ) → condition tariff book bytes room n → ⊥)
+      ↔ NoCondition tariff book bytes room
   accepts-exactly = (λ w. accepted-meets-none (accepted-is (w .2)), accepts)
 
   -- A refusal is given exactly when what it says holds.
   pub refused-exactly : (n place : ℕ) → settled tariff book bytes room ≡ refused n place ↔ RefusedBy tariff book bytes room n place
   refused-exactly n place = (refused-is, back)
     where
-      -- of two numbers whose conditions are the first to hold, neither is before the other
-      same :
-          (m at : ℕ) → condition tariff book bytes room n → NoneBelow tariff book bytes room n → condition tariff book bytes room m
-          → NoneBelow tariff book bytes room m → place ≡ 0 → at ≡ 0 → refused m at ≡ refused n place
-      same m at holds before holds′ before′ none none′ =
-          elim (decLt m n) [
-            | yes h ↦ absurd (before m h holds′)
-            | no h ↦
-                elim (decLt n m) [
-                  | yes h′ ↦ absurd (before′ n h′ holds)
-                  | no h′ ↦ let e : m ≡ n = omega arith in let e′ : at ≡ place = omega arith in rw (e, e′)
-                ]
-          ]
-
-      met :
-          (o : Outcome) → Answered tariff book bytes room o → (counts : Counts) → Read tariff counts → place ≡ 0
-          → condition tariff book bytes room n → NoneBelow tariff book bytes room n → o ≡ refused n place
-      met (refused m at) (refusing (by-tariff soFar found says)) counts read none holds before =
-          absurd (no-fault tariff counts read m at soFar (found .passed) says)
-      met (refused m at) (refusing (by-others counts′ read′ none′ low high holds′ before′)) counts read none holds before =
-          same m at holds before holds′ before′ none none′
-      met (accepted new parts) (accepting a) counts read none holds before = absurd (accepted-meets-none a n holds)
-
       back : RefusedBy tariff book bytes room n place → settled tariff book bytes room ≡ refused n place
       back (by-tariff soFar found says) =
           fault-way tariff book bytes room n place (fault-exactly tariff n place .1 (soFar, found .passed, says))
-      back (by-others counts read none low high holds before) =
-          met (settled tariff book bytes room) (answered tariff book bytes room) counts read none holds before
+      back (by-others counts read why is at first) =
+          rw (is, at)
+          (refused-way tariff book bytes room counts read
+          (refused-first counts book bytes room (first-exactly counts book bytes room why .1 first)))
 
-  -- A refusal's number is 1 to 12; its place is at most 13,928, the length of the longest tariff, and 0 for 4 to 12.
+  -- A refusal's number is 1 to the table's last; its place is at most 13,928, the length of the longest tariff, and 0 for 4 to 12.
   pub refused-number :
-      {n place : ℕ} → settled tariff book bytes room ≡ refused n place → (1 ≤ n) × (n ≤ 12) × (place ≤ longestTariff) × (4 ≤ n → place ≡ 0)
+      {n place : ℕ} → settled tariff book bytes room ≡ refused n place → (1 ≤ n) × (n ≤ lastRefusal) × (place ≤ longestTariff) × (4 ≤ n → place ≡ 0)
   refused-number {n} {place} e = met (refused-is e)
     where
-      met : RefusedBy tariff book bytes room n place → (1 ≤ n) × (n ≤ 12) × (place ≤ longestTariff) × (4 ≤ n → place ≡ 0)
-      met (by-others counts read none low high holds before) = (omega arith, high, omega arith, λ _. none)
+      met : RefusedBy tariff book bytes room n place → (1 ≤ n) × (n ≤ lastRefusal) × (place ≤ longestTariff) × (4 ≤ n → place ≡ 0)
+      met (by-others counts read why is at first) =
+          let (low, high) =
+          first-range (rows counts book bytes room) (rows-range counts book bytes room) (first-exactly counts book bytes room why .1 first)
+          in
+          rw is (omega arith, high, omega (arith, at), λ _. at)
       met (by-tariff soFar found says) =
           let number = fault-number tariff n place soFar found in
           let (high, near) = fault-most tariff n place (fault-exactly tariff n place .1 (soFar, found .passed, says)) in
@@ -314,7 +284,7 @@ module _ (tariff book bytes : List ℕ) (room : ℕ) where
   accepted-answer {new} {parts} e =
       let a = accepted-is e in
       let size = record-says a .size in
-      let carried = good-ride tariff (a .counts) book bytes (a .trip) (a .read) (a .sound-book) (a .good) in
+      let carried = charged-ride a in
       rw e (omega arith, omega arith)
 
 -- Two results that the exported contract allows for the same input are equal: the answer, the book and every byte of the statement.

@@ -4,8 +4,6 @@ pub mod Answers
 pub mod Midnight
 pub mod Table
 pub mod Refusing
-pub mod TripConditions
 pub mod Shifts
 pub mod Alike
 pub mod RunLaws
-pub mod GoodRides

@@ -4,22 +4,29 @@
 use Prim.Native.Nat.{ℕ, _+_, _<_}
 use native.Mathlib.Nat.{add-zero}
 use native.Mathlib.Omega.{arith}
-use mathlib.Core.Path.{_≡_, refl, sym}
+use mathlib.Core.Path.{_≡_, refl, sym, ap}
 use mathlib.Core.Logic.{_↔_, _⊎_, inl, inr, ⊎-elim}
 use mathlib.Core.List.{List}
 use mathlib.Core.Bool.{Bool, true, false, not, _&&_, false≢true}
 use borrow.Author.Tests.{leb-true, leb-false, eq-eqb, ne-eqb, eqb-true, eqb-false}
 use lib.Dec.{leb, eqb}
+use Rattle.tariff.specs.declared.Counts.{Counts}
+use Rattle.tariff.specs.declared.Reading.{Reading}
+use Rattle.tariff.specs.declared.Reading.the-variants.{Fault, Faultless}
+use Rattle.tariff.specs.Scan.{readTariff}
+use Rattle.tariff.specs.Areas.{Read}
 use Rattle.book.specs.Words.{freshBook, tripsOf, openingOf}
 use Rattle.book.specs.Windows.{belongs, windowOf}
 use Rattle.book.proofs.WordLaws.{word-fresh}
-use Rattle.settle.specs.Outcome.{Outcome, refused, accepted, settled, bookAfter}
+use Rattle.statement.specs.Record.{Part}
+use Rattle.settle.specs.Refusals.{refusal, rows, Found, nothing, found, firstOf}
+use Rattle.settle.specs.Outcome.{Outcome, refused, accepted, acceptedTrip, settled, bookAfter}
+use Rattle.settle.proofs.Ways.{refused-first, clear-first, fault-way, refused-way, accepted-way}
 use Rattle.settle.specs.Runs.{Offer, bookFrom}
 use Rattle.promises.specs.Runs.{bookOf}
-use Rattle.promises.specs.Conditions.{RefusedBy, by-tariff, by-others}
 use Rattle.promises.specs.Moved.{MovedTrip, MovedBook, MovedOutcome, both-refused, both-accepted, MovedRun, moved-none, moved-more}
-use Rattle.promises.proofs.Answers.{accepted-is, accepts, accepted-meets-none, refused-is, refused-exactly}
-use Rattle.promises.proofs.Shifts.{Shifted, shifted-back, conditions-alike, moved-parts, moved-book}
+use Rattle.promises.proofs.Answers.{accepted-is}
+use Rattle.promises.proofs.Shifts.{Shifted, rows-same, moved-parts, moved-book}
 use Rattle.promises.proofs.Alike.{alike-self}
 
 -- ---- Windows.
@@ -61,8 +68,8 @@ shifted :
 shifted {d} {book} t b =
     record {
       trip = t .alike;
-      stamps = (t .checkin-right, t .checkout-right);
-      stamps′ = (t .checkin-right′, t .checkout-right′);
+      stamps = t .stamps;
+      stamps′ = t .stamps′;
       checkin = omega (arith, t .checkin);
       checkout = omega (arith, t .checkout);
       others = b .alike;
@@ -77,29 +84,39 @@ module _ (tariff : List ℕ) (room d : ℕ) {book bytes book′ bytes′ : List 
   s : Shifted 0 d book bytes book′ bytes′
   s = shifted trip moved
 
-  refused-too : {n place : ℕ} → RefusedBy tariff book bytes room n place → RefusedBy tariff book′ bytes′ room n place
-  refused-too (by-tariff soFar found says) = by-tariff soFar found says
-  refused-too {n} (by-others counts read none low high holds before) =
-      by-others counts read none low high (conditions-alike s tariff room n holds)
-      (λ m h w. before m h (conditions-alike (shifted-back s) tariff room m w))
+  both-taken : {new new′ : List ℕ} {parts parts′ : List Part} → settled tariff book bytes room ≡ accepted new parts
+      → settled tariff book′ bytes′ room ≡ accepted new′ parts′ → MovedOutcome d (settled tariff book bytes room) (settled tariff book′ bytes′ room)
+  both-taken e e′ =
+      let a = accepted-is tariff book bytes room e in
+      let a′ = accepted-is tariff book′ bytes′ room e′ in
+      rw (e, e′) (both-accepted (moved-book s a a′) (moved-parts s a a′))
+
+  -- the two tables are one, so what is found first is
+  by-table :
+      (counts : Counts) → Read tariff counts → (f : Found) → firstOf (rows counts book bytes room) ≡ f
+      → firstOf (rows counts book′ bytes′ room) ≡ f → MovedOutcome d (settled tariff book bytes room) (settled tariff book′ bytes′ room)
+  unfolding acceptedTrip
+  by-table counts read (found why) e e′ =
+      rw (
+        refused-way tariff book bytes room counts read (refused-first counts book bytes room e),
+        refused-way tariff book′ bytes′ room counts read (refused-first counts book′ bytes′ room e′),
+      )
+      (both-refused (refusal why) 0)
+  by-table counts read nothing e e′ =
+      both-taken (accepted-way tariff book bytes room counts read _ _ (clear-first counts book bytes room e))
+      (accepted-way tariff book′ bytes′ room counts read _ _ (clear-first counts book′ bytes′ room e′))
 
   -- Windows do not look at dates. Where a trip's stamps, and with them the opening and the last check-out of the book, are moved by one number
   -- of minutes, over midnight, a month's end or a year's end, the outcome is the same but for the opening: the same refusal; or the same area,
   -- kilometres, minutes and charges, and a book with the same sums and covering areas.
   pub moved-alike : MovedOutcome d (settled tariff book bytes room) (settled tariff book′ bytes′ room)
-  moved-alike = go (settled tariff book bytes room) refl
+  moved-alike = go (readTariff tariff) refl
     where
-      go : (o : Outcome) → settled tariff book bytes room ≡ o → MovedOutcome d (settled tariff book bytes room) (settled tariff book′ bytes′ room)
-      go (refused n place) e =
-          rw (e, refused-exactly tariff book′ bytes′ room n place .1 (refused-too (refused-is tariff book bytes room e))) (both-refused n place)
-      go (accepted new parts) e =
-          let a = accepted-is tariff book bytes room e in
-          let (new′, parts′, e′) =
-          accepts tariff book′ bytes′ room
-          (λ n w. accepted-meets-none tariff book bytes room a n (conditions-alike (shifted-back s) tariff room n w))
-          in
-          let a′ = accepted-is tariff book′ bytes′ room e′ in
-          rw (e, e′) (both-accepted (moved-book s a a′) (moved-parts s a a′))
+      go : (r : Reading) → readTariff tariff ≡ r → MovedOutcome d (settled tariff book bytes room) (settled tariff book′ bytes′ room)
+      go (Fault n place) e =
+          rw (fault-way tariff book bytes room n place e, fault-way tariff book′ bytes′ room n place e) (both-refused n place)
+      go (Faultless counts) e =
+          by-table counts e (firstOf (rows counts book bytes room)) refl (ap firstOf (rows-same s counts room))
 
 -- the same of a trip offered with room for its record
 offer-moved :

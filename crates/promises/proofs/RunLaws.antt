@@ -14,9 +14,10 @@ use Rattle.tariff.specs.declared.Counts.{Counts}
 use Rattle.tariff.specs.Areas.{Read}
 use Rattle.tariff.proofs.Faultless.{faultless, read-one}
 use Rattle.trip.specs.declared.Trip.{Trip}
-use Rattle.trip.specs.declared.Offered.the-variants.{Good}
-use Rattle.trip.specs.Trips.{readTrip}
-use Rattle.trip.proofs.Good.{good, good-times}
+use Rattle.trip.specs.Moments.{checkinOf, checkoutOf}
+use Rattle.trip.specs.Trips.{tripOf}
+use Rattle.trip.specs.Contracts.{GoodTrip}
+use Rattle.trip.proofs.Clear.{good-fields}
 use Rattle.fare.specs.declared.Ride.{Ride}
 use Rattle.fare.specs.Rides.{rideOf}
 use Rattle.book.specs.declared.Window.{Window}
@@ -32,15 +33,13 @@ use Rattle.book.proofs.WordLaws.{word-fresh}
 use Rattle.book.proofs.SoundLaws.{fresh-sound}
 use Rattle.book.proofs.SumLaws.{sumOf, counted}
 use Rattle.book.proofs.PostedLaws.{added, ownCharge, rider-stands, posted-sum}
+use Rattle.book.proofs.GoodRides.{good-ride}
 use Rattle.book.proofs.SoundAgain.{sound-again}
 use Rattle.statement.specs.Record.{Part}
 use Rattle.settle.specs.Outcome.{Outcome, refused, accepted, partOf, settled, bookAfter}
 use Rattle.settle.specs.Runs.{Offer, runFrom, bookFrom}
-use Rattle.promises.specs.Conditions.{checkoutOf}
 use Rattle.promises.specs.Runs.{bookOf, entryOf, ridesWith, ridesAfter, ridesOver, ridesOf}
-use Rattle.promises.proofs.TripConditions.{good-read}
-use Rattle.promises.proofs.GoodRides.{good-ride}
-use Rattle.promises.proofs.Answers.{accepted-is, parts-are, new-posted}
+use Rattle.promises.proofs.Answers.{accepted-is, clear, parts-are, new-posted}
 
 -- ---- A book and a rider's rides.
 
@@ -99,8 +98,11 @@ unfolding windowOf
 one-more book checkin checkout few current = omega (arith, rw current at few)
 
 module _ {tariff : List ℕ} {counts : Counts} {rider : ℕ} {book : List ℕ} {rides : List ChargedRide} (read : Read tariff counts) (known : rider < 21)
-    (k : Kept tariff counts rider book rides) (bytes : List ℕ) (trip : Trip) (is : readTrip bytes (counts .stops) ≡ Good trip)
-    (on-time : tooEarly book (trip .checkin .0) ≡ false) (few : windowOf book (trip .checkin .0) (trip .checkout .0) .trips + 1 ≤ 256) where
+    (k : Kept tariff counts rider book rides) (bytes : List ℕ) (good : GoodTrip bytes (counts .stops))
+    (on-time : tooEarly book (checkinOf bytes) ≡ false) (few : windowOf book (checkinOf bytes) (checkoutOf bytes) .trips + 1 ≤ 256) where
+  abbrev trip : Trip
+  trip = tripOf bytes
+
   abbrev window : Window
   window = windowOf book (trip .checkin .0) (trip .checkout .0)
 
@@ -121,7 +123,7 @@ module _ {tariff : List ℕ} {counts : Counts} {rider : ℕ} {book : List ℕ} {
   part = partOf tariff counts book window ride
 
   ok : Rideable tariff counts book ride
-  ok = good-ride tariff counts book bytes trip read (k .sound-book) is
+  ok = good-ride tariff counts book bytes read (k .sound-book) good
 
   room : window .current ≡ true → tripsOf book ≤ 255
   room = one-more book (trip .checkin .0) (trip .checkout .0) few
@@ -131,7 +133,7 @@ module _ {tariff : List ℕ} {counts : Counts} {rider : ℕ} {book : List ℕ} {
 
   new-sound : sound new (counts .areas) ≡ true
   new-sound =
-      let times = good-times bytes (counts .stops) trip (good bytes (counts .stops) trip is) in
+      let times = good-fields good in
       sound-again ok refl few (times .forward) (times .short) (times .range) on-time
 
   -- the charges of the party, and each sum with what the rider's own adds to it
@@ -199,11 +201,9 @@ kept-after read known k bytes room (refused number place) e = k
 kept-after {tariff} {counts} {rider} {book} {rides} read known k bytes room (accepted after parts) e =
     let a = accepted-is tariff book bytes room e in
     let same = read-one tariff (a .counts) counts (a .read) read in
-    let is = rw same at (a .good) in
-    kept-with read known k bytes (a .trip) is (a .on-time) (rw (a .window-is) at (a .few)) after parts (checkoutOf bytes)
-    (rw (same, a .window-is) at (new-posted a))
-    (rw (same, a .window-is) at (parts-are a))
-    (good-read bytes (counts .stops) (a .trip) is .to)
+    let c = clear a in
+    kept-with read known k bytes (rw same at (c .good)) (c .on-time) (c .few) after parts (checkoutOf bytes) (rw same at (new-posted a))
+    (rw same at (parts-are a)) refl
 
 -- Whatever is settled, one trip after another.
 kept-from :

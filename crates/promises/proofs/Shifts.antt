@@ -1,5 +1,5 @@
--- Two settlings whose minutes are all moved by one number: each condition holds of both or of neither, and two acceptances have the same
--- ride, the same charges, and books and records alike but for the minutes.
+-- Two settlings whose minutes are all moved by one number: each row of the table holds of both or of neither, and two acceptances have the
+-- same ride, the same charges, and books and records alike but for the minutes.
 -- Assumes nothing.
 use Prim.Native.Nat.{ℕ, zero, suc, _+_, _-_, _*_, _≤_, _<_}
 use native.Mathlib.Nat.{add-zero}
@@ -9,54 +9,34 @@ use mathlib.Core.Path.{_≡_, refl, sym, ap, _∙_, fun-ext}
 use mathlib.Core.Logic.{inl, inr}
 use mathlib.Core.List.{List}
 use mathlib.Core.Bool.{Bool, true, false, cond, not, _&&_, false≢true}
-use borrow.Author.Tests.{le-leb, lt-leb, eq-eqb, ne-eqb}
-use borrow.Author.Count.{below-none, below-more}
+use borrow.Author.Tests.{le-leb, lt-leb, lt-ltb, le-ltb, eq-eqb, ne-eqb}
 use lib.ListN.{length}
-use lib.Dec.{leb, eqb}
+use lib.Dec.{leb, ltb, eqb}
 use Rattle.wire.specs.Each.{each}
 use Rattle.wire.specs.Frame.{broken, frameAt}
-use Rattle.calendar.specs.Stamps.{isStamp, lastMinute}
+use Rattle.units.specs.Day.{dayMinutes}
+use Rattle.calendar.specs.Stamps.{lastMinute}
 use Rattle.tariff.specs.declared.Counts.{Counts}
 use Rattle.tariff.specs.declared.Stop.{Stop}
 use Rattle.tariff.specs.Areas.{smallestOf}
 use Rattle.tariff.proofs.Faultless.{faultless, read-one}
-use Rattle.trip.specs.declared.Trip.{Trip}
 use Rattle.trip.specs.Record.{countAt, classAt, levelAt, partyAt, stopNumber}
+use Rattle.trip.specs.Moments.{checkinOf, checkoutOf}
+use Rattle.trip.specs.Trips.{stopsKnown, stampsRight, inOrder}
+use Rattle.trip.proofs.Shapes.{trip-same}
 use Rattle.fare.specs.Rides.{stopOf, areaOfStops, rideOf}
 use Rattle.book.specs.Words.{bookSize, word, tripsOf, openingOf, lastOutOf, coverWord}
 use Rattle.book.specs.Sound.{allZero, headSound, pairsSound, coversSound, sound}
-use Rattle.book.specs.Windows.{belongs, windowOf, inWindow}
+use Rattle.book.specs.Windows.{belongs, tooEarly, windowOf, inWindow}
 use Rattle.book.specs.Charging.{chargesOf}
 use Rattle.book.proofs.PostedLaws.{posted-trips, posted-opening, posted-out}
 use Rattle.book.proofs.SoundAgain.{window-room}
-use Rattle.promises.specs.Conditions.{
-  countsOf,
-  checkinStamp,
-  checkoutStamp,
-  checkinOf,
-  checkoutOf,
-  NoTrip,
-  not-filling,
-  other-kind,
-  short-body,
-  other-body,
-  WrongStamp,
-  wrong-checkin,
-  wrong-checkout,
-  WrongOrder,
-  backward,
-  too-long,
-  condition,
-  AcceptedBy,
-}
-use Rattle.promises.specs.Conditions as conditions
 use Rattle.statement.specs.Record.{Part}
+use Rattle.settle.specs.Refusals.{rows}
 use Rattle.settle.specs.Outcome.{partOf}
+use Rattle.promises.specs.Conditions.{tripRide, tripWindow, AcceptedBy}
 use Rattle.promises.specs.Moved.{AlikeBut, MovedBook, MovedParts, one-part, no-part}
-use Rattle.promises.proofs.TripConditions.{GoodRead, good-read}
-use Rattle.promises.proofs.GoodRides.{good-ride}
-use Rattle.promises.proofs.Refusing.{no-more}
-use Rattle.promises.proofs.Answers.{right-window, parts-are, new-posted}
+use Rattle.promises.proofs.Answers.{charged-ride, right-window, parts-are, new-posted}
 use Rattle.promises.proofs.Alike.{alike-back, get-alike, sums-alike, words-alike, charges-alike, posted-alike}
 
 -- no trip belongs to a window where none is open
@@ -73,8 +53,8 @@ Moved c d m m′ = m′ + c ≡ m + d
 -- the two settlings: so moved, it can be read either way
 pub record Shifted (c d : ℕ) (book bytes book′ bytes′ : List ℕ) : Type 0 where
   pub trip : AlikeBut 4 16 bytes bytes′
-  pub stamps : (isStamp (checkinStamp bytes) ≡ true) × (isStamp (checkoutStamp bytes) ≡ true)
-  pub stamps′ : (isStamp (checkinStamp bytes′) ≡ true) × (isStamp (checkoutStamp bytes′) ≡ true)
+  pub stamps : stampsRight bytes ≡ true
+  pub stamps′ : stampsRight bytes′ ≡ true
   pub checkin : Moved c d (checkinOf bytes) (checkinOf bytes′)
   pub checkout : Moved c d (checkoutOf bytes) (checkoutOf bytes′)
   pub others : AlikeBut 4 12 book book′
@@ -95,6 +75,17 @@ leb-alike a b a′ b′ there back =
       | no less ↦ le-leb a′ b′ (there (omega arith)) ∙ sym (le-leb a b (omega arith))
     ]
 
+ltb-alike : (a b a′ b′ : ℕ) → (a < b → a′ < b′) → (a′ < b′ → a < b) → ltb a′ b′ ≡ ltb a b
+ltb-alike a b a′ b′ there back =
+    elim (decLt a b) [
+      | yes less ↦ lt-ltb a′ b′ (there less) ∙ sym (lt-ltb a b less)
+      | no more ↦
+          elim (decLt a′ b′) [
+            | yes less′ ↦ absurd (more (back less′))
+            | no more′ ↦ le-ltb a′ b′ (omega arith) ∙ sym (le-ltb a b (omega arith))
+          ]
+    ]
+
 -- a test at each of the first numbers goes by the tests
 each-alike : (n : ℕ) (test test′ : ℕ → Bool) → ((i : ℕ) → test′ i ≡ test i) → each n test′ ≡ each n test
 each-alike n test test′ same = ap (each n) (fun-ext same)
@@ -102,21 +93,6 @@ each-alike n test test′ same = ap (each n) (fun-ext same)
 module _ {c d : ℕ} {book bytes book′ bytes′ : List ℕ} (s : Shifted c d book bytes book′ bytes′) where
   trips-same : tripsOf book′ ≡ tripsOf book
   trips-same = get-alike (s .others) 4 0 (inl (omega arith))
-
-  pub shifted-back : Shifted d c book′ bytes′ book bytes
-  shifted-back =
-      record {
-        trip = alike-back (s .trip);
-        stamps = s .stamps′;
-        stamps′ = s .stamps;
-        checkin = sym (s .checkin);
-        checkout = sym (s .checkout);
-        others = alike-back (s .others);
-        opening = λ used. sym (s .opening (λ none. used (trips-same ∙ none)));
-        last = λ used. sym (s .last (λ none. used (trips-same ∙ none)));
-        unused = λ none. let (a, b) = s .unused (sym trips-same ∙ none) in (sym a, sym b);
-        in-calendar = (s .in-calendar .1, s .in-calendar .0);
-      }
 
   -- the book is sound or not alike
   zeros-same : tripsOf book ≡ 0 → allZero book′ ≡ allZero book
@@ -215,52 +191,50 @@ module _ {c d : ℕ} {book bytes book′ bytes′ : List ℕ} (s : Shifted c d b
   unfolding windowOf
   trips-alike = rw (belongs-same, trips-same)
 
-  five : NoTrip bytes → NoTrip bytes′
-  five (conditions.broken frame) = conditions.broken (frame-same ∙ frame)
-  five (not-filling kind body frame other) = not-filling kind body (frame-same ∙ frame) (λ e. other (omega (arith, s .trip .size)))
-  five (other-kind kind body frame other) = other-kind kind body (frame-same ∙ frame) other
-  five (short-body kind body frame short) = short-body kind body (frame-same ∙ frame) short
-  five (other-body kind body frame other) = other-body kind body (frame-same ∙ frame) (λ e. other (omega (arith, count-same)))
+  stops-same : (n known : ℕ) → stopsKnown bytes′ n known ≡ stopsKnown bytes n known
+  unfolding stopsKnown
+  stops-same n known =
+      each-alike n (λ i. ltb (stopNumber bytes i) known) (λ i. ltb (stopNumber bytes′ i) known) (λ i. ap (λ v. ltb v known) (stop-same i))
 
-  eight : WrongStamp bytes → WrongStamp bytes′
-  eight (wrong-checkin e) = absurd (false≢true (sym e ∙ s .stamps .0))
-  eight (wrong-checkout e) = absurd (false≢true (sym e ∙ s .stamps .1))
+  order-same : inOrder (checkinOf bytes′) (checkoutOf bytes′) ≡ inOrder (checkinOf bytes) (checkoutOf bytes)
+  order-same =
+      let i = s .checkin in
+      let o = s .checkout in
+      rw (
+        leb-alike (checkinOf bytes) (checkoutOf bytes) (checkinOf bytes′) (checkoutOf bytes′) (λ h. omega arith) (λ h. omega arith),
+        leb-alike (checkoutOf bytes) (checkinOf bytes + dayMinutes) (checkoutOf bytes′) (checkinOf bytes′ + dayMinutes) (λ h. omega arith) (λ h. omega arith),
+      )
 
-  nine : WrongOrder bytes → WrongOrder bytes′
-  nine (backward h) = backward (omega (arith, s .checkin, s .checkout))
-  nine (too-long h) = too-long (omega (arith, s .checkin, s .checkout))
-
-  -- each condition holds of both or of neither
-  pub conditions-alike : (tariff : List ℕ) (room n : ℕ) → condition tariff book bytes room n → condition tariff book′ bytes′ room n
-  unfolding condition
-  conditions-alike tariff room n holds = elim (decLt n 13) [ yes h ↦ all n h holds | no h ↦ absurd (no-more tariff book bytes room n (omega arith) holds) ]
+  early-same : tooEarly book′ (checkinOf bytes′) ≡ tooEarly book (checkinOf bytes)
+  unfolding tooEarly
+  early-same = rw trips-same (go (ℕ-discrete (tripsOf book) 0))
     where
-      on : (i : ℕ) → ((k : ℕ) → k < i → condition tariff book bytes room k → condition tariff book′ bytes′ room k)
-          → (condition tariff book bytes room i → condition tariff book′ bytes′ room i)
-          → (k : ℕ) → k < i + 1 → condition tariff book bytes room k → condition tariff book′ bytes′ room k
-      on i = below-more (λ k. condition tariff book bytes room k → condition tariff book′ bytes′ room k) i
+      go : Dec (tripsOf book ≡ 0)
+          → not (eqb (tripsOf book) 0) && ltb (checkinOf bytes′) (lastOutOf book′) ≡ not (eqb (tripsOf book) 0) && ltb (checkinOf bytes) (lastOutOf book)
+      go (yes none) = rw (eq-eqb (tripsOf book) 0 none)
+      go (no used) =
+          let l = s .last used in
+          let i = s .checkin in
+          rw (ltb-alike (checkinOf bytes) (lastOutOf book) (checkinOf bytes′) (lastOutOf book′) (λ h. omega arith) (λ h. omega arith))
 
-      all : (k : ℕ) → k < 13 → condition tariff book bytes room k → condition tariff book′ bytes′ room k
-      all =
-          on 12
-          (on 11
-          (on 10
-          (on 9
-          (on 8
-          (on 7
-          (on 6
-          (on 5
-          (on 4
-          (on 3 (on 2 (on 1 (on 0 (below-none _) (λ w. w)) (λ w. w)) (λ w. w)) (λ w. w))
-          (λ w. sound-same (countsOf tariff .areas) ∙ w))
-          five)
-          (λ w. rw (class-same, level-same, party-same, count-same) w))
-          (λ w. record { i = w .i; of-trip = omega (arith, count-same, w .of-trip); lacking = omega (arith, stop-same (w .i), w .lacking) }))
-          eight)
-          nine)
-          (λ w. record { in-use = λ none. w .in-use (sym trips-same ∙ none); early = omega (arith, s .checkin, s .last (w .in-use), w .early) }))
-          (λ w. rw trips-alike w))
-          (λ w. rw party-same w)
+  -- so the table is the same
+  pub rows-same : (counts : Counts) (room : ℕ) → rows counts book′ bytes′ room ≡ rows counts book bytes room
+  unfolding rows
+  rows-same counts room =
+      rw (
+        sound-same (counts .areas),
+        trip-same bytes bytes′ frame-same count-same (s .trip .size),
+        class-same,
+        level-same,
+        party-same,
+        count-same,
+        stops-same (countAt bytes 0) (counts .stops),
+        s .stamps,
+        s .stamps′,
+        order-same,
+        early-same,
+        trips-alike,
+      )
 
   -- ---- The ride and the window.
 
@@ -276,23 +250,20 @@ module _ {c d : ℕ} {book bytes book′ bytes′ : List ℕ} (s : Shifted c d b
       ap (λ (a : ℕ). smallestOf tariff counts a (stopOf tariff counts bytes′ (first + suc more) .area)) (area-of-same tariff counts first more)
       ∙ ap (λ (p : Stop). smallestOf tariff counts (areaOfStops tariff counts bytes first more) (p .area)) (stop-of-same tariff counts (first + suc more))
 
-  -- two trips with the same stops, class, level, party and minutes are one ride
-  ride-same :
-      (tariff : List ℕ) (counts : Counts) (trip trip′ : Trip) → trip′ .stops ≡ trip .stops → trip′ .class ≡ trip .class
-      → trip′ .level ≡ trip .level → trip′ .party ≡ trip .party
-      → trip′ .checkout .0 - trip′ .checkin .0 ≡ trip .checkout .0 - trip .checkin .0
-      → rideOf tariff counts bytes′ trip′ ≡ rideOf tariff counts bytes trip
+  -- the two trips are one ride
+  ride-same : (tariff : List ℕ) (counts : Counts) → tripRide tariff counts bytes′ ≡ tripRide tariff counts bytes
   unfolding rideOf
-  ride-same tariff counts trip trip′ stops class level party minutes =
+  ride-same tariff counts =
+      let minutes : checkoutOf bytes′ - checkinOf bytes′ ≡ checkoutOf bytes - checkinOf bytes = omega (arith, s .checkin, s .checkout) in
       rw (
-        stops,
-        class,
-        level,
-        party,
+        count-same,
+        class-same,
+        level-same,
+        party-same,
         minutes,
-        area-of-same tariff counts 0 (trip .stops - 1),
+        area-of-same tariff counts 0 (countAt bytes 0 - 1),
         stop-of-same tariff counts 0,
-        stop-of-same tariff counts (trip .stops - 1),
+        stop-of-same tariff counts (countAt bytes 0 - 1),
       )
 
   current-same : windowOf book′ (checkinOf bytes′) (checkoutOf bytes′) .current ≡ windowOf book (checkinOf bytes) (checkoutOf bytes) .current
@@ -319,18 +290,19 @@ record Left (new : List ℕ) (trips opening out : ℕ) : Type 0 where
 
 left :
     {tariff book bytes : List ℕ} {room : ℕ} {new : List ℕ} {parts : List Part} (a : AcceptedBy tariff book bytes room new parts)
-    → Left new (a .window .trips) (a .window .opening .0) (a .trip .checkout .0)
+    → Left new (tripWindow book bytes .trips) (tripWindow book bytes .opening .0) (checkoutOf bytes)
 left {tariff} {book} {bytes} a =
-    let ok = good-ride tariff (a .counts) book bytes (a .trip) (a .read) (a .sound-book) (a .good) in
+    let ok = charged-ride a in
     let right = right-window a in
     let head = right .head in
     let room = window-room right in
-    let out = a .trip .checkout .0 in
+    let out = checkoutOf bytes in
+    let window = tripWindow book bytes in
     rw (new-posted a)
     (record {
-      used = λ none. omega (arith, posted-trips ok (a .window) out room (omega arith));
-      opening-is = posted-opening ok (a .window) out room (omega arith);
-      out-is = posted-out ok (a .window) out room (omega arith);
+      used = λ none. omega (arith, posted-trips ok window out room (omega arith));
+      opening-is = posted-opening ok window out room (omega arith);
+      out-is = posted-out ok window out room (omega arith);
     })
 
 -- two acceptances so moved
@@ -339,45 +311,23 @@ module _ {tariff : List ℕ} {room d : ℕ} {book bytes book′ bytes′ : List 
   counts-same : a′ .counts ≡ a .counts
   counts-same = read-one tariff (a′ .counts) (a .counts) (a′ .read) (a .read)
 
-  read : GoodRead bytes (a .counts .stops) (a .trip)
-  read = good-read bytes (a .counts .stops) (a .trip) (a .good)
+  one-ride : tripRide tariff (a′ .counts) bytes′ ≡ tripRide tariff (a .counts) bytes
+  one-ride = rw counts-same (ride-same s tariff (a .counts))
 
-  read′ : GoodRead bytes′ (a′ .counts .stops) (a′ .trip)
-  read′ = good-read bytes′ (a′ .counts .stops) (a′ .trip) (a′ .good)
+  later-opening : tripWindow book′ bytes′ .opening .0 ≡ tripWindow book bytes .opening .0 + d
+  later-opening = sym (add-zero _) ∙ opening-moved s
 
-  one-ride : rideOf tariff (a′ .counts) bytes′ (a′ .trip) ≡ rideOf tariff (a .counts) bytes (a .trip)
-  one-ride =
-      rw counts-same
-      (ride-same s tariff (a .counts) (a .trip) (a′ .trip) (read′ .stops ∙ count-same s ∙ sym (read .stops))
-      (read′ .class ∙ class-same s ∙ sym (read .class)) (read′ .level ∙ level-same s ∙ sym (read .level))
-      (read′ .party ∙ party-same s ∙ sym (read .party))
-      (omega (arith, read .from, read .to, read′ .from, read′ .to, s .checkin, s .checkout)))
-
-  window-is : a .window ≡ windowOf book (checkinOf bytes) (checkoutOf bytes)
-  window-is = a .window-is ∙ rw (read .from, read .to)
-
-  window-is′ : a′ .window ≡ windowOf book′ (checkinOf bytes′) (checkoutOf bytes′)
-  window-is′ = a′ .window-is ∙ rw (read′ .from, read′ .to)
-
-  same-current : a′ .window .current ≡ a .window .current
-  same-current = rw (window-is, window-is′) (current-same s)
-
-  same-trips : a′ .window .trips ≡ a .window .trips
-  same-trips = rw (window-is, window-is′) (trips-alike s)
-
-  later-opening : a′ .window .opening .0 ≡ a .window .opening .0 + d
-  later-opening = rw (window-is, window-is′) (sym (add-zero _) ∙ opening-moved s)
-
-  there : rideOf tariff (a .counts) bytes (a .trip) .area < a .counts .areas
-  there = good-ride tariff (a .counts) book bytes (a .trip) (a .read) (a .sound-book) (a .good) .area
+  there : tripRide tariff (a .counts) bytes .area < a .counts .areas
+  there = charged-ride a .area
 
   same-charges :
-      chargesOf tariff (a′ .counts) (inWindow (a′ .window .current) book′) (rideOf tariff (a′ .counts) bytes′ (a′ .trip))
-      ≡ chargesOf tariff (a .counts) (inWindow (a .window .current) book) (rideOf tariff (a .counts) bytes (a .trip))
+      chargesOf tariff (a′ .counts) (inWindow (tripWindow book′ bytes′ .current) book′) (tripRide tariff (a′ .counts) bytes′)
+      ≡ chargesOf tariff (a .counts) (inWindow (tripWindow book bytes .current) book) (tripRide tariff (a .counts) bytes)
   same-charges =
-      rw (same-current, one-ride, counts-same)
-      (charges-alike (faultless tariff (a .counts) (a .read)) (rideOf tariff (a .counts) bytes (a .trip)) there
-      (inWindow (a .window .current) book) (inWindow (a .window .current) book′) (words-alike (a .window .current) (s .others)))
+      rw (current-same s, one-ride, counts-same)
+      (charges-alike (faultless tariff (a .counts) (a .read)) (tripRide tariff (a .counts) bytes) there
+      (inWindow (tripWindow book bytes .current) book) (inWindow (tripWindow book bytes .current) book′)
+      (words-alike (tripWindow book bytes .current) (s .others)))
 
   pub moved-parts : MovedParts d parts parts′
   unfolding partOf
@@ -392,11 +342,11 @@ module _ {tariff : List ℕ} {room d : ℕ} {book bytes book′ bytes′ : List 
       record {
         alike =
             rw (new-posted a, new-posted a′, one-ride, counts-same)
-            (posted-alike (faultless tariff (a .counts) (a .read)) (rideOf tariff (a .counts) bytes (a .trip)) there (a .window) (a′ .window)
-            (a .trip .checkout .0) (a′ .trip .checkout .0) (s .others) same-current same-trips);
+            (posted-alike (faultless tariff (a .counts) (a .read)) (tripRide tariff (a .counts) bytes) there (tripWindow book bytes)
+            (tripWindow book′ bytes′) (checkoutOf bytes) (checkoutOf bytes′) (s .others) (current-same s) (trips-alike s));
         opening = rw (ne-eqb (tripsOf new) 0 (l .used)) (omega (arith, l .opening-is, l′ .opening-is, later-opening));
         last =
             rw (ne-eqb (tripsOf new) 0 (l .used))
-            (omega (arith, l .out-is, l′ .out-is, read .to, read′ .to, s .checkout));
+            (omega (arith, l .out-is, l′ .out-is, s .checkout));
         in-calendar = omega (arith, l′ .out-is, head .last);
       }

@@ -14,7 +14,7 @@ use Rattle.wire.specs.Each.{each}
 use Rattle.wire.specs.Frame.{broken, frameAt}
 use Rattle.wire.proofs.Starts.{SameStart, put-start, get-start}
 use Rattle.calendar.specs.Days.{monthDays, daysOfMonths, daysOfYears, dayNumber}
-use Rattle.calendar.specs.Stamps.{stampOf, minuteNumber}
+use Rattle.calendar.specs.Stamps.{minuteNumber}
 use Rattle.tariff.specs.Fields.{areaFields}
 use Rattle.tariff.specs.Rules.{capsRight, placeRight}
 use Rattle.tariff.specs.Scan.{areaEntry, entryAt, readFrom, readTariff}
@@ -22,9 +22,9 @@ use Rattle.tariff.specs.Levels.{levelCap}
 use Rattle.tariff.specs.Areas.{tripCapOf, dayCapOf, areaOf, areaAt, Read}
 use Rattle.wire.proofs.Tests.{told, both-left, both-right}
 use Rattle.tariff.proofs.Faultless.{faultless}
-use Rattle.trip.specs.Record.{shapeAt, partyAt, partyRight, stopNumber}
-use Rattle.trip.specs.Moments.{momentAt}
-use Rattle.trip.specs.Trips.{stopsKnown, tripOf, readTrip, refusal}
+use Rattle.trip.specs.Record.{shapeAt, partyAt, stopNumber}
+use Rattle.trip.specs.Moments.{checkinOf, checkoutOf}
+use Rattle.trip.specs.Trips.{isTrip, partyRight, stopsKnown, stampsRight}
 use Rattle.fare.specs.declared.Ride.{Ride}
 use Rattle.fare.specs.Distance.{apart, kmFrom, kmOf}
 use Rattle.fare.specs.Rides.{rideOf}
@@ -34,8 +34,10 @@ use Rattle.caps.specs.Tree.{foldUp, chargeIn}
 use Rattle.book.specs.Words.{bookSize, freshBook, word}
 use Rattle.book.specs.Caps.{secondCap, allCap}
 use Rattle.book.specs.Charging.{riderCharge, riderCharges, bicycleCharges, chargesOf}
+use Rattle.book.specs.Windows.{belongs, tooEarly, windowOf}
 use Rattle.book.specs.Posting.{addHere, addUp, addList, coverBicycles, opened, posted}
 use Rattle.book.proofs.AlikeBooks.{Alike, Touches, charges-alike, posted-alike}
+use Rattle.settle.specs.Refusals.{rows, firstOf}
 use Rattle.promises.specs.Cases.{
   sampleArea,
   areaBytes,
@@ -49,6 +51,7 @@ use Rattle.promises.specs.Cases.{
   ridesHold,
   stampBytes,
   tripBytes,
+  refusedOn,
   holds,
   everyHolds,
   Ridden,
@@ -173,9 +176,9 @@ cases-alone = refl
 -- on these the cases are computed
 computed : everyHolds firstWords cases ≡ true
 unfolding everyHolds holds cases sample sampleArea areaBytes areasBytes rideIn charged sameList ridesHold stampBytes tripBytes
-    getLe putLe bytesOf each broken frameAt dividedUp hundredthsOf periods monthDays daysOfMonths daysOfYears dayNumber stampOf minuteNumber
+    getLe putLe bytesOf each broken frameAt dividedUp hundredthsOf periods monthDays daysOfMonths daysOfYears dayNumber minuteNumber
     areaFields capsRight placeRight areaEntry entryAt readFrom readTariff levelCap tripCapOf dayCapOf areaOf areaAt
-    shapeAt partyAt partyRight stopNumber momentAt stopsKnown tripOf readTrip refusal apart kmFrom kmOf rideOf
+    shapeAt partyAt stopNumber checkinOf checkoutOf isTrip partyRight stopsKnown stampsRight belongs windowOf tooEarly rows firstOf refusedOn apart kmFrom kmOf rideOf
     step1 step2 step3 step4 tripCap priceOf secondCap allCap leftOf cappedHere foldUp chargeIn riderCharge riderCharges bicycleCharges chargesOf
     addHere addUp addList coverBicycles opened posted
 computed = refl

@@ -2,6 +2,7 @@
 use Prim.Native.Nat.{ℕ}
 use mathlib.Core.List.{List, [], _∷_, _++_}
 use mathlib.Core.Bool.{Bool, true, false, _&&_}
+use lib.ListN.{drop}
 use lib.Dec.{eqb}
 use Rattle.wire.specs.Number.{bytesOf}
 use Rattle.calendar.specs.declared.Stamp.{Stamp}
@@ -11,8 +12,7 @@ use Rattle.tariff.specs.declared.Reading.the-variants.{Fault, Faultless}
 use Rattle.tariff.specs.declared.Stop.{Stop}
 use Rattle.tariff.specs.Scan.{readTariff}
 use Rattle.tariff.specs.Areas.{areaAt}
-use Rattle.trip.specs.declared.Offered.the-variants.{Good, BadRecord, BadParty, UnknownStop, BadStamp, BadOrder}
-use Rattle.trip.specs.Trips.{readTrip, refusal}
+use Rattle.trip.specs.Trips.{tripOf}
 use Rattle.fare.specs.declared.Ride.{Ride}
 use Rattle.fare.specs.Distance.{apart, kmOf}
 use Rattle.fare.specs.Prices.{priceOf}
@@ -20,6 +20,8 @@ use Rattle.fare.specs.Rides.{rideOf}
 use Rattle.book.specs.declared.Window.{Window}
 use Rattle.book.specs.Charging.{chargesOf}
 use Rattle.book.specs.Posting.{posted}
+use Rattle.book.specs.Words.{freshBook}
+use Rattle.settle.specs.Refusals.{refusal, rows, Found, nothing, found, firstOf}
 
 -- ---- The sample.
 
@@ -174,6 +176,10 @@ unfoldable pub tripBytes : Stamp → Stamp → List ℕ
 tripBytes from to =
     bytesOf 2 24 ++ (bytesOf 2 3 ++ (stampBytes from ++ (stampBytes to ++ (2 ∷ 0 ∷ 0 ∷ 0 ∷ 0 ∷ 2 ∷ bytesOf 2 0 ++ bytesOf 2 1))))
 
+-- the first row of the table that holds of a trip, under a tariff with two stops and on a fresh book, which is sound: 5 on
+unfoldable pub refusedOn : List ℕ → Found
+refusedOn trip = firstOf (drop 1 (rows (record { areas = 7; stops = 2 }) freshBook trip 17))
+
 -- whether a case holds; rides begin with a book
 unfoldable pub holds : List ℕ → Case → Bool
 holds book (areas n) = elim (readTariff sample) [ Faultless counts ↦ eqb (counts .areas) n | Fault number at ↦ false ]
@@ -181,15 +187,12 @@ holds book (price ride child cents) = eqb (priceOf (areaAt sample sampleCounts (
 holds book (rides list) = ridesHold book list
 holds book (distance metres km) = eqb (kmOf (apart (stopAtX 0) (stopAtX metres))) km
 holds book (duration from to minutes) =
-    elim (readTrip (tripBytes from to) 2) [
-      | Good trip ↦ eqb (rideOf sample sampleCounts (tripBytes from to) trip .minutes .0) minutes
-      | BadRecord ↦ false
-      | BadParty ↦ false
-      | UnknownStop ↦ false
-      | BadStamp ↦ false
-      | BadOrder ↦ false
+    elim (refusedOn (tripBytes from to)) [
+      | nothing ↦ eqb (rideOf sample sampleCounts (tripBytes from to) (tripOf (tripBytes from to)) .minutes .0) minutes
+      | found why ↦ false
     ]
-holds book (refuses from to number) = eqb (refusal (readTrip (tripBytes from to) 2)) number
+holds book (refuses from to number) =
+    elim (refusedOn (tripBytes from to)) [ nothing ↦ false | found why ↦ eqb (refusal why) number ]
 
 -- whether each case holds
 unfoldable pub everyHolds : List ℕ → List Case → Bool

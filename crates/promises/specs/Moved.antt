@@ -6,11 +6,12 @@ use mathlib.Core.List.{List, [], _∷_}
 use mathlib.Core.Bool.{true, cond}
 use lib.ListN.{length, getD}
 use lib.Dec.{eqb}
-use Rattle.calendar.specs.Stamps.{isStamp, lastMinute}
+use Rattle.calendar.specs.Stamps.{lastMinute}
+use Rattle.trip.specs.Moments.{checkinOf, checkoutOf}
+use Rattle.trip.specs.Trips.{stampsRight}
 use Rattle.book.specs.Words.{tripsOf, openingOf, lastOutOf}
 use Rattle.statement.specs.Record.{Part}
 use Rattle.settle.specs.Outcome.{Outcome, refused, accepted}
-use Rattle.promises.specs.Conditions.{checkinStamp, checkoutStamp, checkinOf, checkoutOf}
 use Rattle.settle.specs.Runs.{Offer}
 
 -- two byte strings of one length, alike but for the bytes from one place up to another
@@ -18,13 +19,11 @@ pub record AlikeBut (from to : ℕ) (b b′ : List ℕ) : Type 0 where
   pub size : length b′ ≡ length b
   pub rest : (i : ℕ) → (i < from) ⊎ (to ≤ i) → getD b′ i 0 ≡ getD b i 0
 
--- two trips alike but for their stamps, bytes 4 to 15; the second's stamps are dates and clock times d minutes later
+-- two trips alike but for their stamps, bytes 4 to 15; all four are dates and clock times, the second's d minutes later
 pub record MovedTrip (d : ℕ) (trip trip′ : List ℕ) : Type 0 where
   pub alike : AlikeBut 4 16 trip trip′
-  pub checkin-right : isStamp (checkinStamp trip) ≡ true
-  pub checkout-right : isStamp (checkoutStamp trip) ≡ true
-  pub checkin-right′ : isStamp (checkinStamp trip′) ≡ true
-  pub checkout-right′ : isStamp (checkoutStamp trip′) ≡ true
+  pub stamps : stampsRight trip ≡ true
+  pub stamps′ : stampsRight trip′ ≡ true
   pub checkin : checkinOf trip′ ≡ checkinOf trip + d
   pub checkout : checkoutOf trip′ ≡ checkoutOf trip + d
 

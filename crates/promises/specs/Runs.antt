@@ -10,6 +10,7 @@ use Rattle.caps.specs.Tree.{Tree}
 use Rattle.caps.specs.Rides.{ChargedRide, allTotal, secondTotal, CapFull, oneClass, charges, totalsAlone}
 use Rattle.tariff.specs.declared.Counts.{Counts}
 use Rattle.tariff.specs.Areas.{areaAt}
+use Rattle.trip.specs.Moments.{checkoutOf}
 use Rattle.fare.specs.Prices.{priceOf}
 use Rattle.book.specs.Words.{freshBook}
 use Rattle.book.specs.Windows.{belongs}
@@ -17,7 +18,6 @@ use Rattle.book.specs.Charging.{isChild, carries, placeOf}
 use Rattle.statement.specs.Record.{Part}
 use Rattle.settle.specs.Outcome.{Outcome, refused, accepted}
 use Rattle.settle.specs.Runs.{Offer, Settlement, runFrom, bookFrom}
-use Rattle.promises.specs.Conditions.{checkoutOf}
 
 -- a rider's ride: the area, class and price of a part's ride, and the charge at the rider's place
 unfoldable pub entryOf : List ℕ → Counts → ℕ → Part → ChargedRide

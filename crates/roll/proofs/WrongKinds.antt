@@ -13,13 +13,14 @@ use Rattle.wire.proofs.Number.{get-take}
 use Rattle.wire.proofs.Frames.{whole, whole-back}
 use Rattle.tariff.specs.declared.Counts.{Counts}
 use Rattle.tariff.specs.Areas.{Read}
-use Rattle.trip.specs.declared.Offered.the-variants.{BadRecord}
-use Rattle.trip.proofs.Shapes.{other-kind, no-trip-given}
-use Rattle.trip.proofs.Ways.{no-record}
+use Rattle.trip.specs.Conditions.{other-kind, no-record}
+use Rattle.trip.proofs.Shapes.{five}
 use Rattle.book.specs.Sound.{sound}
 use Rattle.statement.specs.Record.{largestSize}
+use Rattle.settle.specs.Refusals.{rows}
 use Rattle.settle.specs.Outcome.{refused}
-use Rattle.settle.proofs.Ways.{sound-way, refused-way}
+use Rattle.settle.proofs.Rows.{skip, stop}
+use Rattle.settle.proofs.Ways.{refused-first, refused-way}
 use Rattle.roll.specs.declared.Line.the-variants.{Refused}
 use Rattle.roll.specs.declared.Step.the-variants.{Record}
 use Rattle.roll.specs.Lines.{lineOf}
@@ -41,11 +42,11 @@ frame-alone piece kind body e =
 
 module _ (tariff : List ℕ) (counts : Counts) (book piece : List ℕ) (more : Bool) (read : Read tariff counts) (is : sound book (counts .areas) ≡ true) where
   refused-alone : (kind body : ℕ) → frameAt piece 0 ≡ frame.Whole kind body → (kind ≡ 3 → ⊥) → outcomeAt tariff book piece (4 + body) ≡ refused 5 0
-  unfolding outcomeAt
+  unfolding outcomeAt rows
   refused-alone kind body e other =
       let alone = take (4 + body) piece in
-      let bad = no-record alone (counts .stops) (no-trip-given alone 0 (other-kind kind body (frame-alone piece kind body e) other)) in
-      refused-way tariff book alone largestSize counts read 5 (sound-way counts book alone largestSize is BadRecord bad)
+      let no-trip = five alone .1 (no-record (other-kind kind body (frame-alone piece kind body e) other)) in
+      refused-way tariff book alone largestSize counts read (refused-first counts book alone largestSize (skip _ _ (rw is) ∙ stop _ _ (rw no-trip)))
 
   pub wrong-kind :
       (kind body : ℕ) → frameAt piece 0 ≡ frame.Whole kind body → (kind ≡ 3 → ⊥)

@@ -1,7 +1,7 @@
 -- Where all twelve conditions are clear: what each step of writing asks is there, and what is written is the accepted outcome.
 -- Assumes nothing.
 use Prim.Native.Nat.{ℕ, _+_, _^_, _≤_, _<_}
-use native.Mathlib.Nat.{le-of-eq, zero-add}
+use native.Mathlib.Nat.{zero-add}
 use native.Mathlib.Omega.{arith}
 use mathlib.Core.Path.{_≡_, refl, sym, ap, _∙_}
 use mathlib.Core.List.{List, [], _∷_, _++_}
@@ -11,11 +11,11 @@ use Rattle.tariff.specs.declared.Counts.{Counts}
 use Rattle.tariff.proofs.Faultless.{faultless}
 use Rattle.trip.specs.declared.Trip.{Trip}
 use Rattle.trip.specs.declared.Party.{Party}
-use Rattle.trip.proofs.Good.{GoodTrip, Times, good, good-times}
-use Rattle.trip.proofs.Ranges.{PartyRanges, party-ranges}
+use Rattle.trip.proofs.Clear.{GoodFields, good-fields}
 use Rattle.fare.specs.declared.Ride.{Ride}
 use Rattle.fare.specs.Rides.{rideOf}
 use Rattle.fare.specs.Contracts.{Riding, InOrder, RideOf}
+use Rattle.fare.proofs.GoodTrips.{riding, in-order}
 use Rattle.book.specs.declared.Window.{Window}
 use Rattle.book.specs.Windows.{inWindow}
 use Rattle.book.specs.Charging.{chargesOf}
@@ -23,6 +23,7 @@ use Rattle.book.specs.Posting.{posted}
 use Rattle.book.specs.Contracts.{Rideable, PartyAmounts, Postable}
 use Rattle.book.proofs.SoundLaws.{sound-has}
 use Rattle.book.proofs.ChargeLaws.{charges-length, charges-most}
+use Rattle.book.proofs.GoodRides.{good-ride}
 use Rattle.book.proofs.SoundAgain.{WindowRight, window-right, posted-sound}
 use Rattle.statement.specs.Record.{recordSize, recordOf, statementOf, Recordable}
 use Rattle.statement.specs.Contracts.{Writable, Wrote, none, more}
@@ -104,49 +105,29 @@ module _ {tariff : List ℕ} {counts : Counts} {book : List ℕ} {window : Windo
 
 -- ---- A trip.
 
--- the ride's party is the trip's
-ride-party : (tariff : List ℕ) (counts : Counts) (bytes : List ℕ) (trip : Trip) → rideOf tariff counts bytes trip .party ≡ trip .party
-unfolding rideOf
-ride-party tariff counts bytes trip = refl
-
 module _ (tariff : List ℕ) (counts : Counts) (book bytes : List ℕ) (trip : Trip) (window : Window) (statement : List ℕ)
     (clear : AllClear tariff counts book bytes trip window statement) where
-  fields : GoodTrip bytes (counts .stops) trip
-  fields = good bytes (counts .stops) trip (clear .good)
+  fields : GoodFields bytes
+  fields = good-fields (clear .good)
 
-  ranges : PartyRanges (trip .class) (trip .level) (trip .party) (trip .stops)
-  ranges = party-ranges (trip .class) (trip .level) (trip .party) (trip .stops) (fields .right)
+  pub trip-riding : Riding tariff counts bytes (trip .stops)
+  trip-riding = rw (clear .trip-is) (riding (clear .read) (clear .good))
 
-  times : Times (trip .checkin .0) (trip .checkout .0)
-  times = good-times bytes (counts .stops) trip fields
-
-  pub riding : Riding tariff counts bytes (trip .stops)
-  riding = record { read = clear .read; known = fields .known-stops; fits = le-of-eq (fields .size) }
-
-  pub in-order : InOrder trip
-  in-order = record { two = ranges .least; most = ranges .most; times = fields .ordered }
+  pub trip-in-order : InOrder trip
+  trip-in-order = rw (clear .trip-is) (in-order (clear .good))
 
   module _ (ride : Ride) (is : RideOf tariff counts bytes trip ride) where
     party : ride .party ≡ trip .party
-    party = ap (λ (r : Ride). r .party) (is .value) ∙ ride-party tariff counts bytes trip
+    unfolding rideOf
+    party = ap (λ (r : Ride). r .party) (is .value)
 
     pub chargeable : Chargeable tariff counts book window (trip .checkout .0) ride statement 0
     chargeable =
         record {
-          rideable =
-              record {
-                read = clear .read;
-                sound-book = clear .sound-book;
-                area = is .there;
-                km = is .km;
-                minutes = is .minutes;
-                adults = rw party (ranges .adults);
-                children = rw party (ranges .children);
-                bicycles = rw party (ranges .bicycles);
-              };
+          rideable = rw (is .value, clear .trip-is) (good-ride tariff counts book bytes (clear .read) (clear .sound-book) (clear .good));
           right =
-              window-right (sound-has book (counts .areas) (clear .sound-book)) (times .forward) (times .short) (times .range) (clear .on-time)
-              window (clear .window-is) (clear .few);
+              window-right (sound-has book (counts .areas) (clear .sound-book)) (rw (clear .trip-is) (fields .forward))
+              (rw (clear .trip-is) (fields .short)) (rw (clear .trip-is) (fields .range)) (clear .on-time) window (clear .window-is) (clear .few);
           room = rw party (omega (arith, clear .room));
         }
 

@@ -64,7 +64,7 @@ unfolding acceptedTrip
 under-one tariff counts book bytes room new parts e = go (decidedUnder counts book bytes room) refl
   where
     go : (d : Decision) → decidedUnder counts book bytes room ≡ d → (part : Part) × (parts ≡ part ∷ [])
-    go (Refused number) is = none-refused (sym (refused-under tariff counts book bytes room number is) ∙ e)
+    go (Refused why) is = none-refused (sym (refused-under tariff counts book bytes room is) ∙ e)
     go (Clear trip window) is =
         let same = sym (accepted-under tariff counts book bytes room trip window is) ∙ e in
         (partOf tariff counts book window (rideOf tariff counts bytes trip), cc (one-part tariff counts book bytes trip window))

@@ -7,8 +7,8 @@ use lib.ListN.{length}
 use Rattle.tariff.specs.declared.Counts.{Counts}
 use Rattle.tariff.specs.Areas.{Read}
 use Rattle.trip.specs.declared.Trip.{Trip}
-use Rattle.trip.specs.declared.Offered.the-variants.{Good}
-use Rattle.trip.specs.Trips.{readTrip}
+use Rattle.trip.specs.Trips.{tripOf}
+use Rattle.trip.specs.Contracts.{GoodTrip}
 use Rattle.fare.specs.declared.Ride.{Ride}
 use Rattle.book.specs.declared.Window.{Window}
 use Rattle.book.specs.Sound.{sound}
@@ -28,7 +28,8 @@ use Rattle.settle.specs.Outcome.{Outcome, refused, accepted, partOf, acc
 pub record AllClear (tariff : List ℕ) (counts : Counts) (book bytes : List ℕ) (trip : Trip) (window : Window) (statement : List ℕ) : Type 0 where
   pub read : Read tariff counts
   pub sound-book : sound book (counts .areas) ≡ true
-  pub good : readTrip bytes (counts .stops) ≡ Good trip
+  pub good : GoodTrip bytes (counts .stops)
+  pub trip-is : trip ≡ tripOf bytes
   pub window-is : window ≡ windowOf book (trip .checkin .0) (trip .checkout .0)
   pub on-time : tooEarly book (trip .checkin .0) ≡ false
   pub few : window .trips + 1 ≤ 256

@@ -1,56 +1,38 @@
--- Paper 01, "What comes back": the one outcome of settling a trip. The twelve refusals stand here in the table's order.
+-- Paper 01, "What comes back": the one outcome of settling a trip. 1 to 3 are the tariff's; 4 to 12 stand in the table of `Refusals`.
 use Prim.Native.Nat.{ℕ, _+_, _*_, _^_}
 use mathlib.Core.Path.{_≡_}
 use mathlib.Core.List.{List, [], _∷_, _++_}
-use mathlib.Core.Bool.{true, cond, not}
+use mathlib.Core.Bool.{true}
 use lib.ListN.{length, drop}
-use lib.Dec.{ltb}
 use Rattle.tariff.specs.declared.Counts.{Counts}
 use Rattle.tariff.specs.declared.Reading.the-variants.{Fault, Faultless}
 use Rattle.tariff.specs.Scan.{readTariff}
 use Rattle.trip.specs.declared.Trip.{Trip}
-use Rattle.trip.specs.declared.Offered.the-variants.{Good, BadRecord, BadParty, UnknownStop, BadStamp, BadOrder}
-use Rattle.trip.specs.Trips.{readTrip}
+use Rattle.trip.specs.Moments.{checkinOf, checkoutOf}
+use Rattle.trip.specs.Trips.{tripOf}
 use Rattle.fare.specs.declared.Ride.{Ride}
 use Rattle.fare.specs.Rides.{rideOf}
 use Rattle.book.specs.declared.Window.{Window}
-use Rattle.book.specs.Sound.{sound}
-use Rattle.book.specs.Windows.{tooEarly, windowOf, inWindow}
+use Rattle.book.specs.Windows.{windowOf, inWindow}
 use Rattle.book.specs.Charging.{chargesOf}
 use Rattle.book.specs.Posting.{posted}
-use Rattle.statement.specs.Record.{Part, recordSize, statementOf}
+use Rattle.statement.specs.Record.{Part, statementOf}
 use Rattle.settle.specs.declared.decide.Decision.{Decision}
 use Rattle.settle.specs.declared.decide.Decision.the-variants.{Refused, Clear}
+use Rattle.settle.specs.Refusals.{refusal, rows, firstOf, nothing, found}
 
 -- a refusal with its number and place; or the new book and the parts that the trip was charged in
 pub data Outcome : Type 0 where
   refused : ℕ → ℕ → Outcome
   accepted : List ℕ → List Part → Outcome
 
--- 10: check-in before the book's last check-out
--- 11: the trip would be the 257th of its window
--- 12: statement slice shorter than the charge record
-unfoldable pub decidedTrip : List ℕ → Trip → ℕ → Decision
-decidedTrip book trip room =
-    let window = windowOf book (trip .checkin .0) (trip .checkout .0) in
-    cond (tooEarly book (trip .checkin .0)) (Refused 10)
-    (cond (ltb 256 (window .trips + 1)) (Refused 11)
-    (cond (ltb room (recordSize (trip .party))) (Refused 12)
-    (Clear trip window)))
-
--- 4: book not sound
--- 5 to 9: the trip's own, in their order
+-- what is decided under a faultless tariff: the first row of the table that holds; or that none does, with the trip's fields and window
 unfoldable pub decidedUnder : Counts → List ℕ → List ℕ → ℕ → Decision
 decidedUnder counts book trip room =
-    cond (not (sound book (counts .areas))) (Refused 4)
-    (elim (readTrip trip (counts .stops)) [
-      | BadRecord ↦ Refused 5
-      | BadParty ↦ Refused 6
-      | UnknownStop ↦ Refused 7
-      | BadStamp ↦ Refused 8
-      | BadOrder ↦ Refused 9
-      | Good fields ↦ decidedTrip book fields room
-    ])
+    elim (firstOf (rows counts book trip room)) [
+      | found why ↦ Refused why
+      | nothing ↦ Clear (tripOf trip) (windowOf book (checkinOf trip) (checkoutOf trip))
+    ]
 
 -- ---- What a trip that meets no refusal comes to.
 
@@ -90,7 +72,7 @@ acceptedTrip tariff counts book bytes trip window =
 unfoldable pub settledUnder : List ℕ → Counts → List ℕ → List ℕ → ℕ → Outcome
 settledUnder tariff counts book trip room =
     elim (decidedUnder counts book trip room) [
-      | Refused number ↦ refused number 0
+      | Refused why ↦ refused (refusal why) 0
       | Clear fields window ↦ acceptedTrip tariff counts book trip fields window
     ]
 

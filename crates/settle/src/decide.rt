@@ -1,56 +1,73 @@
-// What is decided before anything is written: the refusals 5 to 12, in the paper's order. 1 to 4 go before, where the tariff is read and
-// the book is looked through.
+// What is decided before anything is written: the table's rows from 5 on, top to bottom, each an early return. 1 to 4 go before, where the
+// tariff is read and the book is looked through.
+use crate::refusals::Refusal;
 use book::Window;
 use book::windows::too_early;
 use book::windows::window_of;
 use statement::record_size;
 use tariff::Counts;
-use trip::Offered;
+use trip::Shape;
+use trip::Times;
 use trip::Trip;
-use trip::read_trip;
+use trip::class_at;
+use trip::in_order;
+use trip::level_at;
+use trip::party_at;
+use trip::party_right;
+use trip::stops_known;
+use trip::times_of;
+use trip::whole_trip;
 ghost use mathlib.Core.Path.{_≡_};
 ghost use mathlib.Core.Bool.{true};
 ghost use Rattle.book.specs.Sound.{sound};
-ghost use Rattle.settle.specs.Outcome.{decidedTrip, decidedUnder};
+ghost use Rattle.settle.specs.Outcome.{decidedUnder};
 
-// The first refusal that holds, with its number; or that none does, and what writing needs.
+// The first refusal whose row holds; or that none does, and what writing needs.
 pub enum Decision {
-    Refused(u64),
+    Refused(Refusal),
     Clear(Trip, Window),
 }
 
-// 10 to 12: of a book and a trip that are good in themselves.
-fn decide_trip(counts: Counts, book: &[u8], trip: Trip, room: usize) -> Decision
-    requires { ⌜ sound (now book) (counts .areas) ≡ true ⌝ }
-    ensures { λ r. ⌜ r ≡ decidedTrip (now (book .entry)) trip room ⌝ }
-{
-    let checkin = trip.checkin;
-    let checkout = trip.checkout;
-    let party = trip.party;
-    if too_early(book, checkin) {
-        return Decision::Refused(10);
-    }
-    let window = window_of(book, counts.areas, checkin, checkout);
-    if 256 < window.trips + 1 {
-        return Decision::Refused(11);
-    }
-    if room < record_size(party) {
-        return Decision::Refused(12);
-    }
-    Decision::Clear(trip, window)
-}
-
-// 5 to 12: under a faultless tariff, on a sound book.
+// Under a faultless tariff, on a sound book.
 pub fn decide(counts: Counts, book: &[u8], trip: &[u8], room: usize) -> Decision
     requires { ⌜ sound (now book) (counts .areas) ≡ true ⌝ }
     ensures { λ r. ⌜ r ≡ decidedUnder counts (now (book .entry)) (now (trip .entry)) room ⌝ }
 {
-    match read_trip(trip, counts.stops) {
-        Offered::BadRecord => Decision::Refused(5),
-        Offered::BadParty => Decision::Refused(6),
-        Offered::UnknownStop => Decision::Refused(7),
-        Offered::BadStamp => Decision::Refused(8),
-        Offered::BadOrder => Decision::Refused(9),
-        Offered::Good(fields) => decide_trip(counts, book, fields, room),
+    let Shape::Stops(stops) = whole_trip(trip) else {
+        return Decision::Refused(Refusal::NoTrip);
+    };
+    let class = class_at(trip, 0);
+    let level = level_at(trip, 0);
+    let party = party_at(trip, 0);
+    if !party_right(class, level, party, stops) {
+        return Decision::Refused(Refusal::WrongParty);
     }
+    if !stops_known(trip, stops, counts.stops) {
+        return Decision::Refused(Refusal::UnknownStop);
+    }
+    let Times::Of(checkin, checkout) = times_of(trip) else {
+        return Decision::Refused(Refusal::WrongStamp);
+    };
+    if !in_order(checkin, checkout) {
+        return Decision::Refused(Refusal::WrongOrder);
+    }
+    if too_early(book, checkin) {
+        return Decision::Refused(Refusal::TooEarly);
+    }
+    let window = window_of(book, counts.areas, checkin, checkout);
+    if 256 < window.trips + 1 {
+        return Decision::Refused(Refusal::FullWindow);
+    }
+    if room < record_size(party) {
+        return Decision::Refused(Refusal::NoRoom);
+    }
+    let fields = Trip {
+        checkin,
+        checkout,
+        class,
+        level,
+        party,
+        stops,
+    };
+    Decision::Clear(fields, window)
 }

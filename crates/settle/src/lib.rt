@@ -1,5 +1,6 @@
 // Settling one trip: the twelve refusals in their order, or the charge record and the new book.
 //
+// refusals.rt the refusals 4 to 12 by their names, with their numbers
 // decide.rt   what is decided of a trip; only reads
 //
 // Decide first, write last: only where all twelve conditions are clear are book and statement written.
@@ -12,6 +13,8 @@ use decide::Decision;
 use decide::decide;
 use fare::Ride;
 use fare::rides::ride_of;
+use refusals::Refusal;
+use refusals::number;
 use statement::writing::write_record;
 use tariff::Counts;
 use tariff::Reading;
@@ -22,6 +25,7 @@ ghost use Rattle.tariff.specs.Areas.{Read};
 ghost use Rattle.settle.specs.Contracts.{AllClear, Chargeable, RideCharged, TripWritten, Ready, NextSettled, UnderSettled, TripSettled};
 
 pub mod decide;
+pub mod refusals;
 
 // What settling comes to: a refusal's number and place, or the bytes written.
 pub enum Answer {
@@ -83,8 +87,8 @@ pub fn settle_next(
     ensures { λ r. ⌜ NextSettled (now (tariff .entry)) counts (now (book .entry)) (now (trip .entry)) (now (statement .entry)) (now (book .exit)) (now (statement .exit)) r ⌝ }
 {
     match decide(counts, book, trip, statement.len()) {
-        Decision::Refused(number) => Answer::Refused {
-            number: number as u8,
+        Decision::Refused(why) => Answer::Refused {
+            number: number(why),
             place: 0,
         },
         Decision::Clear(fields, window) => Answer::Written(write(
@@ -114,7 +118,7 @@ pub fn settle_under(
         settle_next(tariff, counts, book, trip, statement)
     } else {
         Answer::Refused {
-            number: 4,
+            number: number(Refusal::UnsoundBook),
             place: 0,
         }
     }

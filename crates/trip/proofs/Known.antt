@@ -12,6 +12,7 @@ use Rattle.wire.specs.Each.{each}
 use Rattle.wire.proofs.Each.{each-none, each-more, each-at, each-all, each-fails}
 use Rattle.trip.specs.Record.{stopNumber}
 use Rattle.trip.specs.Trips.{stopsKnown}
+use Rattle.trip.specs.Conditions.{LackingStop}
 
 -- a test that does not hold at each of the first numbers fails at one of them
 each-lacks : (n : ℕ) (test : ℕ → Bool) → each n test ≡ false → (k : ℕ) × (k < n) × (test k ≡ false)
@@ -40,12 +41,12 @@ module _ (b : List ℕ) (known : ℕ) where
   known-at n =
       (λ e i h. ltb-true (stopNumber b i) known (each-at n _ e i h), λ all. each-all n _ (λ i h. lt-ltb (stopNumber b i) known (all i h)))
 
-  -- It lacks one exactly when one has a number that is not below the tariff's count.
-  pub lacking-at : (n : ℕ) → stopsKnown b n known ≡ false ↔ ((i : ℕ) × (i < n) × (known ≤ stopNumber b i))
+  -- 7 in the paper's words.
+  pub seven : (n : ℕ) → stopsKnown b n known ≡ false ↔ LackingStop b n known
   unfolding stopsKnown
-  lacking-at n = (
+  seven n = (
     λ e.
         let one = each-lacks n _ e in
-        (one .0, one .1, ltb-false (stopNumber b (one .0)) known (one .2)),
-    λ one. each-fails n _ (one .0) (one .1) (le-ltb (stopNumber b (one .0)) known (one .2)),
+        record { i = one .0; of-trip = one .1; lacking = ltb-false (stopNumber b (one .0)) known (one .2) },
+    λ w. each-fails n _ (w .i) (w .of-trip) (le-ltb (stopNumber b (w .i)) known (w .lacking)),
   )

@@ -2,5 +2,4 @@ pub mod Shapes
 pub mod Stamps
 pub mod Known
 pub mod Ranges
-pub mod Ways
-pub mod Good
+pub mod Clear

@@ -8,10 +8,23 @@ use mathlib.Core.Logic.{_↔_, _⊎_, inl, inr, ⊎-elim}
 use mathlib.Core.Bool.{Bool, true, false, _||_, and-false, false≢true}
 use borrow.Author.Tests.{eqb-true, leb-false, le-leb, lt-leb}
 use lib.Dec.{leb, eqb}
+use Rattle.units.specs.Day.{dayMinutes}
 use Rattle.wire.proofs.Tests.{told, one-of}
 use Rattle.trip.specs.declared.Party.{Party}
-use Rattle.trip.specs.Record.{partyRight}
-use Rattle.trip.specs.Moments.{inOrder}
+use Rattle.trip.specs.Trips.{partyRight, inOrder}
+use Rattle.trip.specs.Conditions.{
+  WrongParty,
+  no-class,
+  high-level,
+  many-adults,
+  many-children,
+  many-bicycles,
+  few-stops,
+  many-stops,
+  WrongOrder,
+  backward,
+  too-long,
+}
 
 -- Class 1 or 2, level at most 5, adults, children and bicycles at most 10, n 2..32.
 pub record PartyRanges (class level : ℕ) (p : Party) (n : ℕ) : Type 0 where
@@ -53,25 +66,57 @@ ranges-right class level p n r =
     classes (inl e) = rw e
     classes (inr e) = rw e
 
--- The test fails exactly when one of them is out of its range.
-pub party-wrong : (class level : ℕ) (p : Party) (n : ℕ) → partyRight class level p n ≡ false ↔ (PartyRanges class level p n → ⊥)
-party-wrong class level p n = (λ e r. false≢true (sym e ∙ ranges-right class level p n r), go (partyRight class level p n) refl)
+-- a number is above another, or at most that
+at-most : {A : Type 0} (n most : ℕ) → (most < n → A) → (n ≤ most → A) → A
+at-most n most above within = elim (decLt most n) [ yes h ↦ above h | no h ↦ within (omega arith) ]
+
+-- 6 in the paper's words.
+pub six : (class level : ℕ) (party : Party) (n : ℕ) → partyRight class level party n ≡ false ↔ WrongParty class level party n
+six class level party n =
+    (λ e. wrong (λ r. false≢true (sym e ∙ ranges-right class level party n r)), λ w. go (partyRight class level party n) refl w)
   where
-    go : (t : Bool) → partyRight class level p n ≡ t → (PartyRanges class level p n → ⊥) → partyRight class level p n ≡ false
-    go true e never = absurd (never (party-ranges class level p n e))
-    go false e never = e
+    wrong : (PartyRanges class level party n → ⊥) → WrongParty class level party n
+    wrong out =
+        at-most level 5 high-level λ low.
+        at-most (party .adults) 10 many-adults λ adults.
+        at-most (party .children) 10 many-children λ children.
+        at-most (party .bicycles) 10 many-bicycles λ bicycles.
+        at-most 2 n few-stops λ least.
+        at-most n 32 many-stops λ most.
+        let ranges : (class ≡ 1) ⊎ (class ≡ 2) → PartyRanges class level party n =
+        λ is.
+        record { class-is = is; level-most = low; adults = adults; children = children; bicycles = bicycles; least = least; most = most }
+        in
+        no-class (λ e. out (ranges (inl e))) (λ e. out (ranges (inr e)))
+
+    never : PartyRanges class level party n → WrongParty class level party n → ⊥
+    never r (no-class one two) = ⊎-elim one two (r .class-is)
+    never r (high-level h) = omega (arith, r .level-most)
+    never r (many-adults h) = omega (arith, r .adults)
+    never r (many-children h) = omega (arith, r .children)
+    never r (many-bicycles h) = omega (arith, r .bicycles)
+    never r (few-stops h) = omega (arith, r .least)
+    never r (many-stops h) = omega (arith, r .most)
+
+    go : (t : Bool) → partyRight class level party n ≡ t → WrongParty class level party n → partyRight class level party n ≡ false
+    go true e w = absurd (never (party-ranges class level party n e) w)
+    go false e w = e
 
 -- Check-out is not before check-in, nor over 1,440 minutes after it.
-pub in-order : (from to : ℕ) → inOrder from to ≡ true → (from ≤ to) × (to ≤ from + 1440)
+pub in-order : (from to : ℕ) → inOrder from to ≡ true → (from ≤ to) × (to ≤ from + dayMinutes)
 in-order from to e = search told
 
--- Check-out before check-in, or over 1,440 minutes after it.
-pub out-of-order : (from to : ℕ) → inOrder from to ≡ false ↔ ((to < from) ⊎ (from + 1440 < to))
-out-of-order from to = (
+-- 9 in the paper's words.
+pub nine : (from to : ℕ) → inOrder from to ≡ false ↔ WrongOrder from to
+nine from to = (
   λ e.
       elim (decLt to from) [
-        | yes h ↦ inl h
-        | no h ↦ inr (leb-false to (from + 1440) (rw (le-leb from to (omega arith)) at e))
+        | yes h ↦ backward h
+        | no h ↦ too-long (leb-false to (from + dayMinutes) (rw (le-leb from to (omega arith)) at e))
       ],
-  ⊎-elim (λ h. rw (lt-leb from to h)) (λ h. rw (lt-leb to (from + 1440) h) (and-false (leb from to))),
+  back,
 )
+  where
+    back : WrongOrder from to → inOrder from to ≡ false
+    back (backward h) = rw (lt-leb from to h)
+    back (too-long h) = rw (lt-leb to (from + dayMinutes) h) (and-false (leb from to))

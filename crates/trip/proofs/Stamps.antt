@@ -1,9 +1,10 @@
--- The moment of the stamp at a place: what it says of the stamp's fields, and when there is none.
+-- The moment of the stamp at a place, and a trip's two: each way through `momentAt` and `timesOf`; and 8, in the paper's words.
 -- Assumes nothing.
 use Prim.Native.Nat.{ℕ, _+_, _≤_}
 use native.Mathlib.Omega.{arith}
 use mathlib.Core.Path.{_≡_, refl, sym, ap, _∙_}
-use mathlib.Core.Bool.{Bool, true, false}
+use mathlib.Core.Logic.{_↔_}
+use mathlib.Core.Bool.{Bool, true, false, cond, _&&_, and-false}
 use mathlib.Core.List.{List}
 use Rattle.wire.specs.Number.{getLe}
 use Rattle.units.specs.declared.Minutes.{Minutes}
@@ -12,84 +13,127 @@ use Rattle.calendar.specs.declared.Stamp.{Stamp}
 use Rattle.calendar.specs.declared.Made.{Made}
 use Rattle.calendar.specs.declared.Made.the-variants.{Good, Refused}
 use Rattle.calendar.proofs.Order.{within}
-use Rattle.trip.specs.Moments.{momentAt}
+use Rattle.wire.proofs.Tests.{both-left, both-right}
+use Rattle.trip.specs.Record.{checkinPlace, checkoutPlace}
+use Rattle.trip.specs.Moments.{stampAt, momentAt, checkinOf, checkoutOf}
+use Rattle.trip.specs.Trips.{stampsRight}
+use Rattle.trip.specs.Conditions.{WrongStamp, wrong-checkin, wrong-checkout}
+use Rattle.trip.specs.Contracts.{timesOf}
 use Rattle.trip.specs.declared.Moment.the-variants.{At, NoMoment}
+use Rattle.trip.specs.declared.Times.the-variants.{Of, NoTimes}
 
--- The fields at a place, as a stamp has them: year 2, month, day, hour, minute.
-abbrev pub stampAt : List ℕ → ℕ → Stamp
-stampAt b at =
-    record {
-      year = getLe 2 b at;
-      month = getLe 1 b (at + 2);
-      day = getLe 1 b (at + 3);
-      hour = getLe 1 b (at + 4);
-      minute = getLe 1 b (at + 5);
-    }
-
--- What the calendar makes of them.
+-- What the calendar makes of the fields at a place.
 abbrev pub madeAt : List ℕ → ℕ → Made
 madeAt b at = stampOf (getLe 2 b at) (getLe 1 b (at + 2)) (getLe 1 b (at + 3)) (getLe 1 b (at + 4)) (getLe 1 b (at + 5))
 
--- A stamp's moment: its fields are a date 2000..2099 and a clock time, and the minute is its number, which never passes the last one.
-pub record MomentOf (s : Stamp) (m : Minutes) : Type 0 where
-  pub stamp : isStamp s ≡ true
-  pub minute : m .0 ≡ minuteNumber s
-  pub range : m .0 ≤ lastMinute
-
 module _ (b : List ℕ) (at : ℕ) where
-  -- Each way through `momentAt`.
-  pub made-moment : (s : Stamp) → madeAt b at ≡ Good s → momentAt b at ≡ At (record { 0 = minuteNumber s })
-  unfolding momentAt
-  made-moment s e = rw (e, momentAt)
-
-  pub refused-moment : madeAt b at ≡ Refused → momentAt b at ≡ NoMoment
-  unfolding momentAt
-  refused-moment e = rw (e, momentAt)
-
-  good-fields : isStamp (stampAt b at) ≡ true → madeAt b at ≡ Good (stampAt b at)
+  -- It makes the stamp of these fields, where they are one.
+  pub made-good : (s : Stamp) → madeAt b at ≡ Good s → (isStamp (stampAt b at) ≡ true) × (stampAt b at ≡ s)
   unfolding stampOf
-  good-fields e = rw e
-
-  bad-fields : isStamp (stampAt b at) ≡ false → madeAt b at ≡ Refused
-  unfolding stampOf
-  bad-fields e = rw e
-
-  -- What the calendar makes is the stamp of these fields.
-  pub made-stamp : (s : Stamp) → madeAt b at ≡ Good s → isStamp s ≡ true
-  made-stamp s e = go (isStamp (stampAt b at)) refl
+  made-good s e = go (isStamp (stampAt b at)) refl e
     where
-      go : (t : Bool) → isStamp (stampAt b at) ≡ t → isStamp s ≡ true
-      go true is =
-          let same : stampAt b at ≡ s = cc (good-fields is) in
-          rw (← same) is
-      go false is = absurd (let z : _≡_ {A = ℕ} 0 1 = cc (bad-fields is) in omega arith)
+      go : (t : Bool) → isStamp (stampAt b at) ≡ t → cond t (Good (stampAt b at)) Refused ≡ Good s
+          → (isStamp (stampAt b at) ≡ true) × (stampAt b at ≡ s)
+      go true is e′ = (is, cc)
+      go false is e′ = absurd (let z : _≡_ {A = ℕ} 0 1 = cc in omega arith)
 
-  stamp-moment : isStamp (stampAt b at) ≡ true → momentAt b at ≡ At (record { 0 = minuteNumber (stampAt b at) })
-  stamp-moment e = made-moment (stampAt b at) (good-fields e)
+  pub made-refused : madeAt b at ≡ Refused → isStamp (stampAt b at) ≡ false
+  unfolding stampOf
+  made-refused e = go (isStamp (stampAt b at)) refl e
+    where
+      go : (t : Bool) → isStamp (stampAt b at) ≡ t → cond t (Good (stampAt b at)) Refused ≡ Refused → isStamp (stampAt b at) ≡ false
+      go true is e′ = absurd (let z : _≡_ {A = ℕ} 0 1 = cc in omega arith)
+      go false is e′ = is
 
-  -- The moment of a stamp is given, and only such a moment.
-  pub moment-given : (m : Minutes) → MomentOf (stampAt b at) m → momentAt b at ≡ At m
-  moment-given m facts = stamp-moment (facts .stamp) ∙ ap (λ (x : ℕ). At (record { 0 = x })) (sym (facts .minute))
+  -- Each way through `momentAt`.
+  pub moment-is : isStamp (stampAt b at) ≡ true → momentAt b at ≡ At (record { 0 = minuteNumber (stampAt b at) })
+  unfolding momentAt
+  moment-is e = rw e
 
-  pub moment-of : (m : Minutes) → momentAt b at ≡ At m → MomentOf (stampAt b at) m
+  pub no-moment : isStamp (stampAt b at) ≡ false → momentAt b at ≡ NoMoment
+  unfolding momentAt
+  no-moment e = rw e
+
+  -- What an answer of `momentAt` says of the stamp.
+  pub moment-of : (m : Minutes) → momentAt b at ≡ At m → (isStamp (stampAt b at) ≡ true) × (minuteNumber (stampAt b at) ≡ m .0)
   moment-of m e = go (isStamp (stampAt b at)) refl
     where
-      go : (t : Bool) → isStamp (stampAt b at) ≡ t → MomentOf (stampAt b at) m
-      go true is =
-          let same : record { 0 = minuteNumber (stampAt b at) } ≡ m = cc (stamp-moment is) in
-          rw (← same) (record { stamp = is; minute = refl; range = within (stampAt b at) is })
-      go false is = absurd (let z : _≡_ {A = ℕ} 0 1 = cc (refused-moment (bad-fields is)) in omega arith)
+      go : (t : Bool) → isStamp (stampAt b at) ≡ t → (isStamp (stampAt b at) ≡ true) × (minuteNumber (stampAt b at) ≡ m .0)
+      go true is = (is, cc (moment-is is))
+      go false is = absurd (let z : _≡_ {A = ℕ} 0 1 = cc (no-moment is) in omega arith)
 
-  pub moment-range : (m : Minutes) → momentAt b at ≡ At m → m .0 ≤ lastMinute
-  moment-range m e = moment-of m e .range
-
-  -- None is given exactly when the fields are no date 2000..2099 or no clock time 00:00..23:59.
-  pub no-moment-given : isStamp (stampAt b at) ≡ false → momentAt b at ≡ NoMoment
-  no-moment-given e = refused-moment (bad-fields e)
-
-  pub no-moment : momentAt b at ≡ NoMoment → isStamp (stampAt b at) ≡ false
-  no-moment e = go (isStamp (stampAt b at)) refl
+  pub moment-none : momentAt b at ≡ NoMoment → isStamp (stampAt b at) ≡ false
+  moment-none e = go (isStamp (stampAt b at)) refl
     where
       go : (t : Bool) → isStamp (stampAt b at) ≡ t → isStamp (stampAt b at) ≡ false
-      go true is = absurd (let z : _≡_ {A = ℕ} 0 1 = cc (stamp-moment is) in omega arith)
+      go true is = absurd (let z : _≡_ {A = ℕ} 0 1 = cc (moment-is is) in omega arith)
       go false is = is
+
+-- ---- 8: both stamps are right.
+
+module _ (trip : List ℕ) where
+  -- 8 in the paper's words.
+  pub eight : stampsRight trip ≡ false ↔ WrongStamp trip
+  unfolding stampsRight
+  eight = (go (isStamp (stampAt trip checkinPlace)) refl, back)
+    where
+      go : (t : Bool) → isStamp (stampAt trip checkinPlace) ≡ t → t && isStamp (stampAt trip checkoutPlace) ≡ false → WrongStamp trip
+      go true is e = wrong-checkout e
+      go false is e = wrong-checkin is
+
+      back : WrongStamp trip → isStamp (stampAt trip checkinPlace) && isStamp (stampAt trip checkoutPlace) ≡ false
+      back (wrong-checkin e) = rw e
+      back (wrong-checkout e) = rw e (and-false (isStamp (stampAt trip checkinPlace)))
+
+  stamps : stampsRight trip ≡ true → (isStamp (stampAt trip checkinPlace) ≡ true) × (isStamp (stampAt trip checkoutPlace) ≡ true)
+  unfolding stampsRight
+  stamps e =
+      let from = isStamp (stampAt trip checkinPlace) in
+      let to = isStamp (stampAt trip checkoutPlace) in
+      (both-left from to e, both-right from to e)
+
+  -- The two minutes never pass the calendar's last one.
+  pub times-range : stampsRight trip ≡ true → (checkinOf trip ≤ lastMinute) × (checkoutOf trip ≤ lastMinute)
+  unfolding checkinOf checkoutOf
+  times-range e =
+      let (from, to) = stamps e in
+      (within (stampAt trip checkinPlace) from, within (stampAt trip checkoutPlace) to)
+
+  -- Each way through `timesOf`.
+  no-times : stampsRight trip ≡ false → timesOf trip ≡ NoTimes
+  unfolding timesOf
+  no-times e = rw e
+
+  pub no-checkin : momentAt trip checkinPlace ≡ NoMoment → timesOf trip ≡ NoTimes
+  no-checkin e = no-times (eight .1 (wrong-checkin (moment-none trip checkinPlace e)))
+
+  pub no-checkout : momentAt trip checkoutPlace ≡ NoMoment → timesOf trip ≡ NoTimes
+  no-checkout e = no-times (eight .1 (wrong-checkout (moment-none trip checkoutPlace e)))
+
+  pub two-moments :
+      (from to : Minutes) → momentAt trip checkinPlace ≡ At from → momentAt trip checkoutPlace ≡ At to → timesOf trip ≡ Of from to
+  unfolding timesOf stampsRight checkinOf checkoutOf
+  two-moments from to from-is to-is =
+      let (one, start) = moment-of trip checkinPlace from from-is in
+      let (other, end) = moment-of trip checkoutPlace to to-is in
+      rw (one, other, start, end)
+
+  -- What an answer of `timesOf` says.
+  pub times-are : (from to : Minutes) → timesOf trip ≡ Of from to → (stampsRight trip ≡ true) × ((checkinOf trip ≡ from .0) × (checkoutOf trip ≡ to .0))
+  unfolding timesOf
+  times-are from to e = go (stampsRight trip) refl e
+    where
+      go : (t : Bool) → stampsRight trip ≡ t
+          → cond t (Of (record { 0 = checkinOf trip }) (record { 0 = checkoutOf trip })) NoTimes ≡ Of from to
+          → (stampsRight trip ≡ true) × ((checkinOf trip ≡ from .0) × (checkoutOf trip ≡ to .0))
+      go true is e′ = (is, (cc, cc))
+      go false is e′ = absurd (let z : _≡_ {A = ℕ} 0 1 = cc in omega arith)
+
+  pub times-none : timesOf trip ≡ NoTimes → stampsRight trip ≡ false
+  unfolding timesOf
+  times-none e = go (stampsRight trip) refl e
+    where
+      go : (t : Bool) → stampsRight trip ≡ t
+          → cond t (Of (record { 0 = checkinOf trip }) (record { 0 = checkoutOf trip })) NoTimes ≡ NoTimes → stampsRight trip ≡ false
+      go true is e′ = absurd (let z : _≡_ {A = ℕ} 0 1 = cc in omega arith)
+      go false is e′ = is

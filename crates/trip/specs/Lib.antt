@@ -1,3 +1,5 @@
 pub mod Record
 pub mod Moments
 pub mod Trips
+pub mod Conditions
+pub mod Contracts

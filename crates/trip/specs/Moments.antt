@@ -1,22 +1,32 @@
--- A stamp is year 2, month, day, hour, minute; and the minutes between two of them.
+-- A stamp is year 2, month, day, hour, minute; the minute that it stands for is the calendar's.
 use Prim.Native.Nat.{ℕ, _+_}
 use mathlib.Core.List.{List}
-use mathlib.Core.Bool.{Bool, _&&_}
-use lib.Dec.{leb}
+use mathlib.Core.Bool.{cond}
 use Rattle.wire.specs.Number.{getLe}
-use Rattle.calendar.specs.Stamps.{stampOf, minuteNumber}
-use Rattle.calendar.specs.declared.Made.the-variants.{Good, Refused}
+use Rattle.calendar.specs.Stamps.{isStamp, minuteNumber}
+use Rattle.calendar.specs.declared.Stamp.{Stamp}
 use Rattle.trip.specs.declared.Moment.{Moment}
 use Rattle.trip.specs.declared.Moment.the-variants.{At, NoMoment}
+use Rattle.trip.specs.Record.{checkinPlace, checkoutPlace}
 
--- the minute of the stamp at a place, by the calendar; none where it is no date 2000..2099 or no clock time
+-- the fields at a place, as a stamp has them
+abbrev pub stampAt : List ℕ → ℕ → Stamp
+stampAt b at =
+    record {
+      year = getLe 2 b at;
+      month = getLe 1 b (at + 2);
+      day = getLe 1 b (at + 3);
+      hour = getLe 1 b (at + 4);
+      minute = getLe 1 b (at + 5);
+    }
+
+-- the minute of the stamp at a place; none where it is no date 2000..2099 or no clock time 00:00..23:59
 unfoldable pub momentAt : List ℕ → ℕ → Moment
-momentAt b at =
-    elim (stampOf (getLe 2 b at) (getLe 1 b (at + 2)) (getLe 1 b (at + 3)) (getLe 1 b (at + 4)) (getLe 1 b (at + 5))) [
-      | Good s ↦ At (record { 0 = minuteNumber s })
-      | Refused ↦ NoMoment
-    ]
+momentAt b at = cond (isStamp (stampAt b at)) (At (record { 0 = minuteNumber (stampAt b at) })) NoMoment
 
--- check-out is not before check-in, nor over 1,440 minutes after it
-abbrev pub inOrder : ℕ → ℕ → Bool
-inOrder checkin checkout = leb checkin checkout && leb checkout (checkin + 1440)
+-- a trip's two minutes
+unfoldable pub checkinOf : List ℕ → ℕ
+checkinOf trip = minuteNumber (stampAt trip checkinPlace)
+
+unfoldable pub checkoutOf : List ℕ → ℕ
+checkoutOf trip = minuteNumber (stampAt trip checkoutPlace)

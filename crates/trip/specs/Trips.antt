@@ -1,54 +1,48 @@
--- Paper 01, "What comes back", 5 to 9: each a test of its own, in the table's order.
+-- Paper 01, "What comes back", 5 to 9: for each a test of the bytes that says it is clear. And the trip's fields, which are what they say
+-- where all five are clear.
 use Prim.Native.Nat.{ℕ, _+_}
 use mathlib.Core.List.{List}
-use mathlib.Core.Bool.{Bool, cond, not}
+use mathlib.Core.Bool.{Bool, false, _&&_, _||_}
 use lib.ListN.{length}
-use lib.Dec.{ltb, eqb}
+use lib.Dec.{leb, ltb, eqb}
 use Rattle.wire.specs.Each.{each}
+use Rattle.units.specs.Day.{dayMinutes}
+use Rattle.calendar.specs.Stamps.{isStamp}
 use Rattle.trip.specs.declared.Shape.the-variants.{Stops, NoTrip}
-use Rattle.trip.specs.declared.Moment.the-variants.{At, NoMoment}
 use Rattle.trip.specs.declared.Party.{Party}
-use Rattle.trip.specs.declared.Offered.{Offered}
-use Rattle.trip.specs.declared.Offered.the-variants.{Good, BadRecord, BadParty, UnknownStop, BadStamp, BadOrder}
-use Rattle.trip.specs.Record.{tripSize, shapeAt, classAt, levelAt, partyAt, partyRight, stopNumber}
-use Rattle.trip.specs.Moments.{momentAt, inOrder}
+use Rattle.trip.specs.declared.Trip.{Trip}
+use Rattle.trip.specs.Record.{tripSize, checkinPlace, checkoutPlace, classAt, levelAt, partyAt, countAt, stopNumber, shapeAt}
+use Rattle.trip.specs.Moments.{stampAt, checkinOf, checkoutOf}
 
--- each of the trip's stops is one of the tariff's, which are numbered below `known`
+-- 5: a trip record that fills the slice
+unfoldable pub isTrip : List ℕ → Bool
+isTrip trip = elim (shapeAt trip 0) [ NoTrip ↦ false | Stops n ↦ eqb (tripSize n) (length trip) ]
+
+-- 6: class 1 or 2, level at most 5, adults, children and bicycles at most 10, n 2..32
+unfoldable pub partyRight : ℕ → ℕ → Party → ℕ → Bool
+partyRight class level party n =
+    (eqb class 1 || eqb class 2) && leb level 5 && leb (party .adults) 10 && leb (party .children) 10 && leb (party .bicycles) 10
+    && leb 2 n && leb n 32
+
+-- 7: each of the trip's n stops is one of the tariff's, which are numbered below `known`
 unfoldable pub stopsKnown : List ℕ → ℕ → ℕ → Bool
-stopsKnown b stops known = each stops (λ i. ltb (stopNumber b i) known)
+stopsKnown trip n known = each n (λ i. ltb (stopNumber trip i) known)
 
--- 8: a stamp that is no date 2000..2099 or no clock time; 9: check-out before check-in, or over 1,440 minutes after it
-unfoldable pub tripOf : List ℕ → ℕ → ℕ → Party → ℕ → Offered
-tripOf b class level p n =
-    elim (momentAt b 4) [
-      | NoMoment ↦ BadStamp
-      | At from ↦
-          elim (momentAt b 10) [
-            | NoMoment ↦ BadStamp
-            | At to ↦
-                cond (inOrder (from .0) (to .0)) (Good (record { checkin = from; checkout = to; class = class; level = level; party = p; stops = n })) BadOrder
-          ]
-    ]
+-- 8: both stamps are dates 2000..2099 and clock times 00:00..23:59
+unfoldable pub stampsRight : List ℕ → Bool
+stampsRight trip = isStamp (stampAt trip checkinPlace) && isStamp (stampAt trip checkoutPlace)
 
--- 5: frame broken, record not filling the slice, kind not 3, body under 18 or not 18 + 2n
--- 6: class not 1 or 2, level above 5, adults, children or bicycles above 10, n not 2..32
--- 7: a stop number the tariff lacks
-unfoldable pub readTrip : List ℕ → ℕ → Offered
-readTrip b known =
-    elim (shapeAt b 0) [
-      | NoTrip ↦ BadRecord
-      | Stops n ↦
-          cond (not (eqb (tripSize n) (length b))) BadRecord
-          (cond (not (partyRight (classAt b 0) (levelAt b 0) (partyAt b 0) n)) BadParty
-          (cond (not (stopsKnown b n known)) UnknownStop
-          (tripOf b (classAt b 0) (levelAt b 0) (partyAt b 0) n)))
-    ]
+-- 9: check-out is not before check-in, nor over 1,440 minutes after it
+abbrev pub inOrder : ℕ → ℕ → Bool
+inOrder checkin checkout = leb checkin checkout && leb checkout (checkin + dayMinutes)
 
--- the paper's number for each case; 0 where there is none
-unfoldable pub refusal : Offered → ℕ
-refusal (Good t) = 0
-refusal BadRecord = 5
-refusal BadParty = 6
-refusal UnknownStop = 7
-refusal BadStamp = 8
-refusal BadOrder = 9
+abbrev pub tripOf : List ℕ → Trip
+tripOf trip =
+    record {
+      checkin = record { 0 = checkinOf trip };
+      checkout = record { 0 = checkoutOf trip };
+      class = classAt trip 0;
+      level = levelAt trip 0;
+      party = partyAt trip 0;
+      stops = countAt trip 0;
+    }

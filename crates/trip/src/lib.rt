@@ -1,8 +1,9 @@
-// A trip record's fields out of any byte string, or the first of the refusals 5 to 9 that it meets.
-// The stops stay in the trip's bytes, where `stop_number` finds them; the answer carries how many there are.
+// A trip record out of any byte string: for each of the refusals 5 to 9 a test of its own, in the order in which they are given.
+// The stops stay in the trip's bytes, where `stop_number` finds them.
 use calendar::Made;
 use calendar::Stamp;
 use tariff::levels::is_level;
+use units::DAY;
 use units::Minutes;
 use wire::Frame;
 use wire::frame_at;
@@ -11,14 +12,18 @@ use wire::two_at;
 ghost use mathlib.Core.Path.{_≡_};
 ghost use Prim.Native.Nat.{_+_, _≤_};
 ghost use lib.ListN.{length};
-ghost use Rattle.trip.specs.Record.{tripSize, shapeAt, partyAt, partyRight, StopNumber};
-ghost use Rattle.trip.specs.Moments.{momentAt, inOrder};
-ghost use Rattle.trip.specs.Trips.{stopsKnown, tripOf, readTrip};
+ghost use Rattle.calendar.specs.Stamps.{lastMinute};
+ghost use Rattle.trip.specs.Record.{tripSize, shapeAt, classAt, levelAt, partyAt};
+ghost use Rattle.trip.specs.Moments.{momentAt};
+ghost use Rattle.trip.specs.Trips.{partyRight, stopsKnown, inOrder};
+ghost use Rattle.trip.specs.Contracts.{wholeTrip, timesOf, StopNumber};
 
 pub const KIND: u16 = 3;
 
 // The record up to its stops: length and kind, two stamps, class, level, adults, children, bicycles and n.
 pub const FIXED: usize = 22;
+
+const BODY: usize = FIXED - 4;
 
 const CHECK_IN: usize = 4;
 
@@ -30,6 +35,8 @@ const LEVEL: usize = CLASS + 1;
 
 const PARTY: usize = LEVEL + 1;
 
+const COUNT: usize = PARTY + 3;
+
 // Those whom the account holder carries.
 pub struct Party {
     pub adults: u8,
@@ -37,6 +44,7 @@ pub struct Party {
     pub bicycles: u8,
 }
 
+// A trip that meets none of 5 to 9. Class and level are the account holder's and all those carried.
 pub struct Trip {
     pub checkin: Minutes,
     pub checkout: Minutes,
@@ -46,22 +54,7 @@ pub struct Trip {
     pub stops: usize,
 }
 
-// What a byte string offered as a trip is: its fields, or the first thing wrong with it.
-pub enum Offered {
-    Good(Trip),
-    // 5: no trip record, or none that fills the slice
-    BadRecord,
-    // 6: class, level, those carried or the number of stops
-    BadParty,
-    // 7
-    UnknownStop,
-    // 8
-    BadStamp,
-    // 9
-    BadOrder,
-}
-
-// A trip record at a place, with its number of stops, or none.
+// A trip record, with its number of stops, or none.
 pub enum Shape {
     Stops(usize),
     NoTrip,
@@ -73,18 +66,24 @@ pub enum Moment {
     NoMoment,
 }
 
-// A whole frame of the trip's kind, whose body fits its number of stops.
+// Check-in and check-out, or none where one of the stamps is wrong.
+pub enum Times {
+    Of(Minutes, Minutes),
+    NoTimes,
+}
+
+// A whole frame of the trip's kind at a place, whose body fits its number of stops.
 pub fn shape_at(b: &[u8], at: usize) -> Shape
     ensures { λ r. ⌜ r ≡ shapeAt (now (b .entry)) at ⌝ }
 {
     match frame_at(b, at) {
         Frame::Broken => Shape::NoTrip,
         Frame::Whole { kind, body } => {
-            if (kind != KIND) | (body < FIXED - 4) {
+            if (kind != KIND) | (body < BODY) {
                 return Shape::NoTrip;
             }
-            let stops = one_at(b, at + 21) as usize;
-            if body == FIXED - 4 + 2 * stops {
+            let stops = one_at(b, at + COUNT) as usize;
+            if body == BODY + 2 * stops {
                 Shape::Stops(stops)
             } else {
                 Shape::NoTrip
@@ -93,8 +92,36 @@ pub fn shape_at(b: &[u8], at: usize) -> Shape
     }
 }
 
-fn party_at(b: &[u8], at: usize) -> Party
-    requires { ⌜ at + 22 ≤ length (now b) ⌝ }
+// 5: a trip record that fills the slice.
+pub fn whole_trip(trip: &[u8]) -> Shape
+    ensures { λ r. ⌜ r ≡ wholeTrip (now (trip .entry)) ⌝ }
+{
+    let Shape::Stops(stops) = shape_at(trip, 0) else {
+        return Shape::NoTrip;
+    };
+    if FIXED + 2 * stops == trip.len() {
+        Shape::Stops(stops)
+    } else {
+        Shape::NoTrip
+    }
+}
+
+pub fn class_at(b: &[u8], at: usize) -> u8
+    requires { ⌜ at + tripSize 0 ≤ length (now b) ⌝ }
+    ensures { λ r. ⌜ r ≡ classAt (now (b .entry)) at ⌝ }
+{
+    one_at(b, at + CLASS)
+}
+
+pub fn level_at(b: &[u8], at: usize) -> u8
+    requires { ⌜ at + tripSize 0 ≤ length (now b) ⌝ }
+    ensures { λ r. ⌜ r ≡ levelAt (now (b .entry)) at ⌝ }
+{
+    one_at(b, at + LEVEL)
+}
+
+pub fn party_at(b: &[u8], at: usize) -> Party
+    requires { ⌜ at + tripSize 0 ≤ length (now b) ⌝ }
     ensures { λ r. ⌜ r ≡ partyAt (now (b .entry)) at ⌝ }
 {
     let from = at + PARTY;
@@ -105,14 +132,15 @@ fn party_at(b: &[u8], at: usize) -> Party
     }
 }
 
-fn party_right(class: u8, level: u8, p: Party, stops: usize) -> bool
-    ensures { λ r. ⌜ r ≡ partyRight class level p stops ⌝ }
+// 6: the ranges of class, level, those carried and the number of stops.
+pub fn party_right(class: u8, level: u8, party: Party, stops: usize) -> bool
+    ensures { λ r. ⌜ r ≡ partyRight class level party stops ⌝ }
 {
     ((class == 1) | (class == 2))
         & is_level(level)
-        & (p.adults <= 10)
-        & (p.children <= 10)
-        & (p.bicycles <= 10)
+        & (party.adults <= 10)
+        & (party.children <= 10)
+        & (party.bicycles <= 10)
         & (2 <= stops)
         & (stops <= 32)
 }
@@ -125,7 +153,7 @@ pub fn stop_number(trip: &[u8], i: usize) -> usize
     two_at(trip, FIXED + 2 * i) as usize
 }
 
-// Whether the tariff, which has `known` stops, has each of the trip's.
+// 7: whether the tariff, which has `known` stops, has each of the trip's.
 pub fn stops_known(trip: &[u8], stops: usize, known: usize) -> bool
     requires { ⌜ tripSize stops ≤ length (now trip) ⌝ }
     ensures { λ r. ⌜ r ≡ stopsKnown (now (trip .entry)) stops known ⌝ }
@@ -155,57 +183,24 @@ pub fn moment_at(b: &[u8], at: usize) -> Moment
     }
 }
 
-// Check-out not before check-in, and at most a day after it.
-fn in_order(checkin: Minutes, checkout: Minutes) -> bool
-    requires { ⌜ checkin .0 ≤ 52595999 ⌝ }
-    ensures { λ r. ⌜ r ≡ inOrder (checkin .0) (checkout .0) ⌝ }
-{
-    (checkin.0 <= checkout.0) & (checkout.0 <= checkin.0 + 1_440)
-}
-
-// The refusals 8 and 9, or the trip.
-fn trip_of(trip: &[u8], class: u8, level: u8, party: Party, stops: usize) -> Offered
-    requires { ⌜ 22 ≤ length (now trip) ⌝ }
-    ensures { λ r. ⌜ r ≡ tripOf (now (trip .entry)) class level party stops ⌝ }
+// 8: check-in and check-out, where both stamps are right.
+pub fn times_of(trip: &[u8]) -> Times
+    requires { ⌜ tripSize 0 ≤ length (now trip) ⌝ }
+    ensures { λ r. ⌜ r ≡ timesOf (now (trip .entry)) ⌝ }
 {
     let Moment::At(checkin) = moment_at(trip, CHECK_IN) else {
-        return Offered::BadStamp;
+        return Times::NoTimes;
     };
     let Moment::At(checkout) = moment_at(trip, CHECK_OUT) else {
-        return Offered::BadStamp;
+        return Times::NoTimes;
     };
-    if in_order(checkin, checkout) {
-        Offered::Good(Trip {
-            checkin,
-            checkout,
-            class,
-            level,
-            party,
-            stops,
-        })
-    } else {
-        Offered::BadOrder
-    }
+    Times::Of(checkin, checkout)
 }
 
-// Any byte string offered as a trip, under a tariff with `known` stops.
-pub fn read_trip(trip: &[u8], known: usize) -> Offered
-    ensures { λ r. ⌜ r ≡ readTrip (now (trip .entry)) known ⌝ }
+// 9: check-out not before check-in, and at most a day after it.
+pub fn in_order(checkin: Minutes, checkout: Minutes) -> bool
+    requires { ⌜ checkin .0 ≤ lastMinute ⌝ }
+    ensures { λ r. ⌜ r ≡ inOrder (checkin .0) (checkout .0) ⌝ }
 {
-    let Shape::Stops(stops) = shape_at(trip, 0) else {
-        return Offered::BadRecord;
-    };
-    if FIXED + 2 * stops != trip.len() {
-        return Offered::BadRecord;
-    }
-    let class = one_at(trip, CLASS);
-    let level = one_at(trip, LEVEL);
-    let party = party_at(trip, 0);
-    if !party_right(class, level, party, stops) {
-        return Offered::BadParty;
-    }
-    if !stops_known(trip, stops, known) {
-        return Offered::UnknownStop;
-    }
-    trip_of(trip, class, level, party, stops)
+    (checkin.0 <= checkout.0) & (checkout.0 <= checkin.0 + DAY)
 }

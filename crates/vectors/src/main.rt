@@ -7,6 +7,9 @@ use fare::rides::ride_of;
 use libc::STDIN_FILENO;
 use libc::STDOUT_FILENO;
 use settle::Answer;
+use settle::decide::Decision;
+use settle::decide::decide;
+use settle::refusals::number;
 use settle::settle;
 use statement::LARGEST;
 use statement::reading::area_at;
@@ -19,14 +22,12 @@ use tariff::Counts;
 use tariff::Reading;
 use tariff::areas::area;
 use tariff::scan::read_tariff;
-use trip::Offered;
 use trip::Trip;
-use trip::read_trip;
 use wire::four_at;
 ghost use mathlib.Core.Path.{_≡_};
 ghost use Rattle.tariff.specs.Areas.{Read};
-ghost use Rattle.trip.specs.Trips.{readTrip};
-ghost use Rattle.trip.specs.declared.Offered.the-variants.{Good};
+ghost use Rattle.trip.specs.Trips.{tripOf};
+ghost use Rattle.trip.specs.Contracts.{GoodTrip};
 ghost use Rattle.statement.specs.Contracts.{RecordAt};
 
 const TARIFF: u8 = 84;
@@ -71,7 +72,7 @@ fn say_ride(at: u64, km: u64, minutes: u64, adult: u64, child: u64) {
 
 // A ride's area, kilometres and minutes, its price and the child's.
 fn show_ride(tariff: &[u8], counts: Counts, bytes: &[u8], fields: Trip)
-    requires { ⌜ Read (now tariff) counts × (readTrip (now bytes) (counts .stops) ≡ Good fields) ⌝ }
+    requires { ⌜ Read (now tariff) counts × (GoodTrip (now bytes) (counts .stops) × (fields ≡ tripOf (now bytes))) ⌝ }
 {
     let ride = ride_of(tariff, counts, bytes, fields);
     let at = ride.area;
@@ -89,18 +90,19 @@ fn show_ride(tariff: &[u8], counts: Counts, bytes: &[u8], fields: Trip)
     );
 }
 
+// A trip's price does not go by the book: it is tested as the first on a fresh one.
 fn show_price(tariff: &[u8], trip: &[u8]) {
     let Reading::Faultless(counts) = read_tariff(tariff) else {
         say(b"no tariff\n");
         return;
     };
-    match read_trip(trip, counts.stops) {
-        Offered::Good(fields) => show_ride(tariff, counts, trip, fields),
-        Offered::BadRecord => say(b"refused 5\n"),
-        Offered::BadParty => say(b"refused 6\n"),
-        Offered::UnknownStop => say(b"refused 7\n"),
-        Offered::BadStamp => say(b"refused 8\n"),
-        Offered::BadOrder => say(b"refused 9\n"),
+    let fresh = [0u8; 5428];
+    match decide(counts, &fresh, trip, LARGEST) {
+        Decision::Clear(fields, _) => show_ride(tariff, counts, trip, fields),
+        Decision::Refused(why) => {
+            say_number(b"refused ", number(why) as u64);
+            say(b"\n");
+        }
     }
 }
 

@@ -3,19 +3,18 @@
 use native.Mathlib.Omega.{arith}
 use mathlib.Core.Path.{sym, _∙_}
 use borrow.Author.Needs.{needs}
-use Rattle.settle.proofs.Ways.{refusal-most, all-clear, refusal-told, refused-under, accepted-under}
+use Rattle.settle.proofs.Ways.{all-clear, refusal-told, refused-under, accepted-under}
 use Rattle.settle.proofs.settle_next.Statement.{statement}
 use Rattle.settle.proofs.settle_next.Tie as tie
 
 decide-requires : tie.Need-decide-requires
 decide-requires c κs = search needs
 
-enum-known-number : tie.Need-enum-known-number
-enum-known-number c = search needs
+enum-known-why : tie.Need-enum-known-why
+enum-known-why c = search needs
 
-cast-t14 : tie.Need-cast-t14
-cast-t14 c =
-    omega (arith, refusal-most _ _ _ _ _ (c .before .before .before .before .before .before .before .before .before .pre .sound-book) (sym (c .before .before .before .decide .ensures) ∙ c .before .number .given .1))
+number-requires : tie.Need-number-requires
+number-requires c κs = search needs
 
 enum-known-fields : tie.Need-enum-known-fields
 enum-known-fields c = search needs
@@ -29,10 +28,12 @@ same-length c = search needs
 
 returns : tie.Need-returns
 returns c =
-    let decision = sym (c .before .before .before .decide .ensures) ∙ c .before .number .given .1 in
+    let told = c .before in
+    let entered = told .before .before .before .before .before .before .before .before .before in
+    let decision = sym (told .before .before .before .decide .ensures) ∙ told .before .why .given .1 in
     record {
-      told = refusal-told _ _ _ _ 0 (refused-under _ (c .before .before .before .before .before .before .before .before .before .args .counts) _ _ _ _ decision) (omega arith);
-      sound-again = c .before .before .before .before .before .before .before .before .before .pre .sound-book;
+      told = refusal-told _ _ _ _ 0 (rw (c .number .ensures) (refused-under _ (entered .args .counts) _ _ _ decision)) (omega arith);
+      sound-again = entered .pre .sound-book;
     }
 
 same-length-2 : tie.Need-same-length-2
@@ -51,8 +52,8 @@ settle-next-spec =
     tie.close
     (tie.spec
     decide-requires
-    enum-known-number
-    cast-t14
+    enum-known-why
+    number-requires
     enum-known-fields
     write-requires
     same-length

@@ -14,6 +14,9 @@ settle-next-requires : tie.Need-settle-next-requires
 settle-next-requires c κs =
     record { read = c .before .before .before .before .before .before .before .before .before .pre; sound-book = sym (c .before .before .before .is-sound .ensures) ∙ c .before .before .if1 .taken }
 
+number-requires : tie.Need-number-requires
+number-requires c κs = search needs
+
 same-length : tie.Need-same-length
 same-length c = search needs
 
@@ -28,7 +31,12 @@ same-length-3 c = search needs
 
 returns-2 : tie.Need-returns-2
 returns-2 c =
-    refusal-told _ _ _ _ 0 (unsound-under _ (c .before .before .before .before .before .before .before .args .counts) _ _ _ (sym (c .before .is-sound .ensures) ∙ c .if1 .left)) (omega arith)
+    let tested = c .before in
+    refusal-told _ _ _ _ 0
+    (rw (c .number .ensures)
+    (unsound-under _ (tested .before .before .before .before .before .before .before .args .counts) _ _ _
+    (sym (tested .before .is-sound .ensures) ∙ tested .if1 .left)))
+    (omega arith)
 
 pub settle-under-spec : {M : Type 1} → statement M
 settle-under-spec =
@@ -36,6 +44,7 @@ settle-under-spec =
     (tie.spec
     is-sound-requires
     settle-next-requires
+    number-requires
     same-length
     same-length-2
     returns

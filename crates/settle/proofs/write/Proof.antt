@@ -1,14 +1,14 @@
 -- `settle::write` meets its contract: with all twelve conditions clear the ride can be charged, and that is the accepted outcome.
 -- Assumes nothing.
 use borrow.Author.Needs.{needs}
-use Rattle.settle.proofs.Clear.{riding, in-order, chargeable, written}
+use Rattle.settle.proofs.Clear.{trip-riding, trip-in-order, chargeable, written}
 use Rattle.settle.proofs.write.Statement.{statement}
 use Rattle.settle.proofs.write.Tie as tie
 
 ride-of-requires : tie.Need-ride-of-requires
 ride-of-requires c κs =
     let clear = c .before .before .before .before .pre in
-    (riding _ _ _ _ _ _ _ clear, in-order _ _ _ _ _ _ _ clear)
+    (trip-riding _ _ _ _ _ _ _ clear, trip-in-order _ _ _ _ _ _ _ clear)
 
 charge-ride-requires : tie.Need-charge-ride-requires
 charge-ride-requires c κs =

@@ -3,7 +3,7 @@
 use mathlib.Core.Path.{_≡_, sym, ap, _∙_}
 use borrow.Author.Needs.{needs}
 use Rattle.trip.specs.declared.Moment.the-variants.{At}
-use Rattle.trip.proofs.Stamps.{madeAt, made-stamp, made-moment, refused-moment}
+use Rattle.trip.proofs.Stamps.{madeAt, made-good, made-refused, moment-is, no-moment}
 use Rattle.trip.proofs.moment_at.Statement.{statement}
 use Rattle.trip.proofs.moment_at.Tie as tie
 
@@ -57,18 +57,19 @@ enum-known-made : tie.Need-enum-known-made
 enum-known-made c = search needs
 
 minutes-requires : tie.Need-minutes-requires
-minutes-requires c κs = made-stamp _ _ _ (sym (made (c .before .before .before)) ∙ c .before .made .given .1)
+minutes-requires c κs =
+    let (is, same) = made-good _ _ _ (sym (made (c .before .before .before)) ∙ c .before .made .given .1) in rw (← same) is
 
 enum-told : tie.Need-enum-told
 enum-told c = search needs
 
 returns : tie.Need-returns
 returns c =
-    ap (λ x. At (record { 0 = x })) (c .minutes .ensures .value)
-    ∙ sym (made-moment _ _ _ (sym (made (c .before .before .before .before)) ∙ c .before .before .made .given .1))
+    let (is, same) = made-good _ _ _ (sym (made (c .before .before .before .before)) ∙ c .before .before .made .given .1) in
+    ap (λ x. At (record { 0 = x })) (c .minutes .ensures .value ∙ rw (← same)) ∙ sym (moment-is _ _ is)
 
 returns-2 : tie.Need-returns-2
-returns-2 c = sym (refused-moment _ _ (sym (made (c .before .before)) ∙ c .enum-told .given .1))
+returns-2 c = sym (no-moment _ _ (made-refused _ _ (sym (made (c .before .before)) ∙ c .enum-told .given .1)))
 
 pub moment-at-spec : {M : Type 1} → statement M
 moment-at-spec =

@@ -1,7 +1,7 @@
 -- `trip::party_right` meets its contract: its tests are the definition's, in its order.
 -- Assumes nothing.
 use borrow.Author.Needs.{needs}
-use Rattle.trip.specs.Record.{partyRight}
+use Rattle.trip.specs.Trips.{partyRight}
 use Rattle.trip.proofs.party_right.Statement.{statement}
 use Rattle.trip.proofs.party_right.Tie as tie
 

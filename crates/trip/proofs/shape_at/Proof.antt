@@ -40,9 +40,6 @@ room c =
     let body = own (c .before .before .kind .given .0 .0) (c .before .before .kind .given .0 .1 .0) (c .if1 .left) in
     omega arith
 
-sub-if1 : tie.Need-sub-if1
-sub-if1 c = search needs
-
 returns : tie.Need-returns
 returns c = sym (foreign-shape _ _ _ _ (frame (c .before .before)) (c .if1 .taken))
 
@@ -54,9 +51,6 @@ one-at-requires c κs = omega (arith, room c)
 
 cast-stops : tie.Need-cast-stops
 cast-stops c = search needs
-
-sub-if2 : tie.Need-sub-if2
-sub-if2 c = search needs
 
 mul-if2 : tie.Need-mul-if2
 mul-if2 c = search needs
@@ -86,12 +80,10 @@ shape-at-spec =
     frame-at-requires
     enum-told
     enum-known-kind
-    sub-if1
     returns
     add-one-at
     one-at-requires
     cast-stops
-    sub-if2
     mul-if2
     add-if2
     returns-2

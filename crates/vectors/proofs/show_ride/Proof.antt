@@ -1,12 +1,14 @@
 -- `vectors::show_ride` is safe and ends: a good trip under a faultless tariff can be priced.
 -- Assumes nothing.
-use Rattle.vectors.proofs.Priced.{rides, priceable}
 use borrow.Author.Needs.{needs}
+use Rattle.fare.proofs.GoodTrips.{riding, in-order}
+use Rattle.vectors.proofs.Priced.{priceable}
 use Rattle.vectors.proofs.show_ride.Statement.{statement}
 use Rattle.vectors.proofs.show_ride.Tie as tie
 
 ride-of-requires : tie.Need-ride-of-requires
-ride-of-requires c κs = rides _ _ _ _ (c .before .before .pre .0) (c .before .before .pre .1)
+ride-of-requires c κs =
+    let (read, (good, is)) = c .before .before .pre in (rw is (riding read good), rw is (in-order good))
 
 area-requires : tie.Need-area-requires
 area-requires c κs = search needs

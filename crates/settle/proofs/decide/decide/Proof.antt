@@ -1,77 +1,300 @@
--- `settle::decide::decide` meets its contract: what reading the trip gives decides, and a good trip goes on to the last three tests.
+-- `settle::decide::decide` meets its contract: each early return is a row of the table that holds, and what goes on behind it has skipped
+-- that row. For each row there is the place where it is past, with its way back to the start.
 -- Assumes nothing.
-use mathlib.Core.Path.{sym, _∙_}
+use Prim.Native.Nat.{ℕ}
+use native.Mathlib.Omega.{arith}
+use mathlib.Core.Path.{_≡_, sym, _∙_}
+use mathlib.Core.List.{List}
 use borrow.Author.Needs.{needs}
-use Rattle.trip.specs.declared.Offered.the-variants.{Good, BadRecord, BadParty, UnknownStop, BadStamp, BadOrder}
-use Rattle.settle.proofs.Ways.{sound-way}
+use borrow.Author.Tests.{lt-ltb, le-ltb}
+use lib.ListN.{drop}
+use Rattle.trip.specs.Record.{classAt, levelAt, partyAt, countAt}
+use Rattle.trip.specs.Moments.{checkinOf, checkoutOf}
+use Rattle.trip.specs.Trips.{partyRight, stopsKnown, inOrder}
+use Rattle.trip.specs.Contracts.{timesOf}
+use Rattle.trip.specs.declared.Times.the-variants.{Of}
+use Rattle.trip.proofs.Shapes.{Filling, whole-fills, whole-none}
+use Rattle.trip.proofs.Stamps.{times-are, times-none, times-range}
+use Rattle.book.specs.Windows.{tooEarly, windowOf}
+use Rattle.book.proofs.SoundLaws.{sound-has}
+use Rattle.statement.specs.Record.{recordSize}
+use Rattle.settle.specs.Refusals.{Row, rows, firstOf}
+use Rattle.settle.proofs.Rows.{skip, stop, end}
+use Rattle.settle.proofs.Ways.{refused-first, clear-with}
 use Rattle.settle.proofs.decide.decide.Statement.{statement}
 use Rattle.settle.proofs.decide.decide.Tie as tie
 
-read-trip-requires : tie.Need-read-trip-requires
-read-trip-requires c κs = search needs
+abbrev Table : tie.Start → List Row
+Table s = rows (s .args .counts) (s .args .book .now) (s .args .trip .now) (s .args .room)
+
+-- the first rows do not hold
+abbrev Past : ℕ → tie.Start → Type 0
+Past k s = firstOf (Table s) ≡ firstOf (drop k (Table s))
+
+-- ---- 4.
+
+past-4 : (s : tie.Start) → Past 1 s
+unfolding rows
+past-4 s = skip _ _ (rw (s .pre))
+
+-- ---- 5.
+
+whole-trip-requires : tie.Need-whole-trip-requires
+whole-trip-requires c κs = search needs
+
+enum-known-stops : tie.Need-enum-known-stops
+enum-known-stops c = search needs
 
 enum-told : tie.Need-enum-told
 enum-told c = search needs
 
+returns : tie.Need-returns
+unfolding rows
+returns c =
+    let whole = c .before .before in
+    sym
+    (refused-first _ _ _ _
+    (past-4 (whole .before .before .before)
+    ∙ stop _ _ (rw (whole-none _ (sym (whole .whole-trip .ensures) ∙ c .enum-told .given .1)))))
+
+abbrev start-5 : tie.After-known-told → tie.Start
+start-5 c = c .before .before .before .before .before .before
+
+filling : (c : tie.After-known-told) → Filling (start-5 c .args .trip .now) (c .before .stops .given .0 .0)
+filling c = whole-fills _ _ (sym (c .before .before .before .whole-trip .ensures) ∙ c .before .stops .given .1)
+
+past-5 : (c : tie.After-known-told) → Past 2 (start-5 c)
+unfolding rows
+past-5 c = past-4 (start-5 c) ∙ skip _ _ (rw (filling c .is))
+
+-- ---- 6.
+
+class-at-requires : tie.Need-class-at-requires
+class-at-requires c κs = omega (arith, filling c .size)
+
+level-at-requires : tie.Need-level-at-requires
+level-at-requires c κs = omega (arith, filling (c .before) .size)
+
+party-at-requires : tie.Need-party-at-requires
+party-at-requires c κs = omega (arith, filling (c .before .before) .size)
+
+party-right-requires : tie.Need-party-right-requires
+party-right-requires c κs = search needs
+
+party :
+    (c : tie.After-party-right)
+    → let trip = start-5 (c .before .before .before .before) .args .trip .now in
+    partyRight (classAt trip 0) (levelAt trip 0) (partyAt trip 0) (countAt trip 0) ≡ c .party-right .result
+party c =
+    rw (
+      filling (c .before .before .before .before) .count,
+      ← c .before .before .before .class-at .ensures,
+      ← c .before .before .level-at .ensures,
+      ← c .before .party-at .ensures,
+    )
+    (sym (c .party-right .ensures))
+
+returns-2 : tie.Need-returns-2
+unfolding rows
+returns-2 c =
+    sym (refused-first _ _ _ _ (past-5 (c .before .before .before .before .before) ∙ stop _ _ (rw (party (c .before)) (c .if1 .taken))))
+
+abbrev start-6 : tie.Else1 → tie.Start
+start-6 c = start-5 (c .before .before .before .before .before)
+
+past-6 : (c : tie.Else1) → Past 3 (start-6 c)
+unfolding rows
+past-6 c = past-5 (c .before .before .before .before .before) ∙ skip _ _ (rw (party (c .before)) (c .if1 .left))
+
+-- ---- 7.
+
+stops-known-requires : tie.Need-stops-known-requires
+stops-known-requires c κs = omega (arith, filling (c .before .before .before .before .before) .size)
+
+stops :
+    (c : tie.After-stops-known)
+    → stopsKnown (start-6 (c .before) .args .trip .now) (countAt (start-6 (c .before) .args .trip .now) 0) (start-6 (c .before) .args .counts .stops)
+    ≡ c .stops-known .result
+stops c = rw (filling (c .before .before .before .before .before .before) .count) (sym (c .stops-known .ensures))
+
+returns-3 : tie.Need-returns-3
+unfolding rows
+returns-3 c = sym (refused-first _ _ _ _ (past-6 (c .before .before) ∙ stop _ _ (rw (stops (c .before)) (c .if2 .taken))))
+
+abbrev start-7 : tie.Else2 → tie.Start
+start-7 c = start-6 (c .before .before)
+
+past-7 : (c : tie.Else2) → Past 4 (start-7 c)
+unfolding rows
+past-7 c = past-6 (c .before .before) ∙ skip _ _ (rw (stops (c .before)) (c .if2 .left))
+
+-- ---- 8.
+
+times-of-requires : tie.Need-times-of-requires
+times-of-requires c κs = omega (arith, filling (c .before .before .before .before .before .before .before) .size)
+
+enum-known-checkin : tie.Need-enum-known-checkin
+enum-known-checkin c = search needs
+
 enum-told-2 : tie.Need-enum-told-2
 enum-told-2 c = search needs
 
-enum-told-3 : tie.Need-enum-told-3
-enum-told-3 c = search needs
-
-enum-told-4 : tie.Need-enum-told-4
-enum-told-4 c = search needs
-
-enum-told-5 : tie.Need-enum-told-5
-enum-told-5 c = search needs
-
-enum-known-fields : tie.Need-enum-known-fields
-enum-known-fields c = search needs
-
-decide-trip-requires : tie.Need-decide-trip-requires
-decide-trip-requires c κs = search needs
-
-returns : tie.Need-returns
-returns c =
-    sym (sound-way _ _ _ _ (c .before .before .before .before .before .pre) BadRecord (sym (c .before .before .read-trip .ensures) ∙ c .enum-told .given .1))
-
-returns-2 : tie.Need-returns-2
-returns-2 c =
-    sym (sound-way _ _ _ _ (c .before .before .before .before .before .pre) BadParty (sym (c .before .before .read-trip .ensures) ∙ c .enum-told2 .given .1))
-
-returns-3 : tie.Need-returns-3
-returns-3 c =
-    sym (sound-way _ _ _ _ (c .before .before .before .before .before .pre) UnknownStop (sym (c .before .before .read-trip .ensures) ∙ c .enum-told3 .given .1))
-
 returns-4 : tie.Need-returns-4
+unfolding rows
 returns-4 c =
-    sym (sound-way _ _ _ _ (c .before .before .before .before .before .pre) BadStamp (sym (c .before .before .read-trip .ensures) ∙ c .enum-told4 .given .1))
+    let times = c .before .before in
+    sym
+    (refused-first _ _ _ _
+    (past-7 (times .before) ∙ stop _ _ (rw (times-none _ (sym (times .times-of .ensures) ∙ c .enum-told2 .given .1)))))
+
+abbrev start-8 : tie.After-known-told2 → tie.Start
+start-8 c = start-7 (c .before .before .before .before)
+
+-- the way back to class, level and party
+abbrev party-8 : tie.After-known-told2 → tie.After-party-at
+party-8 c = c .before .before .before .before .before .before .before .before
+
+times :
+    (c : tie.After-known-told2)
+    → timesOf (start-8 c .args .trip .now) ≡ Of (c .before .checkin .given .0 .0) (c .before .checkin .given .0 .1 .0)
+times c = sym (c .before .before .before .times-of .ensures) ∙ c .before .checkin .given .1
+
+past-8 : (c : tie.After-known-told2) → Past 5 (start-8 c)
+unfolding rows
+past-8 c = past-7 (c .before .before .before .before) ∙ skip _ _ (rw (times-are _ _ _ (times c) .0))
+
+-- ---- 9.
+
+in-order-requires : tie.Need-in-order-requires
+in-order-requires c κs =
+    let (right, (from, to)) = times-are _ _ _ (times c) in omega (arith, times-range _ right)
+
+-- behind row 8 the way back leads to the two minutes first
+abbrev timed-9 : tie.Else3 → tie.After-known-told2
+timed-9 c = c .before .before
+
+order :
+    (c : tie.After-in-order)
+    → inOrder (checkinOf (start-8 (c .before) .args .trip .now)) (checkoutOf (start-8 (c .before) .args .trip .now)) ≡ c .in-order .result
+order c = let (right, (from, to)) = times-are _ _ _ (times (c .before)) in rw (from, to) (sym (c .in-order .ensures))
 
 returns-5 : tie.Need-returns-5
-returns-5 c =
-    sym (sound-way _ _ _ _ (c .before .before .before .before .before .pre) BadOrder (sym (c .before .before .read-trip .ensures) ∙ c .enum-told5 .given .1))
+unfolding rows
+returns-5 c = sym (refused-first _ _ _ _ (past-8 (c .before .before) ∙ stop _ _ (rw (order (c .before)) (c .if3 .taken))))
+
+past-9 : (c : tie.Else3) → Past 6 (start-8 (timed-9 c))
+unfolding rows
+past-9 c = past-8 (c .before .before) ∙ skip _ _ (rw (order (c .before)) (c .if3 .left))
+
+-- ---- 10.
+
+too-early-requires : tie.Need-too-early-requires
+too-early-requires c κs = sound-has _ _ (start-8 (timed-9 c) .pre) .size
+
+early :
+    (c : tie.After-too-early)
+    → let s = start-8 (timed-9 (c .before)) in tooEarly (s .args .book .now) (checkinOf (s .args .trip .now)) ≡ c .too-early .result
+early c =
+    let (right, (from, to)) = times-are _ _ _ (times (timed-9 (c .before))) in rw from (sym (c .too-early .ensures))
 
 returns-6 : tie.Need-returns-6
-returns-6 c =
-    let read = c .before .before .before .before in
-    c .decide-trip .ensures
-    ∙ sym (sound-way _ _ _ _ (read .before .before .before .pre) (Good _) (sym (read .read-trip .ensures) ∙ c .before .before .fields .given .1))
+unfolding rows
+returns-6 c = sym (refused-first _ _ _ _ (past-9 (c .before .before) ∙ stop _ _ (early (c .before) ∙ c .if4 .taken)))
+
+abbrev timed-10 : tie.Else4 → tie.After-known-told2
+timed-10 c = timed-9 (c .before .before)
+
+past-10 : (c : tie.Else4) → Past 7 (start-8 (timed-10 c))
+unfolding rows
+past-10 c = past-9 (c .before .before) ∙ skip _ _ (early (c .before) ∙ c .if4 .left)
+
+-- ---- 11.
+
+window-of-requires : tie.Need-window-of-requires
+window-of-requires c κs = search needs
+
+window :
+    (c : tie.After-window-of)
+    → let s = start-8 (timed-10 (c .before)) in
+    windowOf (s .args .book .now) (checkinOf (s .args .trip .now)) (checkoutOf (s .args .trip .now)) ≡ c .window-of .result
+window c =
+    let (right, (from, to)) = times-are _ _ _ (times (timed-10 (c .before))) in
+    rw (from, to) (sym (c .window-of .ensures .0))
+
+add-if5 : tie.Need-add-if5
+add-if5 c = search needs
+
+returns-7 : tie.Need-returns-7
+unfolding rows
+returns-7 c =
+    let opened = c .before .before in
+    sym (refused-first _ _ _ _ (past-10 (opened .before) ∙ stop _ _ (rw (window opened) (lt-ltb _ _ (c .if5 .taken)))))
+
+abbrev timed-11 : tie.Else5 → tie.After-known-told2
+timed-11 c = timed-10 (c .before .before .before)
+
+past-11 : (c : tie.Else5) → Past 8 (start-8 (timed-11 c))
+unfolding rows
+past-11 c =
+    let opened = c .before .before in
+    past-10 (opened .before) ∙ skip _ _ (rw (window opened) (le-ltb _ _ (c .if5 .left)))
+
+-- ---- 12.
+
+record-size-requires : tie.Need-record-size-requires
+record-size-requires c κs = search needs
+
+size :
+    (c : tie.After-record-size)
+    → recordSize (partyAt (start-8 (timed-11 (c .before)) .args .trip .now) 0) ≡ c .record-size .result
+size c = rw (← party-8 (timed-11 (c .before)) .party-at .ensures) (sym (c .record-size .ensures))
+
+returns-8 : tie.Need-returns-8
+unfolding rows
+returns-8 c = sym (refused-first _ _ _ _ (past-11 (c .before .before) ∙ stop _ _ (rw (size (c .before)) (lt-ltb _ _ (c .if6 .taken)))))
+
+past-12 : (c : tie.Else6) → Past 9 (start-8 (timed-11 (c .before .before)))
+unfolding rows
+past-12 c = past-11 (c .before .before) ∙ skip _ _ (rw (size (c .before)) (le-ltb _ _ (c .if6 .left)))
+
+-- ---- None of them holds.
+
+returns-9 : tie.Need-returns-9
+unfolding rows
+returns-9 c =
+    let timed = timed-11 (c .before .before) in
+    let read = party-8 timed in
+    let (right, (from, to)) = times-are _ _ _ (times timed) in
+    clear-with _ _ _ _ (past-12 c ∙ end) from to
+    (read .before .before .class-at .ensures) (read .before .level-at .ensures) (read .party-at .ensures)
+    (filling (read .before .before .before) .count) (window (c .before .before .before .before))
 
 pub decide-spec : {M : Type 1} → statement M
 decide-spec =
     tie.close
     (tie.spec
-    read-trip-requires
+    whole-trip-requires
+    enum-known-stops
     enum-told
-    enum-told-2
-    enum-told-3
-    enum-told-4
-    enum-told-5
-    enum-known-fields
-    decide-trip-requires
     returns
+    class-at-requires
+    level-at-requires
+    party-at-requires
+    party-right-requires
     returns-2
+    stops-known-requires
     returns-3
+    times-of-requires
+    enum-known-checkin
+    enum-told-2
     returns-4
+    in-order-requires
     returns-5
-    returns-6)
+    too-early-requires
+    returns-6
+    window-of-requires
+    add-if5
+    returns-7
+    record-size-requires
+    returns-8
+    returns-9)

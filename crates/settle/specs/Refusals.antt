@@ -1,0 +1,92 @@
+-- Paper 01, "What comes back": the refusals 4 to 12 as a table. A row is a refusal and its test; the first row whose test holds decides.
+-- Each test is a function of the bytes alone, so that a row stands by itself and rows can change places.
+use Prim.Native.Nat.{ℕ, _+_}
+use mathlib.Core.Path.{_≡_}
+use mathlib.Core.List.{List, [], _∷_}
+use mathlib.Core.Bool.{Bool, false, cond, not}
+use lib.Dec.{eqb, ltb}
+use Rattle.tariff.specs.declared.Counts.{Counts}
+use Rattle.trip.specs.Record.{classAt, levelAt, partyAt, countAt}
+use Rattle.trip.specs.Moments.{checkinOf, checkoutOf}
+use Rattle.trip.specs.Trips.{isTrip, partyRight, stopsKnown, stampsRight, inOrder}
+use Rattle.book.specs.Sound.{sound}
+use Rattle.book.specs.Windows.{tooEarly, windowOf}
+use Rattle.statement.specs.Record.{recordSize}
+use Rattle.settle.specs.declared.refusals.Refusal.{Refusal}
+use Rattle.settle.specs.declared.refusals.Refusal.the-variants.{
+  UnsoundBook,
+  NoTrip,
+  WrongParty,
+  UnknownStop,
+  WrongStamp,
+  WrongOrder,
+  TooEarly,
+  FullWindow,
+  NoRoom,
+}
+
+-- the paper's numbers
+abbrev pub refusal : Refusal → ℕ
+refusal UnsoundBook = 4
+refusal NoTrip = 5
+refusal WrongParty = 6
+refusal UnknownStop = 7
+refusal WrongStamp = 8
+refusal WrongOrder = 9
+refusal TooEarly = 10
+refusal FullWindow = 11
+refusal NoRoom = 12
+
+-- the largest of them
+abbrev pub lastRefusal : ℕ
+lastRefusal = 12
+
+pub record Row : Type 0 where
+  pub why : Refusal
+  pub test : Bool
+
+abbrev row : Refusal → Bool → Row
+row why test = record { why = why; test = test }
+
+-- 4: book not sound
+-- 5: frame broken, record not filling the slice, kind not 3, body under 18 or not 18 + 2n
+-- 6: class not 1 or 2, level above 5, adults, children or bicycles above 10, n not 2..32
+-- 7: a stop number the tariff lacks
+-- 8: a stamp that is no date 2000..2099 or no clock time 00:00..23:59
+-- 9: check-out before check-in, or over 1,440 minutes after it
+-- 10: check-in before the book's last check-out (word 0 not 0)
+-- 11: the trip would be the 257th of its window
+-- 12: statement slice shorter than the charge record
+unfoldable pub rows : Counts → List ℕ → List ℕ → ℕ → List Row
+rows counts book trip room =
+    row UnsoundBook (not (sound book (counts .areas)))
+    ∷ row NoTrip (not (isTrip trip))
+    ∷ row WrongParty (not (partyRight (classAt trip 0) (levelAt trip 0) (partyAt trip 0) (countAt trip 0)))
+    ∷ row UnknownStop (not (stopsKnown trip (countAt trip 0) (counts .stops)))
+    ∷ row WrongStamp (not (stampsRight trip))
+    ∷ row WrongOrder (not (inOrder (checkinOf trip) (checkoutOf trip)))
+    ∷ row TooEarly (tooEarly book (checkinOf trip))
+    ∷ row FullWindow (ltb 256 (windowOf book (checkinOf trip) (checkoutOf trip) .trips + 1))
+    ∷ row NoRoom (ltb room (recordSize (partyAt trip 0)))
+    ∷ []
+
+-- no row, or the row of a refusal
+pub data Found : Type 0 where
+  nothing : Found
+  found : Refusal → Found
+
+-- the first row that holds
+unfoldable pub firstOf : List Row → Found
+firstOf [] = nothing
+firstOf (r ∷ rest) = cond (r .test) (found (r .why)) (firstOf rest)
+
+-- the test of a refusal's row, wherever it stands
+unfoldable pub testOf : Refusal → List Row → Bool
+testOf why [] = false
+testOf why (r ∷ rest) = cond (eqb (refusal (r .why)) (refusal why)) (r .test) (testOf why rest)
+
+-- a refusal is the first of the table to hold, where each refusal holds under a condition of its own: its condition holds, and that of no
+-- row before it does
+pub data First (holds : Refusal → Type 0) (why : Refusal) : List Row → Type 0 where
+  here : {r : Row} {rest : List Row} → r .why ≡ why → holds why → First holds why (r ∷ rest)
+  later : {r : Row} {rest : List Row} → (holds (r .why) → ⊥) → First holds why rest → First holds why (r ∷ rest)

@@ -1,0 +1,32 @@
+// The refusals 4 to 12 by their names. Their order is the table's, which `decide` follows.
+ghost use mathlib.Core.Path.{_≡_};
+ghost use Rattle.settle.specs.Refusals.{refusal};
+
+pub enum Refusal {
+    UnsoundBook,
+    NoTrip,
+    WrongParty,
+    UnknownStop,
+    WrongStamp,
+    WrongOrder,
+    TooEarly,
+    FullWindow,
+    NoRoom,
+}
+
+// The number that a refusal is given under.
+pub fn number(why: Refusal) -> u8
+    ensures { λ r. ⌜ r ≡ refusal why ⌝ }
+{
+    match why {
+        Refusal::UnsoundBook => 4,
+        Refusal::NoTrip => 5,
+        Refusal::WrongParty => 6,
+        Refusal::UnknownStop => 7,
+        Refusal::WrongStamp => 8,
+        Refusal::WrongOrder => 9,
+        Refusal::TooEarly => 10,
+        Refusal::FullWindow => 11,
+        Refusal::NoRoom => 12,
+    }
+}

@@ -1,0 +1,51 @@
+-- Paper 01, "What comes back": the conditions 5 to 9, in the paper's words and order.
+use Prim.Native.Nat.{ℕ, _+_, _≤_, _<_}
+use mathlib.Core.Path.{_≡_}
+use mathlib.Core.List.{List}
+use mathlib.Core.Bool.{false}
+use lib.ListN.{length}
+use Rattle.wire.specs.Frame.{frameAt}
+use Rattle.wire.specs.declared.Frame.the-variants.{Whole, Broken}
+use Rattle.units.specs.Day.{dayMinutes}
+use Rattle.calendar.specs.Stamps.{isStamp}
+use Rattle.trip.specs.declared.Party.{Party}
+use Rattle.trip.specs.Record.{bodySize, checkinPlace, checkoutPlace, classAt, levelAt, partyAt, countAt, stopNumber}
+use Rattle.trip.specs.Moments.{stampAt, checkinOf, checkoutOf}
+
+-- no trip record at a place: frame broken, kind not 3, body under 18 or not 18 + 2n
+pub data NoTripAt (b : List ℕ) (at : ℕ) : Type 0 where
+  broken-frame : frameAt b at ≡ Broken → NoTripAt b at
+  other-kind : (kind body : ℕ) → frameAt b at ≡ Whole kind body → (kind ≡ 3 → ⊥) → NoTripAt b at
+  short-body : (kind body : ℕ) → frameAt b at ≡ Whole kind body → body < 18 → NoTripAt b at
+  other-body : (kind body : ℕ) → frameAt b at ≡ Whole kind body → (body ≡ bodySize (countAt b at) → ⊥) → NoTripAt b at
+
+-- 5: no trip record, or one that does not fill the slice
+pub data NoTrip (trip : List ℕ) : Type 0 where
+  no-record : NoTripAt trip 0 → NoTrip trip
+  not-filling : (kind body : ℕ) → frameAt trip 0 ≡ Whole kind body → (4 + body ≡ length trip → ⊥) → NoTrip trip
+
+-- 6: class not 1 or 2, level above 5, adults, children or bicycles above 10, n not 2..32
+pub data WrongParty (class level : ℕ) (party : Party) (n : ℕ) : Type 0 where
+  no-class : (class ≡ 1 → ⊥) → (class ≡ 2 → ⊥) → WrongParty class level party n
+  high-level : 5 < level → WrongParty class level party n
+  many-adults : 10 < party .adults → WrongParty class level party n
+  many-children : 10 < party .children → WrongParty class level party n
+  many-bicycles : 10 < party .bicycles → WrongParty class level party n
+  few-stops : n < 2 → WrongParty class level party n
+  many-stops : 32 < n → WrongParty class level party n
+
+-- 7: a stop number the tariff lacks; it has those below `known`
+pub record LackingStop (trip : List ℕ) (n known : ℕ) : Type 0 where
+  pub i : ℕ
+  pub of-trip : i < n
+  pub lacking : known ≤ stopNumber trip i
+
+-- 8: a stamp that is no date 2000..2099 or no clock time 00:00..23:59
+pub data WrongStamp (trip : List ℕ) : Type 0 where
+  wrong-checkin : isStamp (stampAt trip checkinPlace) ≡ false → WrongStamp trip
+  wrong-checkout : isStamp (stampAt trip checkoutPlace) ≡ false → WrongStamp trip
+
+-- 9: check-out before check-in, or over 1,440 minutes after it
+pub data WrongOrder (checkin checkout : ℕ) : Type 0 where
+  backward : checkout < checkin → WrongOrder checkin checkout
+  too-long : checkin + dayMinutes < checkout → WrongOrder checkin checkout
