@@ -1,86 +1,92 @@
--- Byte strings alike but for some of their bytes: what is read elsewhere is the same, and what is put elsewhere leaves them alike.
--- So a ride's charges, and the book that it leaves, go by the sums and the covering areas alone.
+-- Books the same in every word but the opening minute and the last check-out: a ride is charged the same on both, and leaves two such books.
 -- Assumes nothing.
 use Prim.Native.Nat.{ℕ, zero, suc, _+_, _*_, _%_, _/_, _≤_, _<_}
 use native.Mathlib.Omega.{arith}
 use native.Mathlib.Decide.{ℕ-discrete, decLt}
 use mathlib.Core.Path.{_≡_, refl, sym, _∙_}
-use mathlib.Core.Logic.{_⊎_, inl, inr, ⊎-elim}
-use mathlib.Core.List.{List}
+use mathlib.Core.Logic.{inl}
+use mathlib.Core.List.{List, [], _∷_}
 use mathlib.Core.Bool.{Bool, true, false}
 use lib.ListN.{length, getD, set, length-set}
-use lib.Seq.{getD-set-same, getD-set-other, set-out}
+use lib.Seq.{getD-set-same}
 use Rattle.wire.specs.Number.{getLe, putLe}
-use Rattle.wire.proofs.Number.{length-put, byte-other, get-same}
+use Rattle.wire.proofs.Number.{byte-other}
 use Rattle.tariff.specs.declared.Counts.{Counts}
 use Rattle.tariff.specs.Areas.{FaultlessTariff}
 use Rattle.fare.specs.declared.Ride.{Ride}
 use Rattle.book.specs.declared.Window.{Window}
-use Rattle.book.specs.Words.{freshBook, word}
+use Rattle.book.specs.Words.{freshBook, word, putWord}
 use Rattle.book.specs.Windows.{inWindow}
 use Rattle.book.specs.Charging.{chargesOf}
 use Rattle.book.specs.Posting.{opened, posted}
+use Rattle.book.proofs.WordLaws.{size-put, word-put-other}
 use Rattle.book.proofs.AlikeBooks.{Alike, Touches, charges-alike as charges-by-words, posted-alike as posted-by-words}
-use Rattle.promises.specs.Moved.{AlikeBut}
+use Rattle.promises.specs.Moved.{SameWords}
 
--- ---- Bytes.
+-- nothing stands past the end
+past : (l : List ℕ) (i : ℕ) → length l ≤ i → getD l i 0 ≡ 0
+past [] i h = refl
+past (x ∷ xs) zero h = absurd (omega arith)
+past (x ∷ xs) (suc i) h = past xs i (omega arith)
 
-pub alike-self : (from to : ℕ) (b : List ℕ) → AlikeBut from to b b
-alike-self from to b = record { size = refl; rest = λ i h. refl }
+-- What a number put reads back as goes by the byte string's length alone.
+put-reads : (k : ℕ) (b b′ : List ℕ) (p v : ℕ) → length b′ ≡ length b → getLe k (putLe k b′ p v) p ≡ getLe k (putLe k b p v) p
+unfolding getLe putLe
+put-reads zero b b′ p v same = refl
+put-reads (suc k) b b′ p v same =
+    let x = v % 256 in
+    let first : (l : List ℕ) → length l ≡ length b → getD (putLe k (set l p x) (p + 1) (v / 256)) p 0 ≡ getD (set b p x) p 0 =
+    λ l is. byte-other k (set l p x) (p + 1) (v / 256) p (inl (omega arith)) ∙ stored l is
+    in
+    let rest : getLe k (putLe k (set b′ p x) (p + 1) (v / 256)) (p + 1) ≡ getLe k (putLe k (set b p x) (p + 1) (v / 256)) (p + 1) =
+    put-reads k (set b p x) (set b′ p x) (p + 1) (v / 256) (length-set b′ p x ∙ same ∙ sym (length-set b p x))
+    in
+    omega (arith, first b′ same, first b refl, rest)
+  where
+    stored : (l : List ℕ) → length l ≡ length b → getD (set l p (v % 256)) p 0 ≡ getD (set b p (v % 256)) p 0
+    stored l is =
+        elim (decLt p (length b)) [
+          | yes within ↦ getD-set-same l p (v % 256) 0 (omega arith) ∙ sym (getD-set-same b p (v % 256) 0 within)
+          | no out ↦
+              past (set l p (v % 256)) p (omega (arith, length-set l p (v % 256)))
+              ∙ sym (past (set b p (v % 256)) p (omega (arith, length-set b p (v % 256))))
+        ]
 
-module _ {from to : ℕ} {b b′ : List ℕ} (same : AlikeBut from to b b′) where
-  pub alike-back : AlikeBut from to b′ b
-  alike-back = record { size = sym (same .size); rest = λ i h. sym (same .rest i h) }
+-- a word put in two books of one length leaves the words the same that were
+put-same :
+    (b b′ : List ℕ) → length b′ ≡ length b → (p v i : ℕ) → word b′ i ≡ word b i → word (putWord b′ p v) i ≡ word (putWord b p v) i
+put-same b b′ size p v i same =
+    elim (ℕ-discrete p i) [
+      | yes e ↦ rw e (put-reads 4 b b′ (4 * i) v size)
+      | no ne ↦ word-put-other b′ p i v ne ∙ same ∙ sym (word-put-other b p i v ne)
+    ]
 
-  -- a number that stands wholly before the bytes that differ, or behind them
-  pub get-alike : (w q : ℕ) → (q + w ≤ from) ⊎ (to ≤ q) → getLe w b′ q ≡ getLe w b q
-  get-alike w q out =
-      get-same w b′ b q (λ i low high. same .rest i (⊎-elim (λ h. inl (omega arith)) (λ h. inr (omega arith)) out))
+same-self : (b : List ℕ) → SameWords b b
+same-self b = record { size = refl; trips = refl; sums = λ i h. refl }
 
-  -- the same byte stored in both
-  set-alike : (p x : ℕ) → AlikeBut from to (set b p x) (set b′ p x)
-  set-alike p x =
-      record {
-        size = length-set b′ p x ∙ same .size ∙ sym (length-set b p x);
-        rest = λ i h. at i h (ℕ-discrete i p) (decLt p (length b));
-      }
-    where
-      at : (i : ℕ) → (i < from) ⊎ (to ≤ i) → Dec (i ≡ p) → Dec (p < length b) → getD (set b′ p x) i 0 ≡ getD (set b p x) i 0
-      at i h (no ne) within = getD-set-other b′ p i x 0 ne ∙ same .rest i h ∙ sym (getD-set-other b p i x 0 ne)
-      at i h (yes e) (yes within) =
-          rw e (getD-set-same b′ p x 0 (omega (arith, same .size)) ∙ sym (getD-set-same b p x 0 within))
-      at i h (yes e) (no past) =
-          rw (set-out b p x (omega arith), set-out b′ p x (omega (arith, same .size))) (same .rest i h)
-
--- the same number put in both
-pub put-alike :
-    (k : ℕ) {from to : ℕ} {b b′ : List ℕ} → AlikeBut from to b b′ → (p v : ℕ) → AlikeBut from to (putLe k b p v) (putLe k b′ p v)
-unfolding putLe
-put-alike zero same p v = same
-put-alike (suc k) same p v = put-alike k (set-alike same p (v % 256)) (p + 1) (v / 256)
-
--- any two numbers put where they differ
-pub put-between :
-    (k : ℕ) {from to : ℕ} {b b′ : List ℕ} → AlikeBut from to b b′ → (p v v′ : ℕ) → from ≤ p → p + k ≤ to
-    → AlikeBut from to (putLe k b p v) (putLe k b′ p v′)
-put-between k {from} {to} {b} {b′} same p v v′ low high =
+-- the same word put in both, wherever it stands
+words-alike : Alike SameWords (λ i. 3 ≤ i)
+words-alike =
     record {
-      size = length-put k b′ p v′ ∙ same .size ∙ sym (length-put k b p v);
-      rest = λ i out.
-          let out′ : (i < p) ⊎ (p + k ≤ i) = ⊎-elim (λ h. inl (omega arith)) (λ h. inr (omega arith)) out in
-          byte-other k b′ p v′ i out′ ∙ same .rest i out ∙ sym (byte-other k b p v i out′);
+      same = λ b b′ s. s .sums;
+      put = λ b b′ s p v.
+          record {
+            size = size-put b′ p v ∙ s .size ∙ sym (size-put b p v);
+            trips = put-same b b′ (s .size) p v 0 (s .trips);
+            sums = λ i h. put-same b b′ (s .size) p v i (s .sums i h);
+          };
     }
 
--- ---- Books.
+-- two words put where the books may differ
+put-between : {b b′ : List ℕ} → SameWords b b′ → (p v v′ : ℕ) → 1 ≤ p → p ≤ 2 → SameWords (putWord b p v) (putWord b′ p v′)
+put-between {b} {b′} s p v v′ low high =
+    record {
+      size = size-put b′ p v′ ∙ s .size ∙ sym (size-put b p v);
+      trips = word-put-other b′ p 0 v′ (λ e. omega arith) ∙ s .trips ∙ sym (word-put-other b p 0 v (λ e. omega arith));
+      sums = λ i h. word-put-other b′ p i v′ (λ e. omega arith) ∙ s .sums i h ∙ sym (word-put-other b p i v (λ e. omega arith));
+    }
 
--- words 1 and 2 alone may differ, so every word from the third on is the same
-pub sums-alike : {b b′ : List ℕ} → AlikeBut 4 12 b b′ → (i : ℕ) → 3 ≤ i → word b′ i ≡ word b i
-sums-alike same i h = get-alike same 4 (4 * i) (inr (omega arith))
-
-window-alike : Alike (AlikeBut 4 12) (λ i. 3 ≤ i)
-window-alike = record { same = λ b b′ s. sums-alike s; put = λ b b′ s p v. put-alike 4 s (4 * p) v }
-
--- a ride touches none but those
+-- a ride touches the words from the third on alone
 touches : (counts : Counts) (ride : Ride) → Touches (λ i. 3 ≤ i) counts ride
 touches counts ride =
     record {
@@ -90,32 +96,35 @@ touches counts ride =
     }
 
 -- the window's words put in both, with the same trips
-opened-alike :
-    (window window′ : Window) (checkout checkout′ : ℕ) {b b′ : List ℕ} → AlikeBut 4 12 b b′ → window′ .trips ≡ window .trips
-    → AlikeBut 4 12 (opened window checkout b) (opened window′ checkout′ b′)
+opened-same :
+    (window window′ : Window) (checkout checkout′ : ℕ) {b b′ : List ℕ} → SameWords b b′ → window′ .trips ≡ window .trips
+    → SameWords (opened window checkout b) (opened window′ checkout′ b′)
 unfolding opened
-opened-alike window window′ checkout checkout′ same trips =
-    put-between 4
-    (put-between 4 (rw trips (put-alike 4 same (4 * 0) (window .trips + 1))) (4 * 1) (window .opening .0) (window′ .opening .0) (omega arith) (omega arith))
-    (4 * 2) checkout checkout′ (omega arith) (omega arith)
+opened-same window window′ checkout checkout′ {b} {b′} s trips =
+    put-between
+    (put-between (rw trips (words-alike .put b b′ s 0 (window .trips + 1))) 1 (window .opening .0) (window′ .opening .0) (omega arith) (omega arith))
+    2 checkout checkout′ (omega arith) (omega arith)
 
 -- The words that count in a window: both books', or a fresh book's.
-pub words-alike : (current : Bool) {book book′ : List ℕ} → AlikeBut 4 12 book book′ → AlikeBut 4 12 (inWindow current book) (inWindow current book′)
-words-alike true same = same
-words-alike false same = alike-self 4 12 freshBook
+pub window-same : (current : Bool) {book book′ : List ℕ} → SameWords book book′ → SameWords (inWindow current book) (inWindow current book′)
+window-same true s = s
+window-same false s = same-self freshBook
+
+pub fresh-same : SameWords freshBook freshBook
+fresh-same = same-self freshBook
 
 module _ {tariff : List ℕ} {counts : Counts} (t : FaultlessTariff tariff counts) (ride : Ride) (there : ride .area < counts .areas) where
   -- A ride's charges go by the sums and covering areas alone.
-  pub charges-alike : (w w′ : List ℕ) → AlikeBut 4 12 w w′ → chargesOf tariff counts w′ ride ≡ chargesOf tariff counts w ride
-  charges-alike = charges-by-words window-alike t ride there (touches counts ride)
+  pub charges-same : (w w′ : List ℕ) → SameWords w w′ → chargesOf tariff counts w′ ride ≡ chargesOf tariff counts w ride
+  charges-same = charges-by-words words-alike t ride there (touches counts ride)
 
-  -- A ride leaves books alike that were alike but for their windows' minutes.
-  pub posted-alike :
-      (window window′ : Window) (checkout checkout′ : ℕ) {book book′ : List ℕ} → AlikeBut 4 12 book book′ → window′ .current ≡ window .current
+  -- A ride leaves two such books on two such books.
+  pub posted-same :
+      (window window′ : Window) (checkout checkout′ : ℕ) {book book′ : List ℕ} → SameWords book book′ → window′ .current ≡ window .current
       → window′ .trips ≡ window .trips
-      → AlikeBut 4 12 (posted tariff counts book window checkout ride) (posted tariff counts book′ window′ checkout′ ride)
-  posted-alike window window′ checkout checkout′ {book} {book′} same current trips =
-      let words : AlikeBut 4 12 (inWindow (window .current) book) (inWindow (window′ .current) book′) =
-      rw current (words-alike (window .current) same) in
-      posted-by-words window-alike t ride there (touches counts ride) window window′ checkout checkout′ book book′ words
-      (opened-alike window window′ checkout checkout′ words trips)
+      → SameWords (posted tariff counts book window checkout ride) (posted tariff counts book′ window′ checkout′ ride)
+  posted-same window window′ checkout checkout′ {book} {book′} s current trips =
+      let words : SameWords (inWindow (window .current) book) (inWindow (window′ .current) book′) =
+      rw current (window-same (window .current) s) in
+      posted-by-words words-alike t ride there (touches counts ride) window window′ checkout checkout′ book book′ words
+      (opened-same window window′ checkout checkout′ words trips)

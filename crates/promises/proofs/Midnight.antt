@@ -27,7 +27,7 @@ use Rattle.promises.specs.Runs.{bookOf}
 use Rattle.promises.specs.Moved.{MovedTrip, MovedBook, MovedOutcome, both-refused, both-accepted, MovedRun, moved-none, moved-more}
 use Rattle.promises.proofs.Answers.{accepted-is}
 use Rattle.promises.proofs.Shifts.{Shifted, rows-same, moved-parts, moved-book}
-use Rattle.promises.proofs.Alike.{alike-self}
+use Rattle.promises.proofs.Alike.{fresh-same}
 
 -- ---- Windows.
 
@@ -67,12 +67,12 @@ shifted :
     {d : ℕ} {book bytes book′ bytes′ : List ℕ} → MovedTrip d bytes bytes′ → MovedBook d book book′ → Shifted 0 d book bytes book′ bytes′
 shifted {d} {book} t b =
     record {
-      trip = t .alike;
+      trip = t .same;
       stamps = t .stamps;
       stamps′ = t .stamps′;
       checkin = omega (arith, t .checkin);
       checkout = omega (arith, t .checkout);
-      others = b .alike;
+      others = b .same;
       opening = λ used. omega (arith, rw (ne-eqb (tripsOf book) 0 used) at (b .opening));
       last = λ used. omega (arith, rw (ne-eqb (tripsOf book) 0 used) at (b .last));
       unused = λ none.
@@ -134,7 +134,7 @@ book-after (both-accepted books parts) before = books
 fresh-moved : (d : ℕ) → MovedBook d freshBook freshBook
 fresh-moved d =
     record {
-      alike = alike-self 4 12 freshBook;
+      same = fresh-same;
       opening = rw (word-fresh 0, add-zero);
       last = rw (word-fresh 0, add-zero);
       in-calendar = omega (arith, word-fresh 2);

@@ -35,9 +35,9 @@ use Rattle.statement.specs.Record.{Part}
 use Rattle.settle.specs.Refusals.{rows}
 use Rattle.settle.specs.Outcome.{partOf}
 use Rattle.promises.specs.Conditions.{tripRide, tripWindow, AcceptedBy}
-use Rattle.promises.specs.Moved.{AlikeBut, MovedBook, MovedParts, one-part, no-part}
+use Rattle.promises.specs.Moved.{SameTrip, SameWords, MovedBook, MovedParts, one-part, no-part}
 use Rattle.promises.proofs.Answers.{charged-ride, right-window, parts-are, new-posted}
-use Rattle.promises.proofs.Alike.{alike-back, get-alike, sums-alike, words-alike, charges-alike, posted-alike}
+use Rattle.promises.proofs.Alike.{window-same, charges-same, posted-same}
 
 -- no trip belongs to a window where none is open
 unopened : (book : List ℕ) (checkout : ℕ) → tripsOf book ≡ 0 → belongs book checkout ≡ false
@@ -52,12 +52,12 @@ Moved c d m m′ = m′ + c ≡ m + d
 
 -- the two settlings: so moved, it can be read either way
 pub record Shifted (c d : ℕ) (book bytes book′ bytes′ : List ℕ) : Type 0 where
-  pub trip : AlikeBut 4 16 bytes bytes′
+  pub trip : SameTrip bytes bytes′
   pub stamps : stampsRight bytes ≡ true
   pub stamps′ : stampsRight bytes′ ≡ true
   pub checkin : Moved c d (checkinOf bytes) (checkinOf bytes′)
   pub checkout : Moved c d (checkoutOf bytes) (checkoutOf bytes′)
-  pub others : AlikeBut 4 12 book book′
+  pub others : SameWords book book′
   pub opening : (tripsOf book ≡ 0 → ⊥) → Moved c d (openingOf book) (openingOf book′)
   pub last : (tripsOf book ≡ 0 → ⊥) → Moved c d (lastOutOf book) (lastOutOf book′)
   pub unused : tripsOf book ≡ 0 → (openingOf book′ ≡ openingOf book) × (lastOutOf book′ ≡ lastOutOf book)
@@ -92,7 +92,7 @@ each-alike n test test′ same = ap (each n) (fun-ext same)
 
 module _ {c d : ℕ} {book bytes book′ bytes′ : List ℕ} (s : Shifted c d book bytes book′ bytes′) where
   trips-same : tripsOf book′ ≡ tripsOf book
-  trips-same = get-alike (s .others) 4 0 (inl (omega arith))
+  trips-same = s .others .trips
 
   -- the book is sound or not alike
   zeros-same : tripsOf book ≡ 0 → allZero book′ ≡ allZero book
@@ -103,20 +103,20 @@ module _ {c d : ℕ} {book bytes book′ bytes′ : List ℕ} (s : Shifted c d b
       same zero = trips-same
       same (suc zero) = s .unused none .0
       same (suc (suc zero)) = s .unused none .1
-      same (suc (suc (suc i))) = sums-alike (s .others) (suc (suc (suc i))) (omega arith)
+      same (suc (suc (suc i))) = s .others .sums (suc (suc (suc i))) (omega arith)
 
   pairs-same : (most : ℕ) → pairsSound book′ most ≡ pairsSound book most
   unfolding pairsSound
   pairs-same most =
       each-alike 672 (λ i. leb (word book (3 + 2 * i)) (word book (3 + 2 * i + 1)) && leb (word book (3 + 2 * i + 1)) most)
       (λ i. leb (word book′ (3 + 2 * i)) (word book′ (3 + 2 * i + 1)) && leb (word book′ (3 + 2 * i + 1)) most)
-      (λ i. rw (sums-alike (s .others) (3 + 2 * i) (omega arith), sums-alike (s .others) (3 + 2 * i + 1) (omega arith)))
+      (λ i. rw (s .others .sums (3 + 2 * i) (omega arith), s .others .sums (3 + 2 * i + 1) (omega arith)))
 
   covers-same : (areas : ℕ) → coversSound book′ areas ≡ coversSound book areas
   unfolding coversSound
   covers-same areas =
       each-alike 10 (λ i. leb (coverWord book i) areas) (λ i. leb (coverWord book′ i) areas)
-      (λ i. ap (λ v. leb v areas) (sums-alike (s .others) (1347 + i) (omega arith)))
+      (λ i. ap (λ v. leb v areas) (s .others .sums (1347 + i) (omega arith)))
 
   head-same :
       (tripsOf book ≡ 0 → ⊥) → headSound (tripsOf book′) (openingOf book′) (lastOutOf book′) ≡ headSound (tripsOf book) (openingOf book) (lastOutOf book)
@@ -146,33 +146,6 @@ module _ {c d : ℕ} {book bytes book′ bytes′ : List ℕ} (s : Shifted c d b
       go (no used) =
           rw (ne-eqb (tripsOf book) 0 used, rw trips-same at (head-same used), pairs-same (tripsOf book * 3790000), covers-same areas)
 
-  -- the trip's record is alike but for its stamps
-  frame-same : frameAt bytes′ 0 ≡ frameAt bytes 0
-  unfolding frameAt broken
-  frame-same = rw (s .trip .size, get-alike (s .trip) 2 0 (inl (omega arith)), get-alike (s .trip) 2 2 (inl (omega arith)))
-
-  count-same : countAt bytes′ 0 ≡ countAt bytes 0
-  count-same = get-alike (s .trip) 1 21 (inr (omega arith))
-
-  class-same : classAt bytes′ 0 ≡ classAt bytes 0
-  class-same = get-alike (s .trip) 1 16 (inr (omega arith))
-
-  level-same : levelAt bytes′ 0 ≡ levelAt bytes 0
-  level-same = get-alike (s .trip) 1 17 (inr (omega arith))
-
-  party-same : partyAt bytes′ 0 ≡ partyAt bytes 0
-  unfolding partyAt
-  party-same =
-      rw (
-        get-alike (s .trip) 1 18 (inr (omega arith)),
-        get-alike (s .trip) 1 19 (inr (omega arith)),
-        get-alike (s .trip) 1 20 (inr (omega arith)),
-      )
-
-  stop-same : (i : ℕ) → stopNumber bytes′ i ≡ stopNumber bytes i
-  unfolding stopNumber
-  stop-same i = get-alike (s .trip) 2 (22 + 2 * i) (inr (omega arith))
-
   -- the trip belongs to the open window or not alike
   belongs-same : belongs book′ (checkoutOf bytes′) ≡ belongs book (checkoutOf bytes)
   unfolding belongs
@@ -194,7 +167,7 @@ module _ {c d : ℕ} {book bytes book′ bytes′ : List ℕ} (s : Shifted c d b
   stops-same : (n known : ℕ) → stopsKnown bytes′ n known ≡ stopsKnown bytes n known
   unfolding stopsKnown
   stops-same n known =
-      each-alike n (λ i. ltb (stopNumber bytes i) known) (λ i. ltb (stopNumber bytes′ i) known) (λ i. ap (λ v. ltb v known) (stop-same i))
+      each-alike n (λ i. ltb (stopNumber bytes i) known) (λ i. ltb (stopNumber bytes′ i) known) (λ i. ap (λ v. ltb v known) (s .trip .stop i))
 
   order-same : inOrder (checkinOf bytes′) (checkoutOf bytes′) ≡ inOrder (checkinOf bytes) (checkoutOf bytes)
   order-same =
@@ -223,11 +196,11 @@ module _ {c d : ℕ} {book bytes book′ bytes′ : List ℕ} (s : Shifted c d b
   rows-same counts room =
       rw (
         sound-same (counts .areas),
-        trip-same bytes bytes′ frame-same count-same (s .trip .size),
-        class-same,
-        level-same,
-        party-same,
-        count-same,
+        trip-same bytes bytes′ (s .trip .frame) (s .trip .count) (s .trip .size),
+        s .trip .class,
+        s .trip .level,
+        s .trip .party,
+        s .trip .count,
         stops-same (countAt bytes 0) (counts .stops),
         s .stamps,
         s .stamps′,
@@ -240,7 +213,7 @@ module _ {c d : ℕ} {book bytes book′ bytes′ : List ℕ} (s : Shifted c d b
 
   stop-of-same : (tariff : List ℕ) (counts : Counts) (i : ℕ) → stopOf tariff counts bytes′ i ≡ stopOf tariff counts bytes i
   unfolding stopOf
-  stop-of-same tariff counts i = rw (stop-same i)
+  stop-of-same tariff counts i = rw (s .trip .stop i)
 
   area-of-same :
       (tariff : List ℕ) (counts : Counts) (first more : ℕ) → areaOfStops tariff counts bytes′ first more ≡ areaOfStops tariff counts bytes first more
@@ -256,10 +229,10 @@ module _ {c d : ℕ} {book bytes book′ bytes′ : List ℕ} (s : Shifted c d b
   ride-same tariff counts =
       let minutes : checkoutOf bytes′ - checkinOf bytes′ ≡ checkoutOf bytes - checkinOf bytes = omega (arith, s .checkin, s .checkout) in
       rw (
-        count-same,
-        class-same,
-        level-same,
-        party-same,
+        s .trip .count,
+        s .trip .class,
+        s .trip .level,
+        s .trip .party,
         minutes,
         area-of-same tariff counts 0 (countAt bytes 0 - 1),
         stop-of-same tariff counts 0,
@@ -325,9 +298,9 @@ module _ {tariff : List ℕ} {room d : ℕ} {book bytes book′ bytes′ : List 
       ≡ chargesOf tariff (a .counts) (inWindow (tripWindow book bytes .current) book) (tripRide tariff (a .counts) bytes)
   same-charges =
       rw (current-same s, one-ride, counts-same)
-      (charges-alike (faultless tariff (a .counts) (a .read)) (tripRide tariff (a .counts) bytes) there
+      (charges-same (faultless tariff (a .counts) (a .read)) (tripRide tariff (a .counts) bytes) there
       (inWindow (tripWindow book bytes .current) book) (inWindow (tripWindow book bytes .current) book′)
-      (words-alike (tripWindow book bytes .current) (s .others)))
+      (window-same (tripWindow book bytes .current) (s .others)))
 
   pub moved-parts : MovedParts d parts parts′
   unfolding partOf
@@ -340,9 +313,9 @@ module _ {tariff : List ℕ} {room d : ℕ} {book bytes book′ bytes′ : List 
       let l′ = left a′ in
       let head = right-window a′ .head in
       record {
-        alike =
+        same =
             rw (new-posted a, new-posted a′, one-ride, counts-same)
-            (posted-alike (faultless tariff (a .counts) (a .read)) (tripRide tariff (a .counts) bytes) there (tripWindow book bytes)
+            (posted-same (faultless tariff (a .counts) (a .read)) (tripRide tariff (a .counts) bytes) there (tripWindow book bytes)
             (tripWindow book′ bytes′) (checkoutOf bytes) (checkoutOf bytes′) (s .others) (current-same s) (trips-alike s));
         opening = rw (ne-eqb (tripsOf new) 0 (l .used)) (omega (arith, l .opening-is, l′ .opening-is, later-opening));
         last =

@@ -1,36 +1,48 @@
 -- Nights moved on the calendar: trips, books, parts and outcomes that are alike but for their minutes, which are all d later.
-use Prim.Native.Nat.{ℕ, _+_, _≤_, _<_}
+use Prim.Native.Nat.{ℕ, _+_, _≤_}
 use mathlib.Core.Path.{_≡_}
-use mathlib.Core.Logic.{_⊎_}
 use mathlib.Core.List.{List, [], _∷_}
 use mathlib.Core.Bool.{true, cond}
-use lib.ListN.{length, getD}
+use lib.ListN.{length}
 use lib.Dec.{eqb}
+use Rattle.wire.specs.Frame.{frameAt}
 use Rattle.calendar.specs.Stamps.{lastMinute}
+use Rattle.trip.specs.Record.{classAt, levelAt, partyAt, countAt, stopNumber}
 use Rattle.trip.specs.Moments.{checkinOf, checkoutOf}
 use Rattle.trip.specs.Trips.{stampsRight}
-use Rattle.book.specs.Words.{tripsOf, openingOf, lastOutOf}
+use Rattle.book.specs.Words.{word, tripsOf, openingOf, lastOutOf}
 use Rattle.statement.specs.Record.{Part}
 use Rattle.settle.specs.Outcome.{Outcome, refused, accepted}
 use Rattle.settle.specs.Runs.{Offer}
 
--- two byte strings of one length, alike but for the bytes from one place up to another
-pub record AlikeBut (from to : ℕ) (b b′ : List ℕ) : Type 0 where
-  pub size : length b′ ≡ length b
-  pub rest : (i : ℕ) → (i < from) ⊎ (to ≤ i) → getD b′ i 0 ≡ getD b i 0
+-- two trips the same in every field but their stamps: the record's length and frame, class, level, party, the number of stops and each stop
+pub record SameTrip (trip trip′ : List ℕ) : Type 0 where
+  pub size : length trip′ ≡ length trip
+  pub frame : frameAt trip′ 0 ≡ frameAt trip 0
+  pub class : classAt trip′ 0 ≡ classAt trip 0
+  pub level : levelAt trip′ 0 ≡ levelAt trip 0
+  pub party : partyAt trip′ 0 ≡ partyAt trip 0
+  pub count : countAt trip′ 0 ≡ countAt trip 0
+  pub stop : (i : ℕ) → stopNumber trip′ i ≡ stopNumber trip i
 
--- two trips alike but for their stamps, bytes 4 to 15; all four are dates and clock times, the second's d minutes later
+-- such trips; all four stamps are dates and clock times, the second's d minutes later
 pub record MovedTrip (d : ℕ) (trip trip′ : List ℕ) : Type 0 where
-  pub alike : AlikeBut 4 16 trip trip′
+  pub same : SameTrip trip trip′
   pub stamps : stampsRight trip ≡ true
   pub stamps′ : stampsRight trip′ ≡ true
   pub checkin : checkinOf trip′ ≡ checkinOf trip + d
   pub checkout : checkoutOf trip′ ≡ checkoutOf trip + d
 
--- two books alike but for words 1 and 2, bytes 4 to 11: where a window is open, its opening and its last check-out are d minutes later in
--- the second
+-- two books of one length, the same in every word but the opening minute and the last check-out: the trips, and from word 3 on each rider's
+-- sums and each bicycle's covering area
+pub record SameWords (book book′ : List ℕ) : Type 0 where
+  pub size : length book′ ≡ length book
+  pub trips : tripsOf book′ ≡ tripsOf book
+  pub sums : (i : ℕ) → 3 ≤ i → word book′ i ≡ word book i
+
+-- such books: where a window is open, its opening and its last check-out are d minutes later in the second
 pub record MovedBook (d : ℕ) (book book′ : List ℕ) : Type 0 where
-  pub alike : AlikeBut 4 12 book book′
+  pub same : SameWords book book′
   pub opening : openingOf book′ ≡ openingOf book + cond (eqb (tripsOf book) 0) 0 d
   pub last : lastOutOf book′ ≡ lastOutOf book + cond (eqb (tripsOf book) 0) 0 d
   pub in-calendar : lastOutOf book′ ≤ lastMinute
