@@ -1,16 +1,13 @@
 -- Books the same in every word but the opening minute and the last check-out: a ride is charged the same on both, and leaves two such books.
 -- Assumes nothing.
-use Prim.Native.Nat.{ℕ, zero, suc, _+_, _*_, _%_, _/_, _≤_, _<_}
+use Prim.Native.Nat.{ℕ, _+_, _*_, _≤_, _<_}
 use native.Mathlib.Omega.{arith}
-use native.Mathlib.Decide.{ℕ-discrete, decLt}
+use native.Mathlib.Decide.{ℕ-discrete}
 use mathlib.Core.Path.{_≡_, refl, sym, _∙_}
-use mathlib.Core.Logic.{inl}
-use mathlib.Core.List.{List, [], _∷_}
+use mathlib.Core.List.{List}
 use mathlib.Core.Bool.{Bool, true, false}
-use lib.ListN.{length, getD, set, length-set}
-use lib.Seq.{getD-set-same}
-use Rattle.wire.specs.Number.{getLe, putLe}
-use Rattle.wire.proofs.Number.{byte-other}
+use lib.ListN.{length}
+use Rattle.wire.proofs.Number.{put-reads}
 use Rattle.tariff.specs.declared.Counts.{Counts}
 use Rattle.tariff.specs.Areas.{FaultlessTariff}
 use Rattle.fare.specs.declared.Ride.{Ride}
@@ -22,35 +19,6 @@ use Rattle.book.specs.Posting.{opened, posted}
 use Rattle.book.proofs.WordLaws.{size-put, word-put-other}
 use Rattle.book.proofs.AlikeBooks.{Alike, Touches, charges-alike as charges-by-words, posted-alike as posted-by-words}
 use Rattle.promises.specs.Moved.{SameWords}
-
--- nothing stands past the end
-past : (l : List ℕ) (i : ℕ) → length l ≤ i → getD l i 0 ≡ 0
-past [] i h = refl
-past (x ∷ xs) zero h = absurd (omega arith)
-past (x ∷ xs) (suc i) h = past xs i (omega arith)
-
--- What a number put reads back as goes by the byte string's length alone.
-put-reads : (k : ℕ) (b b′ : List ℕ) (p v : ℕ) → length b′ ≡ length b → getLe k (putLe k b′ p v) p ≡ getLe k (putLe k b p v) p
-unfolding getLe putLe
-put-reads zero b b′ p v same = refl
-put-reads (suc k) b b′ p v same =
-    let x = v % 256 in
-    let first : (l : List ℕ) → length l ≡ length b → getD (putLe k (set l p x) (p + 1) (v / 256)) p 0 ≡ getD (set b p x) p 0 =
-    λ l is. byte-other k (set l p x) (p + 1) (v / 256) p (inl (omega arith)) ∙ stored l is
-    in
-    let rest : getLe k (putLe k (set b′ p x) (p + 1) (v / 256)) (p + 1) ≡ getLe k (putLe k (set b p x) (p + 1) (v / 256)) (p + 1) =
-    put-reads k (set b p x) (set b′ p x) (p + 1) (v / 256) (length-set b′ p x ∙ same ∙ sym (length-set b p x))
-    in
-    omega (arith, first b′ same, first b refl, rest)
-  where
-    stored : (l : List ℕ) → length l ≡ length b → getD (set l p (v % 256)) p 0 ≡ getD (set b p (v % 256)) p 0
-    stored l is =
-        elim (decLt p (length b)) [
-          | yes within ↦ getD-set-same l p (v % 256) 0 (omega arith) ∙ sym (getD-set-same b p (v % 256) 0 within)
-          | no out ↦
-              past (set l p (v % 256)) p (omega (arith, length-set l p (v % 256)))
-              ∙ sym (past (set b p (v % 256)) p (omega (arith, length-set b p (v % 256))))
-        ]
 
 -- a word put in two books of one length leaves the words the same that were
 put-same :

@@ -54,6 +54,35 @@ read-other k b p v w q h =
     get-same w (putLe k b p v) b q
     (λ i from to. byte-other k b p v i (⊎-elim (λ l. inl (omega arith)) (λ r. inr (omega arith)) h))
 
+-- nothing stands past the end of a byte string
+past : (l : List ℕ) (i : ℕ) → length l ≤ i → getD l i 0 ≡ 0
+past [] i h = refl
+past (x ∷ xs) zero h = absurd (omega arith)
+past (x ∷ xs) (suc i) h = past xs i (omega arith)
+
+-- What a number put reads back as goes by the byte string's length alone.
+pub put-reads : (k : ℕ) (b b′ : List ℕ) (p v : ℕ) → length b′ ≡ length b → getLe k (putLe k b′ p v) p ≡ getLe k (putLe k b p v) p
+unfolding getLe putLe
+put-reads zero b b′ p v same = refl
+put-reads (suc k) b b′ p v same =
+    let x = v % 256 in
+    let first : (l : List ℕ) → length l ≡ length b → getD (putLe k (set l p x) (p + 1) (v / 256)) p 0 ≡ getD (set b p x) p 0 =
+    λ l is. byte-other k (set l p x) (p + 1) (v / 256) p (inl (omega arith)) ∙ stored l is
+    in
+    let rest : getLe k (putLe k (set b′ p x) (p + 1) (v / 256)) (p + 1) ≡ getLe k (putLe k (set b p x) (p + 1) (v / 256)) (p + 1) =
+    put-reads k (set b p x) (set b′ p x) (p + 1) (v / 256) (length-set b′ p x ∙ same ∙ sym (length-set b p x))
+    in
+    omega (arith, first b′ same, first b refl, rest)
+  where
+    stored : (l : List ℕ) → length l ≡ length b → getD (set l p (v % 256)) p 0 ≡ getD (set b p (v % 256)) p 0
+    stored l is =
+        elim (decLt p (length b)) [
+          | yes within ↦ getD-set-same l p (v % 256) 0 (omega arith) ∙ sym (getD-set-same b p (v % 256) 0 within)
+          | no out ↦
+              past (set l p (v % 256)) p (omega (arith, length-set l p (v % 256)))
+              ∙ sym (past (set b p (v % 256)) p (omega (arith, length-set b p (v % 256))))
+        ]
+
 -- a byte stored among bytes leaves them bytes
 bytes-set : (b : List ℕ) (p x : ℕ) → x < 256 → Bytes b → Bytes (set b p x)
 bytes-set b p x small bytes i =
