@@ -12,7 +12,7 @@ use Rattle.units.specs.declared.Cap.the-variants.{NoCap, UpTo}
 use Rattle.units.specs.Rounding.{hundredthsOf, raisedBy}
 use Rattle.units.proofs.Rounding.{hundredths-least, hundredths-not-below}
 use Rattle.caps.specs.Limits.{CapOrder, neither, both}
-use Rattle.caps.specs.Tree.{foldUp, among, IsTree, within}
+use Rattle.caps.specs.Tree.{IsTree, within}
 use Rattle.caps.proofs.Climb.{within-past}
 use Rattle.tariff.specs.declared.Area.{Area}
 use Rattle.tariff.specs.declared.Counts.{Counts}
@@ -62,5 +62,5 @@ module _ {tariff : List ℕ} {counts : Counts} (t : FaultlessTariff tariff count
 
   -- An area lies within what it lies within in the tree: three areas are enough for all levels.
   pub lies-within : (a x : ℕ) → a < counts .areas → liesWithin tariff counts a x ≡ within (treeOf tariff counts child) a x
-  unfolding liesWithin among foldUp
+  unfolding liesWithin
   lies-within a x h = within-past is-tree a x 2 h (is-tree .few-levels a h)

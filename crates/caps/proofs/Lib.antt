@@ -1,3 +1,4 @@
+pub mod Promise
 pub mod OneClass
 pub mod Window
 pub mod Children

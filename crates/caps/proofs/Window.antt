@@ -1,7 +1,6 @@
 -- The promises about every window of a rider: no charge above its price, no cap ever passed, no cut without a full cap.
 -- Assumes nothing.
 use Prim.Native.Nat.{ℕ, _≤_, _<_}
-use native.Mathlib.Omega.{arith}
 use mathlib.Core.Path.{_≡_, refl}
 use mathlib.Core.Bool.{true, _&&_, and-eq-true-iff}
 use mathlib.Core.List.{List, [], _∷_, _++_, List·Memᴰ, List·Memᴰ·head, List·Memᴰ·tail}
@@ -76,10 +75,6 @@ module _ {t : Tree} (tree : IsTree t) where
           → Fills (t .caps x) (e .class) (secondTotal t x es) (allTotal t x es) (e .charge) → CapFull t e (e ∷ es)
       full x h w (fills-all f) = all-full x h w (rw w f)
       full x h w (fills-second two f) = second-full x h w two (rw (eq-eqb (e .class) 2 two, w) f)
-
-  -- A ride with a price that is charged nothing has one of its caps exactly full.
-  pub no-free-ride : {e : ChargedRide} {es : List ChargedRide} → ChargedInTurn t (e ∷ es) → e .charge ≡ 0 → 0 < e .price → CapFull t e (e ∷ es)
-  no-free-ride r free price = cut-leaves-full r (omega arith)
 
   -- The state's all-classes total is the total of every charge.
   pub state-total : {es : List ChargedRide} → ChargedInTurn t es → allTotal t 0 es ≡ charges es

@@ -1,12 +1,12 @@
 -- A rider's rides in one window, the latest first, whatever their prices are, and what their charges add up to.
-use Prim.Native.Nat.{ℕ, zero, suc, _+_, _<_}
+use Prim.Native.Nat.{ℕ, zero, suc, _+_, _≤_, _<_}
 use mathlib.Core.Path.{_≡_}
-use mathlib.Core.List.{List, [], _∷_}
+use mathlib.Core.List.{List, [], _∷_, _++_, List·Memᴰ}
 use mathlib.Core.Bool.{Bool, true, cond, _&&_}
 use lib.Dec.{eqb, ltb}
 use Rattle.units.specs.Caps.{cappedBy}
 use Rattle.units.specs.declared.Cap.{Cap}
-use Rattle.caps.specs.Limits.{Full}
+use Rattle.caps.specs.Limits.{AtMost, Full}
 use Rattle.caps.specs.Tree.{Tree, within, chargeIn}
 
 -- a ride as far as caps see it
@@ -79,3 +79,16 @@ resultOf t class es (suc depth) x =
 -- the whole: the state's result, with regions below it and cities below them
 abbrev pub totalsAlone : Tree → ℕ → List ChargedRide → ℕ
 totalsAlone t class es = resultOf t class es 2 0
+
+-- ---- Promise 3.
+
+-- of one rider's rides in one window, the latest first, in the tree of areas with the rider's caps: no charge exceeds its price; no cap is
+-- passed; a charge below its price leaves one of that ride's caps exactly full, where `es` are the rides before it and `later` those after
+-- it; and rides of one class add up to what totals alone give
+pub record PromiseThree (t : Tree) (rides : List ChargedRide) : Type 0 where
+  pub at-most-prices : (e : ChargedRide) → List·Memᴰ e rides → e .charge ≤ e .price
+  pub caps-hold :
+      (x : ℕ) → x < t .size → AtMost (allTotal t x rides) (t .caps x .all) × AtMost (secondTotal t x rides) (t .caps x .second)
+  pub cut-at-full :
+      (later : List ChargedRide) (e : ChargedRide) (es : List ChargedRide) → rides ≡ later ++ e ∷ es → e .charge < e .price → CapFull t e (e ∷ es)
+  pub one-class-adds : (class : ℕ) → oneClass class rides ≡ true → charges rides ≡ totalsAlone t class rides

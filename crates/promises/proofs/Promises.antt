@@ -8,14 +8,13 @@
 -- Assumes nothing.
 use Prim.Native.Nat.{ℕ, _≤_, _<_}
 use native.Mathlib.Omega.{arith}
-use mathlib.Core.Path.{_≡_, subst, _∙_}
+use mathlib.Core.Path.{_≡_, _∙_}
 use mathlib.Core.Bool.{true, false}
 use mathlib.Core.List.{List, _∷_, _++_, List·Memᴰ}
 use Rattle.caps.specs.Limits.{AtMost}
 use Rattle.caps.specs.Tree.{Tree, IsTree}
 use Rattle.caps.specs.Rides.{
   ChargedRide,
-  ChargedInTurn,
   allTotal,
   secondTotal,
   charges,
@@ -23,9 +22,11 @@ use Rattle.caps.specs.Rides.{
   ownPrices,
   oneClass,
   totalsAlone,
+  PromiseThree,
 }
-use Rattle.caps.proofs.Window.{earlier, no-cap-passed, each-no-more-than-price, cut-leaves-full, no-free-ride as free-leaves-full, state-total}
-use Rattle.caps.proofs.OneClass.{one-class-total, order-free}
+use Rattle.caps.proofs.Promise.{promise-three as of-charged}
+use Rattle.caps.proofs.Window.{state-total}
+use Rattle.caps.proofs.OneClass.{order-free}
 use Rattle.tariff.specs.declared.Counts.{Counts}
 use Rattle.tariff.specs.Areas.{areaAt, Read}
 use Rattle.tariff.proofs.Faultless.{faultless}
@@ -35,7 +36,7 @@ use Rattle.book.specs.Caps.{secondCap, allCap, treeOf}
 use Rattle.book.specs.Charging.{isChild}
 use Rattle.book.proofs.Trees.{is-tree}
 use Rattle.settle.specs.Runs.{Offer}
-use Rattle.promises.specs.Runs.{bookOf, ridesOf, PromiseThree}
+use Rattle.promises.specs.Runs.{bookOf, ridesOf}
 use Rattle.promises.proofs.RunLaws.{Kept, kept}
 
 module _ (tariff : List ℕ) (counts : Counts) (read : Read tariff counts) (rider : ℕ) (known : rider < 21) where
@@ -54,13 +55,13 @@ module _ (tariff : List ℕ) (counts : Counts) (read : Read tariff counts) (ride
     run-kept : Kept tariff counts rider (bookOf tariff run) rides
     run-kept = kept tariff counts read rider known run
 
-    -- the rides up to any moment of the window
-    charged-up-to : (later es : List ChargedRide) → rides ≡ later ++ es → ChargedInTurn tree es
-    charged-up-to later es is = earlier later (subst (ChargedInTurn tree) is (run-kept .charged))
+    -- All of it in one; and each part by itself.
+    pub promise-three : PromiseThree tree rides
+    promise-three = of-charged tree-is (run-kept .charged)
 
     -- No charge exceeds its price.
     pub charges-at-most-prices : (e : ChargedRide) → List·Memᴰ e rides → e .charge ≤ e .price
-    charges-at-most-prices e m = each-no-more-than-price tree-is (run-kept .charged) m
+    charges-at-most-prices = promise-three .at-most-prices
 
     -- No cap is ever passed: in every area, the rider's charges of all classes are at most the all-classes cap, and those of second class
     -- at most the second-class cap, a child's where the rider is one.
@@ -68,34 +69,23 @@ module _ (tariff : List ℕ) (counts : Counts) (read : Read tariff counts) (ride
         (x : ℕ) → x < counts .areas
         → AtMost (allTotal tree x rides) (allCap (areaAt tariff counts x) (isChild rider))
         × AtMost (secondTotal tree x rides) (secondCap (areaAt tariff counts x) (isChild rider))
-    caps-never-passed x h = no-cap-passed tree-is (run-kept .charged) x h
+    caps-never-passed = promise-three .caps-hold
 
     -- A charge below its price leaves one of that ride's caps exactly full. `es` are the rides before it, `later` those after it.
     pub cut-only-at-a-full-cap :
         (later : List ChargedRide) (e : ChargedRide) (es : List ChargedRide) → rides ≡ later ++ e ∷ es → e .charge < e .price → CapFull tree e (e ∷ es)
-    cut-only-at-a-full-cap later e es is cut = cut-leaves-full tree-is (charged-up-to later (e ∷ es) is) cut
+    cut-only-at-a-full-cap = promise-three .cut-at-full
 
     -- No ride with a price is free while none of its caps is full: who charges the first trip and zero for the rest breaks this.
     pub no-free-ride :
         (later : List ChargedRide) (e : ChargedRide) (es : List ChargedRide) → rides ≡ later ++ e ∷ es → e .charge ≡ 0 → 0 < e .price
         → (CapFull tree e (e ∷ es) → ⊥) → ⊥
-    no-free-ride later e es is free price none-full =
-        none-full (free-leaves-full tree-is (charged-up-to later (e ∷ es) is) free price)
+    no-free-ride later e es is free price none-full = none-full (cut-only-at-a-full-cap later e es is (omega arith))
 
     -- Where all of a rider's rides in the window are of one class, the charges add up to what totals alone give: from the cities up, in each
     -- area the smaller of its cap and its own rides' prices with the results of the areas right below it.
     pub one-class-sum : (class : ℕ) → oneClass class rides ≡ true → charges rides ≡ totalsAlone tree class rides
-    one-class-sum class one = one-class-total tree-is class (run-kept .charged) one
-
-    -- All of it in one.
-    pub promise-three : PromiseThree tree rides
-    promise-three =
-        record {
-          at-most-prices = charges-at-most-prices;
-          caps-hold = caps-never-passed;
-          cut-at-full = cut-only-at-a-full-cap;
-          one-class-adds = one-class-sum;
-        }
+    one-class-sum = promise-three .one-class-adds
 
     -- The book's words for the rider are the totals of these charges, in every area.
     pub words-are-totals :

@@ -6,6 +6,7 @@ use mathlib.Core.Path.{_≡_, refl, ap}
 use mathlib.Core.Bool.{cond}
 use mathlib.Core.List.{List, [], _∷_, _++_}
 use lib.ListN.{take}
+use Rattle.caps.specs.Rides.{PromiseThree}
 use Rattle.tariff.specs.declared.Counts.{Counts}
 use Rattle.tariff.specs.Areas.{Read}
 use Rattle.book.specs.Words.{freshBook}
@@ -17,7 +18,7 @@ use Rattle.roll.specs.declared.Line.the-variants.{Refused}
 use Rattle.roll.specs.Lines.{offersOf, brokenIn, lineOf, linesIn, linesOf}
 use Rattle.roll.specs.Pieces.{joined, fedLines}
 use Rattle.roll.proofs.Pieces.{cut-same}
-use Rattle.promises.specs.Runs.{ridesOf, PromiseThree}
+use Rattle.promises.specs.Runs.{ridesOf}
 use Rattle.promises.proofs.Promises.{promise-three}
 
 -- the first lines of a run are those of its beginning

@@ -1,13 +1,10 @@
 -- A rider's rides in the window that is open at the end of a run, read off the parts that the trips were charged in. Every window of a
 -- longer run is the window open at the end of one of its beginnings.
-use Prim.Native.Nat.{ℕ, _≤_, _<_}
-use mathlib.Core.Path.{_≡_}
-use mathlib.Core.List.{List, [], _∷_, _++_, List·Memᴰ}
-use mathlib.Core.Bool.{true, cond}
+use Prim.Native.Nat.{ℕ}
+use mathlib.Core.List.{List, [], _∷_}
+use mathlib.Core.Bool.{cond}
 use lib.ListN.{getD}
-use Rattle.caps.specs.Limits.{AtMost}
-use Rattle.caps.specs.Tree.{Tree}
-use Rattle.caps.specs.Rides.{ChargedRide, allTotal, secondTotal, CapFull, oneClass, charges, totalsAlone}
+use Rattle.caps.specs.Rides.{ChargedRide}
 use Rattle.tariff.specs.declared.Counts.{Counts}
 use Rattle.tariff.specs.Areas.{areaAt}
 use Rattle.trip.specs.Moments.{checkoutOf}
@@ -58,16 +55,3 @@ bookOf tariff run = bookFrom tariff freshBook run
 -- a rider's rides in the window that is open at its end, the latest first
 abbrev pub ridesOf : List ℕ → Counts → ℕ → List Offer → List ChargedRide
 ridesOf tariff counts rider run = ridesOver tariff counts rider (runFrom tariff freshBook run) []
-
--- ---- Promise 3.
-
--- of one rider's rides in one window, the latest first, in the tree of areas with the rider's caps: no charge exceeds its price; no cap is
--- passed; a charge below its price leaves one of that ride's caps exactly full, where `es` are the rides before it and `later` those after
--- it; and rides of one class add up to what totals alone give
-pub record PromiseThree (t : Tree) (rides : List ChargedRide) : Type 0 where
-  pub at-most-prices : (e : ChargedRide) → List·Memᴰ e rides → e .charge ≤ e .price
-  pub caps-hold :
-      (x : ℕ) → x < t .size → AtMost (allTotal t x rides) (t .caps x .all) × AtMost (secondTotal t x rides) (t .caps x .second)
-  pub cut-at-full :
-      (later : List ChargedRide) (e : ChargedRide) (es : List ChargedRide) → rides ≡ later ++ e ∷ es → e .charge < e .price → CapFull t e (e ∷ es)
-  pub one-class-adds : (class : ℕ) → oneClass class rides ≡ true → charges rides ≡ totalsAlone t class rides

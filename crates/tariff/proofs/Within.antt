@@ -8,6 +8,7 @@ use mathlib.Core.Bool.{Bool, true, false, _||_, false≢true}
 use mathlib.Core.List.{List}
 use borrow.Author.Tests.{eqb-true, eq-eqb}
 use lib.Dec.{eqb}
+use Rattle.caps.specs.Tree.{foldUp, among}
 use Rattle.tariff.specs.declared.Counts.{Counts}
 use Rattle.tariff.specs.Rules.{levelOf, flatOf}
 use Rattle.tariff.specs.Areas.{areaOf, areaAt, parentOf, liesWithin, smallestOf, Smallest, AreaRank, state, region, city, FaultlessTariff}
@@ -30,21 +31,21 @@ module _ (b : List ℕ) (counts : Counts) (a : ℕ) where
 -- An area lies within itself, within its parent, and within its parent's parent; and within no other.
 module _ (b : List ℕ) (counts : Counts) (a c : ℕ) where
   pub within-self : a ≡ c → liesWithin b counts a c ≡ true
-  unfolding liesWithin
+  unfolding liesWithin among foldUp
   within-self e = rw (eq-eqb a c e)
 
   pub within-parent : parentOf b counts a ≡ c → liesWithin b counts a c ≡ true
-  unfolding liesWithin
+  unfolding liesWithin among foldUp
   within-parent e = second-holds (eqb a c) (eqb (parentOf b counts a) c) _ (eq-eqb (parentOf b counts a) c e)
 
   pub within-top : parentOf b counts (parentOf b counts a) ≡ c → liesWithin b counts a c ≡ true
-  unfolding liesWithin
+  unfolding liesWithin among foldUp
   within-top e =
       third-holds (eqb a c) (eqb (parentOf b counts a) c) (eqb (parentOf b counts (parentOf b counts a)) c) (eq-eqb (parentOf b counts (parentOf b counts a)) c e)
 
   pub within-cases {ℓ} :
       {P : Type ℓ} → liesWithin b counts a c ≡ true → (a ≡ c → P) → (parentOf b counts a ≡ c → P) → (parentOf b counts (parentOf b counts a) ≡ c → P) → P
-  unfolding liesWithin
+  unfolding liesWithin among foldUp
   within-cases e self parent top =
       one-of-three (eqb a c) (eqb (parentOf b counts a) c) (eqb (parentOf b counts (parentOf b counts a)) c) e
       (λ is. self (eqb-true a c is)) (λ is. parent (eqb-true (parentOf b counts a) c is))
@@ -57,7 +58,7 @@ within-refl b counts a = within-self b counts a a refl
 pub within-found :
     (b : List ℕ) (counts : Counts) (inner outer above top : ℕ) → above ≡ parentOf b counts inner → top ≡ parentOf b counts above
     → eqb inner outer || eqb above outer || eqb top outer ≡ liesWithin b counts inner outer
-unfolding liesWithin
+unfolding liesWithin among foldUp
 within-found b counts inner outer above top e e′ = rw (e′, e)
 
 -- What the rank of an area says of the area above it: the state is its own parent, any other parent is earlier, and one level up.

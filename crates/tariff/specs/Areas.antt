@@ -2,11 +2,12 @@
 use Prim.Native.Nat.{ℕ, _≤_, _<_}
 use mathlib.Core.Path.{_≡_}
 use mathlib.Core.List.{List}
-use mathlib.Core.Bool.{Bool, true, cond, _||_}
+use mathlib.Core.Bool.{Bool, true, cond}
 use lib.ListN.{length}
 use lib.Dec.{eqb}
 use Rattle.units.specs.declared.Cap.{Cap}
 use Rattle.units.specs.declared.Cap.the-variants as day
+use Rattle.caps.specs.Tree.{among}
 use Rattle.tariff.specs.declared.fields.AreaFields.{AreaFields}
 use Rattle.tariff.specs.declared.TripCap.{TripCap}
 use Rattle.tariff.specs.declared.TripCap.the-variants as trip
@@ -68,8 +69,7 @@ parentOf b counts number = areaFields b (areaPlace counts number) .parent
 
 -- an area lies within itself, within the area above it, and within the area above that: there are three levels
 unfoldable pub liesWithin : List ℕ → Counts → ℕ → ℕ → Bool
-liesWithin b counts inner outer =
-    eqb inner outer || eqb (parentOf b counts inner) outer || eqb (parentOf b counts (parentOf b counts inner)) outer
+liesWithin b counts inner outer = among (parentOf b counts) 2 inner outer
 
 -- of two areas: the first of the one, the area above it and the area above that within which the other lies too
 unfoldable pub smallestOf : List ℕ → Counts → ℕ → ℕ → ℕ
