@@ -1,4 +1,4 @@
--- Paper 01, "Windows and charges": an area's caps, and the tree of areas that they hold in.
+-- Rules, section 10: an area's caps, and the tree of areas that they hold in.
 use Prim.Native.Nat.{ℕ}
 use mathlib.Core.List.{List}
 use mathlib.Core.Bool.{Bool}

@@ -1,4 +1,4 @@
--- Paper 01, "Windows and charges": what each of a party is charged.
+-- Rules, sections 10 and 11: what each of a party is charged.
 -- w stands for the words that count: the book's own in the open window, a fresh book's in the next (Windows: inWindow).
 use Prim.Native.Nat.{ℕ, zero, suc, _+_, _-_}
 use mathlib.Core.List.{List, [], _∷_, _++_}

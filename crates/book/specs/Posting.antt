@@ -1,4 +1,4 @@
--- Paper 01, "Windows and charges": what a ride leaves in the book.
+-- Rules, sections 9 to 11: what a ride leaves in the book.
 use Prim.Native.Nat.{ℕ, zero, suc, _+_}
 use mathlib.Core.List.{List}
 use mathlib.Core.Bool.{false, cond}

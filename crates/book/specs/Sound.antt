@@ -1,4 +1,4 @@
--- Paper 01, "The book": when a book is sound.
+-- Rules, section 12: when a book is sound.
 use Prim.Native.Nat.{ℕ, _+_, _*_}
 use mathlib.Core.List.{List}
 use mathlib.Core.Bool.{Bool, cond, _&&_}

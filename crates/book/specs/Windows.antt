@@ -1,4 +1,4 @@
--- Paper 01, "Windows and charges": which window a trip falls into.
+-- Rules, section 9: which window a trip falls into.
 use Prim.Native.Nat.{ℕ, _+_}
 use mathlib.Core.List.{List}
 use mathlib.Core.Bool.{Bool, cond, not, _&&_}

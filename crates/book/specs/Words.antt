@@ -1,4 +1,4 @@
--- Paper 01, "The book": 5,428 bytes, 1,357 little-endian words of 4 bytes.
+-- Rules, section 12: 5,428 bytes, 1,357 little-endian words of 4 bytes.
 use Prim.Native.Nat.{ℕ, _+_, _*_}
 use mathlib.Core.List.{List}
 use lib.ListN.{replicate}

@@ -1,4 +1,4 @@
--- Paper 01, "Windows and charges": an area's caps, and what they have left over the sums that count for them.
+-- Rules, section 10: an area's caps, and what they have left over the sums that count for them.
 use Prim.Native.Nat.{ℕ, _-_, _≤_}
 use mathlib.Core.Path.{_≡_}
 use mathlib.Core.Bool.{cond}

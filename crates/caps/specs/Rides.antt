@@ -1,4 +1,4 @@
--- A rider's rides in one window, the latest first, whatever their prices are, and what their charges add up to.
+-- Rules, sections 10 and 17: a rider's rides in one window, the latest first, whatever their prices are, and what their charges add up to.
 use Prim.Native.Nat.{ℕ, zero, suc, _+_, _≤_, _<_}
 use mathlib.Core.Path.{_≡_}
 use mathlib.Core.List.{List, [], _∷_, _++_, List·Memᴰ}
