@@ -1,4 +1,4 @@
--- Each row of the table in the paper's words; and what each outcome says: a refusal that its condition is the first to hold, an acceptance
+-- Each row of the table in the rules' words; and what each outcome says: a refusal that its condition is the first to hold, an acceptance
 -- that none does.
 -- Assumes nothing.
 use Prim.Native.Nat.{ℕ, _+_, _<_}
@@ -34,7 +34,7 @@ use Rattle.settle.proofs.Rows as table
 use Rattle.settle.proofs.Ways.{refused-first, clear-first, fault-way, refused-way, accepted-way}
 use Rattle.promises.specs.Conditions.{countsOf, TooEarly, condition, RefusedBy, by-tariff, by-others, AcceptedBy}
 
--- ---- The rows in the paper's words.
+-- ---- The rows in the rules' words.
 
 -- a test that is negated
 negated : (t : Bool) {says : Type 0} → (t ≡ false ↔ says) → not t ≡ true ↔ says

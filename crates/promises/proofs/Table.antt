@@ -1,4 +1,4 @@
--- Paper 01, "Sums to check": the starred cases, computed with the definitions that `settled` uses. A whole book is too large to compute
+-- docs/RULES.md, section 18: the starred cases, computed with the definitions that `settled` uses. A whole book is too large to compute
 -- with; but the holder's rides in the sample's seven areas go by the book's first 17 words alone.
 -- Assumes nothing.
 use Prim.Native.Nat.{ℕ, zero, suc, _+_, _*_, _<_}
@@ -183,6 +183,6 @@ unfolding everyHolds holds cases sample sampleArea areaBytes areasBytes rideIn c
     addHere addUp addList coverBicycles opened posted
 computed = refl
 
--- Every starred sum of the paper comes out, its rides charged one after another from a fresh book on.
+-- Every starred sum comes out, its rides charged one after another from a fresh book on.
 pub table : everyHolds freshBook cases ≡ true
 table = cases-start cases cases-alone first-words ∙ computed

@@ -1,4 +1,4 @@
--- Paper 01, "Sums to check": the starred cases, as one table.
+-- docs/RULES.md, section 18: the starred sums, as one table.
 use Prim.Native.Nat.{ℕ}
 use mathlib.Core.List.{List, [], _∷_, _++_}
 use mathlib.Core.Bool.{Bool, true, false, _&&_}
@@ -119,7 +119,7 @@ pub data Case : Type 0 where
 abbrev pub stamp : ℕ → ℕ → ℕ → ℕ → ℕ → Stamp
 stamp year month day hour minute = record { year = year; month = month; day = day; hour = hour; minute = minute }
 
--- the starred cases of the paper, in its order; ticket level 3 is B
+-- the starred sums, in their order; ticket level 3 is B
 unfoldable pub cases : List Case
 cases =
     areas 7

@@ -1,4 +1,4 @@
--- Paper 01, "What comes back": the twelve conditions, in the paper's words and order; and what a refusal and an acceptance say.
+-- docs/RULES.md, section 13: the twelve conditions, in the rules' words and order; and what a refusal and an acceptance say.
 use Prim.Native.Nat.{ℕ, _+_, _-_, _<_}
 use mathlib.Core.Path.{_≡_}
 use mathlib.Core.List.{List}

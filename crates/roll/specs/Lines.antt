@@ -1,4 +1,4 @@
--- Paper 01, "The program": the records of a roll, and what their lines say.
+-- docs/RULES.md, section 16: the records of a roll, and what their lines say.
 use Prim.Native.Nat.{ℕ, zero, suc, _+_}
 use mathlib.Core.List.{List, [], _∷_, _++_}
 use mathlib.Core.Bool.{Bool, true, false, cond}

@@ -1,4 +1,4 @@
--- Paper 01, "What comes back": the one outcome of settling a trip. 1 to 3 are the tariff's; 4 to 12 stand in the table of `Refusals`.
+-- docs/RULES.md, section 14: the one outcome of settling a trip. 1 to 3 are the tariff's; 4 to 12 stand in the table of `Refusals`.
 use Prim.Native.Nat.{ℕ, _+_, _*_, _^_}
 use mathlib.Core.Path.{_≡_}
 use mathlib.Core.List.{List, [], _∷_, _++_}

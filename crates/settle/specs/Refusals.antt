@@ -1,4 +1,4 @@
--- Paper 01, "What comes back": the refusals 4 to 12 as a table. A row is a refusal and its test; the first row whose test holds decides.
+-- docs/RULES.md, section 13: the refusals 4 to 12 as a table. A row is a refusal and its test; the first row whose test holds decides.
 -- Each test is a function of the bytes alone, so that a row stands by itself and rows can change places.
 use Prim.Native.Nat.{ℕ, _+_}
 use mathlib.Core.Path.{_≡_}
@@ -25,7 +25,7 @@ use Rattle.settle.specs.declared.refusals.Refusal.the-variants.{
   NoRoom,
 }
 
--- the paper's numbers
+-- their numbers
 abbrev pub refusal : Refusal → ℕ
 refusal UnsoundBook = 4
 refusal NoTrip = 5

@@ -1,4 +1,4 @@
--- Paper 01, "Kind 4, charge": window's opening minute 4, area 1, km 2, minutes 2, then m charges of 4: account holder, adults, children,
+-- docs/RULES.md, section 15, and docs/FORMAT.md, kind 4: window's opening minute 4, area 1, km 2, minutes 2, then m charges of 4: account holder, adults, children,
 -- bicycles. A statement is charge records one after another.
 use Prim.Native.Nat.{ℕ, _+_, _*_, _^_, _≤_, _<_}
 use mathlib.Core.List.{List, [], _∷_, _++_}

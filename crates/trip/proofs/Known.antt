@@ -41,7 +41,7 @@ module _ (b : List ℕ) (known : ℕ) where
   known-at n =
       (λ e i h. ltb-true (stopNumber b i) known (each-at n _ e i h), λ all. each-all n _ (λ i h. lt-ltb (stopNumber b i) known (all i h)))
 
-  -- 7 in the paper's words.
+  -- 7 in the rules' words.
   pub seven : (n : ℕ) → stopsKnown b n known ≡ false ↔ LackingStop b n known
   unfolding stopsKnown
   seven n = (

@@ -1,4 +1,4 @@
--- What the tests of a party and of two moments say, in the paper's words, and that the words are enough.
+-- What the tests of a party and of two moments say, in the rules' words, and that the words are enough.
 -- Assumes nothing.
 use Prim.Native.Nat.{ℕ, _+_, _≤_, _<_}
 use native.Mathlib.Omega.{arith}
@@ -70,7 +70,7 @@ ranges-right class level p n r =
 at-most : {A : Type 0} (n most : ℕ) → (most < n → A) → (n ≤ most → A) → A
 at-most n most above within = elim (decLt most n) [ yes h ↦ above h | no h ↦ within (omega arith) ]
 
--- 6 in the paper's words.
+-- 6 in the rules' words.
 pub six : (class level : ℕ) (party : Party) (n : ℕ) → partyRight class level party n ≡ false ↔ WrongParty class level party n
 six class level party n =
     (λ e. wrong (λ r. false≢true (sym e ∙ ranges-right class level party n r)), λ w. go (partyRight class level party n) refl w)
@@ -106,7 +106,7 @@ six class level party n =
 pub in-order : (from to : ℕ) → inOrder from to ≡ true → (from ≤ to) × (to ≤ from + dayMinutes)
 in-order from to e = search told
 
--- 9 in the paper's words.
+-- 9 in the rules' words.
 pub nine : (from to : ℕ) → inOrder from to ≡ false ↔ WrongOrder from to
 nine from to = (
   λ e.

@@ -1,4 +1,4 @@
--- A trip record at a place, case by case: each way through `shapeAt`; and 5, in the paper's words: the slice is no trip exactly when one
+-- A trip record at a place, case by case: each way through `shapeAt`; and 5, in the rules' words: the slice is no trip exactly when one
 -- of them says so.
 -- Assumes nothing.
 use Prim.Native.Nat.{ℕ, _+_, _≤_, _<_}
@@ -179,7 +179,7 @@ module _ (bytes : List ℕ) where
       go true is e′ = absurd (let z : _≡_ {A = ℕ} 0 1 = cc in omega arith)
       go false is e′ = is
 
-  -- 5 in the paper's words.
+  -- 5 in the rules' words.
   pub five : isTrip bytes ≡ false ↔ NoTrip bytes
   five = (there (shapeAt bytes 0) refl, back)
     where

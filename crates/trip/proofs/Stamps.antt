@@ -1,4 +1,4 @@
--- The moment of the stamp at a place, and a trip's two: each way through `momentAt` and `timesOf`; and 8, in the paper's words.
+-- The moment of the stamp at a place, and a trip's two: each way through `momentAt` and `timesOf`; and 8, in the rules' words.
 -- Assumes nothing.
 use Prim.Native.Nat.{ℕ, _+_, _≤_}
 use native.Mathlib.Omega.{arith}
@@ -72,7 +72,7 @@ module _ (b : List ℕ) (at : ℕ) where
 -- ---- 8: both stamps are right.
 
 module _ (trip : List ℕ) where
-  -- 8 in the paper's words.
+  -- 8 in the rules' words.
   pub eight : stampsRight trip ≡ false ↔ WrongStamp trip
   unfolding stampsRight
   eight = (go (isStamp (stampAt trip checkinPlace)) refl, back)

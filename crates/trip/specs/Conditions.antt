@@ -1,4 +1,4 @@
--- Paper 01, "What comes back": the conditions 5 to 9, in the paper's words and order.
+-- docs/RULES.md, section 13: the conditions 5 to 9, in the rules' words and order.
 use Prim.Native.Nat.{ℕ, _+_, _≤_, _<_}
 use mathlib.Core.Path.{_≡_}
 use mathlib.Core.List.{List}

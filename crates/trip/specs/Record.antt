@@ -1,4 +1,4 @@
--- Paper 01, "Records", kind 3: check-in 6, check-out 6, class 1, ticket level 1, adults, children and bicycles carried 1 each, n 1,
+-- docs/RULES.md, section 5, and docs/FORMAT.md, kind 3: check-in 6, check-out 6, class 1, ticket level 1, adults, children and bicycles carried 1 each, n 1,
 -- then n stops of 2 bytes, first to last. Two bytes of length and two of kind stand before.
 use Prim.Native.Nat.{ℕ, _+_, _*_}
 use mathlib.Core.List.{List}

@@ -1,4 +1,4 @@
--- Paper 01, "What comes back", 5 to 9: for each a test of the bytes that says it is clear. And the trip's fields, which are what they say
+-- docs/RULES.md, section 13, 5 to 9: for each a test of the bytes that says it is clear. And the trip's fields, which are what they say
 -- where all five are clear.
 use Prim.Native.Nat.{ℕ, _+_}
 use mathlib.Core.List.{List}
