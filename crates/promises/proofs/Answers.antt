@@ -58,9 +58,9 @@ use Rattle.promises.proofs.Refusing.{first-exactly, none-exactly, count
 -- where no row holds: the book is sound, the trip good and on time, its window not full, and there is room for the record
 pub clear :
     {tariff book bytes : List ℕ} {room : ℕ} {new : List ℕ} {parts : List Part} (a : AcceptedBy tariff book bytes room new parts)
-    → NoneHolds (a .counts) book bytes room
+    → NoneHolds tariff (a .counts) book bytes room
 clear {tariff} {book} {bytes} {room} a =
-    no-row (a .counts) book bytes room (none-exactly (a .counts) book bytes room .1 (a .none))
+    no-row tariff (a .counts) book bytes room (none-exactly tariff (a .counts) book bytes room .1 (a .none))
 
 -- its ride, and its window
 pub charged-ride :
@@ -187,7 +187,7 @@ module _ (tariff book bytes : List ℕ) (room : ℕ) where
       met : {n place : ℕ} → RefusedBy tariff book bytes room n place → ⊥
       met {n} {place} (by-tariff soFar found says) = no-fault-says n place soFar (found .passed) says
       met (by-others counts read why is at first) =
-          none .none-of-table why (rw (counts-are tariff counts read) (first-holds (condition counts book bytes room) (rows counts book bytes room) first))
+          none .none-of-table why (rw (counts-are tariff counts read) (first-holds (condition tariff counts book bytes room) (rows tariff counts book bytes room) first))
 
       go : (o : Outcome) → settled tariff book bytes room ≡ o
           → (new : List ℕ) × (parts : List Part) × (settled tariff book bytes room ≡ accepted new parts)
@@ -221,7 +221,7 @@ module _ (tariff book bytes : List ℕ) (room : ℕ) where
       back : AcceptedBy tariff book bytes room new parts → settled tariff book bytes room ≡ accepted new parts
       back a =
           accepted-way tariff book bytes room (a .counts) (a .read) _ _
-          (clear-first (a .counts) book bytes room (none-exactly (a .counts) book bytes room .1 (a .none)))
+          (clear-first tariff (a .counts) book bytes room (none-exactly tariff (a .counts) book bytes room .1 (a .none)))
           ∙ rw (a .new-is, a .parts-is)
 
   -- A trip is accepted exactly when none of the twelve conditions holds.
@@ -240,7 +240,7 @@ module _ (tariff book bytes : List ℕ) (room : ℕ) where
       back (by-others counts read why is at first) =
           rw (is, at)
           (refused-way tariff book bytes room counts read
-          (refused-first counts book bytes room (first-exactly counts book bytes room why .1 first)))
+          (refused-first tariff counts book bytes room (first-exactly tariff counts book bytes room why .1 first)))
 
   -- A refusal's number is 1 to the table's last; its place is at most 13,928, the length of the longest tariff, and 0 for 4 to 12.
   pub refused-number :
@@ -250,7 +250,7 @@ module _ (tariff book bytes : List ℕ) (room : ℕ) where
       met : RefusedBy tariff book bytes room n place → (1 ≤ n) × (n ≤ lastRefusal) × (place ≤ longestTariff) × (4 ≤ n → place ≡ 0)
       met (by-others counts read why is at first) =
           let (low, high) =
-          first-range (rows counts book bytes room) (rows-range counts book bytes room) (first-exactly counts book bytes room why .1 first)
+          first-range (rows tariff counts book bytes room) (rows-range tariff counts book bytes room) (first-exactly tariff counts book bytes room why .1 first)
           in
           rw is (omega arith, high, omega (arith, at), λ _. at)
       met (by-tariff soFar found says) =

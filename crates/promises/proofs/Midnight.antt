@@ -93,18 +93,18 @@ module _ (tariff : List ℕ) (room d : ℕ) {book bytes book′ bytes′ : List 
 
   -- the two tables are one, so what is found first is
   by-table :
-      (counts : Counts) → Read tariff counts → (f : Found) → firstOf (rows counts book bytes room) ≡ f
-      → firstOf (rows counts book′ bytes′ room) ≡ f → MovedOutcome d (settled tariff book bytes room) (settled tariff book′ bytes′ room)
+      (counts : Counts) → Read tariff counts → (f : Found) → firstOf (rows tariff counts book bytes room) ≡ f
+      → firstOf (rows tariff counts book′ bytes′ room) ≡ f → MovedOutcome d (settled tariff book bytes room) (settled tariff book′ bytes′ room)
   unfolding acceptedTrip
   by-table counts read (found why) e e′ =
       rw (
-        refused-way tariff book bytes room counts read (refused-first counts book bytes room e),
-        refused-way tariff book′ bytes′ room counts read (refused-first counts book′ bytes′ room e′),
+        refused-way tariff book bytes room counts read (refused-first tariff counts book bytes room e),
+        refused-way tariff book′ bytes′ room counts read (refused-first tariff counts book′ bytes′ room e′),
       )
       (both-refused (refusal why) 0)
   by-table counts read nothing e e′ =
-      both-taken (accepted-way tariff book bytes room counts read _ _ (clear-first counts book bytes room e))
-      (accepted-way tariff book′ bytes′ room counts read _ _ (clear-first counts book′ bytes′ room e′))
+      both-taken (accepted-way tariff book bytes room counts read _ _ (clear-first tariff counts book bytes room e))
+      (accepted-way tariff book′ bytes′ room counts read _ _ (clear-first tariff counts book′ bytes′ room e′))
 
   -- Windows do not look at dates. Where a trip's stamps, and with them the opening and the last check-out of the book, are moved by one number
   -- of minutes, over midnight, a month's end or a year's end, the outcome is the same but for the opening: the same refusal; or the same area,
@@ -116,7 +116,7 @@ module _ (tariff : List ℕ) (room d : ℕ) {book bytes book′ bytes′ : List 
       go (Fault n place) e =
           rw (fault-way tariff book bytes room n place e, fault-way tariff book′ bytes′ room n place e) (both-refused n place)
       go (Faultless counts) e =
-          by-table counts e (firstOf (rows counts book bytes room)) refl (ap firstOf (rows-same s counts room))
+          by-table counts e (firstOf (rows tariff counts book bytes room)) refl (ap firstOf (rows-same s tariff counts room))
 
 -- the same of a trip offered with room for its record
 offer-moved :

@@ -8,6 +8,7 @@ use mathlib.Core.Logic.{_↔_}
 use mathlib.Core.List.{List}
 use mathlib.Core.Bool.{Bool, true, false, not, _&&_, false≢true}
 use borrow.Author.Tests.{ltb-true, lt-ltb, eqb-false, ne-eqb}
+use lib.ListN.{length}
 use lib.Dec.{eqb, ltb}
 use Rattle.tariff.specs.declared.Counts.{Counts}
 use Rattle.tariff.specs.declared.Reading.{Reading}
@@ -24,9 +25,11 @@ use Rattle.trip.proofs.Stamps.{eight}
 use Rattle.book.specs.Words.{tripsOf, lastOutOf}
 use Rattle.book.specs.Sound.{sound}
 use Rattle.book.specs.Windows.{tooEarly, windowOf}
-use Rattle.statement.specs.Record.{Part, recordSize}
+use Rattle.trip.specs.Trips.{tripOf}
+use Rattle.statement.specs.Record.{Part, statementSize}
 use Rattle.settle.specs.declared.refusals.Refusal.{Refusal}
 use Rattle.settle.specs.declared.refusals.Refusal.the-variants as why
+use Rattle.settle.specs.Rides.{ridesOf}
 use Rattle.settle.specs.Refusals.{refusal, rows, Found, nothing, found, firstOf, testOf, First}
 use Rattle.settle.specs.Outcome.{Outcome, refused, accepted, acceptedTrip, settled}
 use Rattle.settle.proofs.Rows.{rows-distinct}
@@ -54,9 +57,9 @@ ten book checkin =
     go true is e = absurd (false≢true e)
     go false is e = record { in-use = eqb-false (tripsOf book) 0 is; early = ltb-true checkin (lastOutOf book) e }
 
-module _ (counts : Counts) (book trip : List ℕ) (room : ℕ) where
+module _ (tariff : List ℕ) (counts : Counts) (book trip : List ℕ) (room : ℕ) where
   -- Each row's test holds exactly when its condition does.
-  pub words : (r : Refusal) → testOf r (rows counts book trip room) ≡ true ↔ condition counts book trip room r
+  pub words : (r : Refusal) → testOf r (rows tariff counts book trip room) ≡ true ↔ condition tariff counts book trip room r
   unfolding rows testOf condition
   words why.UnsoundBook = negated (sound book (counts .areas)) (λ e. e, λ e. e)
   words why.NoTrip = negated _ (five trip)
@@ -65,17 +68,17 @@ module _ (counts : Counts) (book trip : List ℕ) (room : ℕ) where
   words why.WrongStamp = negated _ (eight trip)
   words why.WrongOrder = negated _ (nine (checkinOf trip) (checkoutOf trip))
   words why.TooEarly = ten book (checkinOf trip)
-  words why.FullWindow = below 256 (windowOf book (checkinOf trip) (checkoutOf trip) .trips + 1)
-  words why.NoRoom = below room (recordSize (partyAt trip 0))
+  words why.FullWindow = below 256 (windowOf book (checkinOf trip) (checkoutOf trip) .trips + length (ridesOf tariff counts trip (tripOf trip)))
+  words why.NoRoom = below room (statementSize (ridesOf tariff counts trip (tripOf trip)))
 
   -- So a refusal is found exactly when its condition is the first of the table to hold, and none where none holds.
   pub first-exactly :
       (r : Refusal)
-      → firstOf (rows counts book trip room) ≡ found r ↔ First (condition counts book trip room) r (rows counts book trip room)
-  first-exactly = table.first-exactly (condition counts book trip room) (rows counts book trip room) (rows-distinct counts book trip room) words
+      → firstOf (rows tariff counts book trip room) ≡ found r ↔ First (condition tariff counts book trip room) r (rows tariff counts book trip room)
+  first-exactly = table.first-exactly (condition tariff counts book trip room) (rows tariff counts book trip room) (rows-distinct tariff counts book trip room) words
 
-  pub none-exactly : firstOf (rows counts book trip room) ≡ nothing ↔ ((r : Refusal) → condition counts book trip room r → ⊥)
-  none-exactly = table.none-exactly (condition counts book trip room) (rows counts book trip room) (rows-distinct counts book trip room) words
+  pub none-exactly : firstOf (rows tariff counts book trip room) ≡ nothing ↔ ((r : Refusal) → condition tariff counts book trip room r → ⊥)
+  none-exactly = table.none-exactly (condition tariff counts book trip room) (rows tariff counts book trip room) (rows-distinct tariff counts book trip room) words
 
 -- ---- The outcomes.
 
@@ -97,16 +100,16 @@ pub data Answered (tariff book bytes : List ℕ) (room : ℕ) : Outcome → Type
 
 module _ (tariff book bytes : List ℕ) (room : ℕ) where
   by-table :
-      (counts : Counts) → Read tariff counts → (f : Found) → firstOf (rows counts book bytes room) ≡ f
+      (counts : Counts) → Read tariff counts → (f : Found) → firstOf (rows tariff counts book bytes room) ≡ f
       → Answered tariff book bytes room (settled tariff book bytes room)
   unfolding acceptedTrip
   by-table counts read (found r) e =
-      rw (refused-way tariff book bytes room counts read (refused-first counts book bytes room e))
-      (refusing (by-others counts read r refl refl (first-exactly counts book bytes room r .0 e)))
+      rw (refused-way tariff book bytes room counts read (refused-first tariff counts book bytes room e))
+      (refusing (by-others counts read r refl refl (first-exactly tariff counts book bytes room r .0 e)))
   by-table counts read nothing e =
-      rw (accepted-way tariff book bytes room counts read _ _ (clear-first counts book bytes room e))
+      rw (accepted-way tariff book bytes room counts read _ _ (clear-first tariff counts book bytes room e))
       (accepting
-      (record { counts = counts; read = read; none = none-exactly counts book bytes room .0 e; new-is = refl; parts-is = refl }))
+      (record { counts = counts; read = read; none = none-exactly tariff counts book bytes room .0 e; new-is = refl; parts-is = refl }))
 
   -- Every outcome says what it means.
   pub answered : Answered tariff book bytes room (settled tariff book bytes room)
@@ -117,4 +120,4 @@ module _ (tariff book bytes : List ℕ) (room : ℕ) where
           let (soFar, found-there) = first-fault tariff n place e in
           rw (fault-way tariff book bytes room n place e)
           (refusing (by-tariff soFar found-there (fault-says tariff n place soFar found-there)))
-      go (Faultless counts) e = by-table counts e (firstOf (rows counts book bytes room)) refl
+      go (Faultless counts) e = by-table counts e (firstOf (rows tariff counts book bytes room)) refl

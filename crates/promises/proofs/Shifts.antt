@@ -22,7 +22,7 @@ use Rattle.tariff.specs.Areas.{smallestOf}
 use Rattle.tariff.proofs.Faultless.{faultless, read-one}
 use Rattle.trip.specs.Record.{countAt, classAt, levelAt, partyAt, stopNumber}
 use Rattle.trip.specs.Moments.{checkinOf, checkoutOf}
-use Rattle.trip.specs.Trips.{stopsKnown, stampsRight, inOrder}
+use Rattle.trip.specs.Trips.{stopsKnown, stampsRight, inOrder, tripOf}
 use Rattle.trip.proofs.Shapes.{trip-same}
 use Rattle.fare.specs.Rides.{stopOf, areaOfStops, rideOf}
 use Rattle.book.specs.Words.{bookSize, word, tripsOf, openingOf, lastOutOf, coverWord}
@@ -34,6 +34,7 @@ use Rattle.book.proofs.SoundAgain.{window-room}
 use Rattle.statement.specs.Record.{Part}
 use Rattle.settle.specs.Refusals.{rows}
 use Rattle.settle.specs.Outcome.{partOf}
+use Rattle.settle.proofs.Rides.{one-ride as ride-count, one-size as ride-size}
 use Rattle.promises.specs.Conditions.{tripRide, tripWindow, AcceptedBy}
 use Rattle.promises.specs.Moved.{SameTrip, SameWords, MovedBook, MovedParts, one-part, no-part}
 use Rattle.promises.proofs.Answers.{charged-ride, right-window, parts-are, new-posted}
@@ -191,10 +192,14 @@ module _ {c d : ℕ} {book bytes book′ bytes′ : List ℕ} (s : Shifted c d b
           rw (ltb-alike (checkinOf bytes) (lastOutOf book) (checkinOf bytes′) (lastOutOf book′) (λ h. omega arith) (λ h. omega arith))
 
   -- so the table is the same
-  pub rows-same : (counts : Counts) (room : ℕ) → rows counts book′ bytes′ room ≡ rows counts book bytes room
+  pub rows-same : (tariff : List ℕ) (counts : Counts) (room : ℕ) → rows tariff counts book′ bytes′ room ≡ rows tariff counts book bytes room
   unfolding rows
-  rows-same counts room =
+  rows-same tariff counts room =
       rw (
+        ride-count tariff counts bytes (tripOf bytes),
+        ride-count tariff counts bytes′ (tripOf bytes′),
+        ride-size tariff counts bytes (tripOf bytes),
+        ride-size tariff counts bytes′ (tripOf bytes′),
         sound-same (counts .areas),
         trip-same bytes bytes′ (s .trip .frame) (s .trip .count) (s .trip .size),
         s .trip .class,

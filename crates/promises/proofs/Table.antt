@@ -37,6 +37,8 @@ use Rattle.book.specs.Charging.{riderCharge, riderCharges, bicycleCharges, char
 use Rattle.book.specs.Windows.{belongs, tooEarly, windowOf}
 use Rattle.book.specs.Posting.{addHere, addUp, addList, coverBicycles, opened, posted}
 use Rattle.book.proofs.AlikeBooks.{Alike, Touches, charges-alike, posted-alike}
+use Rattle.statement.specs.Record.{statementSize}
+use Rattle.settle.specs.Rides.{ridesOf}
 use Rattle.settle.specs.Refusals.{rows, firstOf}
 use Rattle.promises.specs.Cases.{
   sampleArea,
@@ -175,7 +177,7 @@ cases-alone = refl
 
 -- on these the cases are computed
 computed : everyHolds firstWords cases ≡ true
-unfolding everyHolds holds cases sample sampleArea areaBytes areasBytes rideIn charged sameList ridesHold stampBytes tripBytes
+unfolding ridesOf statementSize everyHolds holds cases sample sampleArea areaBytes areasBytes rideIn charged sameList ridesHold stampBytes tripBytes
     getLe putLe bytesOf each broken frameAt dividedUp hundredthsOf periods monthDays daysOfMonths daysOfYears dayNumber minuteNumber
     areaFields capsRight placeRight areaEntry entryAt readFrom readTariff levelCap tripCapOf dayCapOf areaOf areaAt
     shapeAt partyAt stopNumber checkinOf checkoutOf isTrip partyRight stopsKnown stampsRight belongs windowOf tooEarly rows firstOf refusedOn apart kmFrom kmOf rideOf

@@ -178,7 +178,7 @@ tripBytes from to =
 
 -- the first row of the table that holds of a trip, under a tariff with two stops and on a fresh book, which is sound: 5 on
 unfoldable pub refusedOn : List ℕ → Found
-refusedOn trip = firstOf (drop 1 (rows (record { areas = 7; stops = 2 }) freshBook trip 17))
+refusedOn trip = firstOf (drop 1 (rows sample (record { areas = 7; stops = 2 }) freshBook trip 17))
 
 -- whether a case holds; rides begin with a book
 unfoldable pub holds : List ℕ → Case → Bool

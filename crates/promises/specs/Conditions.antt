@@ -20,9 +20,10 @@ use Rattle.book.specs.Words.{tripsOf, lastOutOf, coverWord}
 use Rattle.book.specs.Sound.{sound}
 use Rattle.book.specs.Windows.{windowOf}
 use Rattle.book.specs.Charging.{riderCharge, bicycleCharge}
-use Rattle.statement.specs.Record.{Part, recordSize, chargeKind}
+use Rattle.statement.specs.Record.{Part, recordSize, chargeKind, statementSize}
 use Rattle.statement.specs.Reading.{longIn, kindIn, openingIn, areaIn, kmIn, minutesIn, chargeIn}
-use Rattle.settle.specs.Outcome.{ridesOf, partsOf, postedAll}
+use Rattle.settle.specs.Rides.{ridesOf}
+use Rattle.settle.specs.Outcome.{partsOf, postedAll}
 use Rattle.settle.specs.declared.refusals.Refusal.{Refusal}
 use Rattle.settle.specs.declared.refusals.Refusal.the-variants as why
 use Rattle.settle.specs.Refusals.{refusal, rows, First}
@@ -55,23 +56,23 @@ pub record TooEarly (book : List ℕ) (checkin : ℕ) : Type 0 where
   pub early : checkin < lastOutOf book
 
 -- 4 to 12, by the table's refusals
-unfoldable pub condition : Counts → List ℕ → List ℕ → ℕ → Refusal → Type 0
-condition counts book trip room why.UnsoundBook = sound book (counts .areas) ≡ false
-condition counts book trip room why.NoTrip = NoTrip trip
-condition counts book trip room why.WrongParty = WrongParty (classAt trip 0) (levelAt trip 0) (partyAt trip 0) (countAt trip 0)
-condition counts book trip room why.UnknownStop = LackingStop trip (countAt trip 0) (counts .stops)
-condition counts book trip room why.WrongStamp = WrongStamp trip
-condition counts book trip room why.WrongOrder = WrongOrder (checkinOf trip) (checkoutOf trip)
-condition counts book trip room why.TooEarly = TooEarly book (checkinOf trip)
-condition counts book trip room why.FullWindow = 256 < windowOf book (checkinOf trip) (checkoutOf trip) .trips + 1
-condition counts book trip room why.NoRoom = room < recordSize (partyAt trip 0)
+unfoldable pub condition : List ℕ → Counts → List ℕ → List ℕ → ℕ → Refusal → Type 0
+condition tariff counts book trip room why.UnsoundBook = sound book (counts .areas) ≡ false
+condition tariff counts book trip room why.NoTrip = NoTrip trip
+condition tariff counts book trip room why.WrongParty = WrongParty (classAt trip 0) (levelAt trip 0) (partyAt trip 0) (countAt trip 0)
+condition tariff counts book trip room why.UnknownStop = LackingStop trip (countAt trip 0) (counts .stops)
+condition tariff counts book trip room why.WrongStamp = WrongStamp trip
+condition tariff counts book trip room why.WrongOrder = WrongOrder (checkinOf trip) (checkoutOf trip)
+condition tariff counts book trip room why.TooEarly = TooEarly book (checkinOf trip)
+condition tariff counts book trip room why.FullWindow = 256 < windowOf book (checkinOf trip) (checkoutOf trip) .trips + length (ridesOf tariff counts trip (tripOf trip))
+condition tariff counts book trip room why.NoRoom = room < statementSize (ridesOf tariff counts trip (tripOf trip))
 
 -- none of the twelve holds
 pub record NoCondition (tariff book trip : List ℕ) (room : ℕ) : Type 0 where
   pub no-broken-frame : FirstFaulty tariff (λ place soFar. BrokenFrame tariff place) → ⊥
   pub none-out-of-place : FirstFaulty tariff (OutOfPlace tariff) → ⊥
   pub no-wrong-value : FirstFaulty tariff (WrongValue tariff) → ⊥
-  pub none-of-table : (why : Refusal) → condition (countsOf tariff) book trip room why → ⊥
+  pub none-of-table : (why : Refusal) → condition tariff (countsOf tariff) book trip room why → ⊥
 
 -- ---- What the two answers say.
 
@@ -81,13 +82,13 @@ pub data RefusedBy (tariff book trip : List ℕ) (room n place : ℕ) : Type 0 w
   by-tariff : (soFar : Counts) → FirstFault tariff n place soFar → FaultSays tariff place soFar n
       → RefusedBy tariff book trip room n place
   by-others : (counts : Counts) → Read tariff counts → (why : Refusal) → n ≡ refusal why → place ≡ 0
-      → First (condition counts book trip room) why (rows counts book trip room) → RefusedBy tariff book trip room n place
+      → First (condition tariff counts book trip room) why (rows tariff counts book trip room) → RefusedBy tariff book trip room n place
 
 -- an acceptance: the tariff is faultless, and no condition of the table holds; the new book and the parts are those of the trip's rides
 pub record AcceptedBy (tariff book bytes : List ℕ) (room : ℕ) (new : List ℕ) (parts : List Part) : Type 0 where
   pub counts : Counts
   pub read : Read tariff counts
-  pub none : (why : Refusal) → condition counts book bytes room why → ⊥
+  pub none : (why : Refusal) → condition tariff counts book bytes room why → ⊥
   pub new-is : new ≡ postedAll tariff counts book (tripWindow book bytes) (checkoutOf bytes) (ridesOf tariff counts bytes (tripOf bytes))
   pub parts-is : parts ≡ partsOf tariff counts book (tripWindow book bytes) (checkoutOf bytes) (ridesOf tariff counts bytes (tripOf bytes))
 

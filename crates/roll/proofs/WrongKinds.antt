@@ -46,7 +46,7 @@ module _ (tariff : List ℕ) (counts : Counts) (book piece : List ℕ) (more : B
   refused-alone kind body e other =
       let alone = take (4 + body) piece in
       let no-trip = five alone .1 (no-record (other-kind kind body (frame-alone piece kind body e) other)) in
-      refused-way tariff book alone largestSize counts read (refused-first counts book alone largestSize (skip _ _ (rw is) ∙ stop _ _ (rw no-trip)))
+      refused-way tariff book alone largestSize counts read (refused-first tariff counts book alone largestSize (skip _ _ (rw is) ∙ stop _ _ (rw no-trip)))
 
   pub wrong-kind :
       (kind body : ℕ) → frameAt piece 0 ≡ frame.Whole kind body → (kind ≡ 3 → ⊥)

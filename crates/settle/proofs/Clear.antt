@@ -29,7 +29,8 @@ use Rattle.statement.specs.Record.{recordSize, recordOf, statementOf, Recordabl
 use Rattle.statement.specs.Contracts.{Writable, Wrote, none, more}
 use Rattle.statement.proofs.Charges.{length-record, one-part}
 use Rattle.settle.specs.declared.Answer.the-variants.{Written}
-use Rattle.settle.specs.Outcome.{ridesOf, partOf, partsOf, postedAll, acceptedTrip}
+use Rattle.settle.specs.Rides.{ridesOf}
+use Rattle.settle.specs.Outcome.{partOf, partsOf, postedAll, acceptedTrip}
 use Rattle.settle.specs.Contracts.{AllClear, Chargeable, RideCharged, ToldSound}
 
 -- what was stored at the start of a list is what it starts with

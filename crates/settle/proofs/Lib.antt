@@ -1,3 +1,4 @@
+pub mod Rides
 pub mod Ways
 pub mod Parts
 pub mod Clear

@@ -21,11 +21,11 @@ use Rattle.settle.specs.declared.Answer.{Answer}
 use Rattle.settle.specs.declared.Answer.the-variants as answer
 use Rattle.settle.specs.declared.decide.Decision.{Decision}
 use Rattle.settle.specs.declared.decide.Decision.the-variants.{Refused, Clear}
+use Rattle.settle.specs.Rides.{ridesOf}
 use Rattle.settle.specs.Outcome.{
   Outcome,
   refused,
   accepted,
-  ridesOf,
   partOf,
   partsOf,
   postedAll,
@@ -61,9 +61,9 @@ none-refused e = absurd (let z : _≡_ {A = ℕ} 0 1 = cc in omega arith)
 
 under-one : (tariff : List ℕ) (counts : Counts) (book bytes : List ℕ) (room : ℕ) → OnePart (settledUnder tariff counts book bytes room)
 unfolding acceptedTrip
-under-one tariff counts book bytes room new parts e = go (decidedUnder counts book bytes room) refl
+under-one tariff counts book bytes room new parts e = go (decidedUnder tariff counts book bytes room) refl
   where
-    go : (d : Decision) → decidedUnder counts book bytes room ≡ d → (part : Part) × (parts ≡ part ∷ [])
+    go : (d : Decision) → decidedUnder tariff counts book bytes room ≡ d → (part : Part) × (parts ≡ part ∷ [])
     go (Refused why) is = none-refused (sym (refused-under tariff counts book bytes room is) ∙ e)
     go (Clear trip window) is =
         let same = sym (accepted-under tariff counts book bytes room trip window is) ∙ e in

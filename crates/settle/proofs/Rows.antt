@@ -146,11 +146,11 @@ module _ (holds : Refusal → Type 0) where
 
 -- ---- The table of settling.
 
-module _ (counts : Counts) (book trip : List ℕ) (room : ℕ) where
-  pub rows-distinct : distinct (rows counts book trip room) ≡ true
+module _ (tariff : List ℕ) (counts : Counts) (book trip : List ℕ) (room : ℕ) where
+  pub rows-distinct : distinct (rows tariff counts book trip room) ≡ true
   unfolding rows distinct has
   rows-distinct = refl
 
-  pub rows-range : inRange (rows counts book trip room) ≡ true
+  pub rows-range : inRange (rows tariff counts book trip room) ≡ true
   unfolding rows inRange
   rows-range = refl

@@ -21,33 +21,35 @@ use Rattle.trip.specs.Contracts.{GoodTrip}
 use Rattle.book.specs.declared.Window.{Window}
 use Rattle.book.specs.Sound.{sound}
 use Rattle.book.specs.Windows.{tooEarly, windowOf}
-use Rattle.statement.specs.Record.{recordSize}
+use Rattle.statement.specs.Record.{recordSize, statementSize}
 use Rattle.statement.specs.Contracts.{none}
 use Rattle.settle.specs.declared.Answer.the-variants as answer
 use Rattle.settle.specs.declared.decide.Decision.{Decision}
 use Rattle.settle.specs.declared.decide.Decision.the-variants.{Refused, Clear}
 use Rattle.settle.specs.declared.refusals.Refusal.{Refusal}
 use Rattle.settle.specs.declared.refusals.Refusal.the-variants as why
+use Rattle.settle.specs.Rides.{ridesOf}
 use Rattle.settle.specs.Refusals.{refusal, lastRefusal, rows, Found, nothing, found, firstOf, testOf}
 use Rattle.settle.specs.Outcome.{Outcome, refused, accepted, decidedUnder, acceptedTrip, settledUnder, settled}
 use Rattle.settle.specs.Contracts.{AllClear, Told, Ready}
+use Rattle.settle.proofs.Rides.{one-ride, one-size}
 use Rattle.settle.proofs.Rows.{stop, none-holds, first-range, rows-range}
 
 -- ---- The decision.
 
-module _ (counts : Counts) (book trip : List ℕ) (room : ℕ) where
+module _ (tariff : List ℕ) (counts : Counts) (book trip : List ℕ) (room : ℕ) where
   abbrev found-first : Found
-  found-first = firstOf (rows counts book trip room)
+  found-first = firstOf (rows tariff counts book trip room)
 
   abbrev window : Window
   window = windowOf book (checkinOf trip) (checkoutOf trip)
 
   -- the first row that holds is refused; where none does, the decision is clear
-  pub refused-first : {why : Refusal} → found-first ≡ found why → decidedUnder counts book trip room ≡ Refused why
+  pub refused-first : {why : Refusal} → found-first ≡ found why → decidedUnder tariff counts book trip room ≡ Refused why
   unfolding decidedUnder
   refused-first e = rw (e, decidedUnder)
 
-  pub clear-first : found-first ≡ nothing → decidedUnder counts book trip room ≡ Clear (tripOf trip) window
+  pub clear-first : found-first ≡ nothing → decidedUnder tariff counts book trip room ≡ Clear (tripOf trip) window
   unfolding decidedUnder
   clear-first e = rw (e, decidedUnder)
 
@@ -56,12 +58,12 @@ module _ (counts : Counts) (book trip : List ℕ) (room : ℕ) where
       → checkoutOf trip ≡ to .0 → class ≡ classAt trip 0 → level ≡ levelAt trip 0 → party ≡ partyAt trip 0 → countAt trip 0 ≡ stops
       → window ≡ here
       → Clear (record { checkin = from; checkout = to; class = class; level = level; party = party; stops = stops }) here
-      ≡ decidedUnder counts book trip room
+      ≡ decidedUnder tariff counts book trip room
   clear-with no-one from to class level party stops here =
       rw (class, level, party, ← stops, ← here, clear-first no-one, from, to)
 
   -- and only then
-  pub refused-found : {why : Refusal} → decidedUnder counts book trip room ≡ Refused why → found-first ≡ found why
+  pub refused-found : {why : Refusal} → decidedUnder tariff counts book trip room ≡ Refused why → found-first ≡ found why
   refused-found {why} e = go found-first refl
     where
       go : (f : Found) → found-first ≡ f → found-first ≡ found why
@@ -69,7 +71,7 @@ module _ (counts : Counts) (book trip : List ℕ) (room : ℕ) where
       go (found other) is = let same : other ≡ why = cc (refused-first is) in is ∙ ap found same
 
   pub clear-found :
-      {fields : Trip} {here : Window} → decidedUnder counts book trip room ≡ Clear fields here
+      {fields : Trip} {here : Window} → decidedUnder tariff counts book trip room ≡ Clear fields here
       → (found-first ≡ nothing) × ((fields ≡ tripOf trip) × (here ≡ window))
   clear-found {fields} {here} e = go found-first refl
     where
@@ -88,7 +90,7 @@ module _ (counts : Counts) (book trip : List ℕ) (room : ℕ) where
   pub no-row : found-first ≡ nothing → NoneHolds
   unfolding rows testOf
   no-row e =
-      let off = none-holds (rows counts book trip room) e in
+      let off = none-holds (rows tariff counts book trip room) e in
       record {
         sound-book = not-false (sound book (counts .areas)) (off why.UnsoundBook);
         good = record {
@@ -99,8 +101,12 @@ module _ (counts : Counts) (book trip : List ℕ) (room : ℕ) where
           order = not-false (inOrder (checkinOf trip) (checkoutOf trip)) (off why.WrongOrder);
         };
         on-time = off why.TooEarly;
-        few = ltb-false 256 (window .trips + 1) (off why.FullWindow);
-        fits = ltb-false room (recordSize (partyAt trip 0)) (off why.NoRoom);
+        few =
+            rw (one-ride tariff counts trip (tripOf trip)) at
+            (ltb-false 256 (window .trips + length (ridesOf tariff counts trip (tripOf trip))) (off why.FullWindow));
+        fits =
+            rw (one-size tariff counts trip (tripOf trip)) at
+            (ltb-false room (statementSize (ridesOf tariff counts trip (tripOf trip))) (off why.NoRoom));
       }
 
 -- ---- The outcome.
@@ -111,9 +117,9 @@ afterDecision tariff counts book trip (Refused why) = refused (refusal why) 0
 afterDecision tariff counts book trip (Clear fields window) = acceptedTrip tariff counts book trip fields window
 
 module _ (tariff : List ℕ) (counts : Counts) (book trip : List ℕ) (room : ℕ) where
-  by-decision : settledUnder tariff counts book trip room ≡ afterDecision tariff counts book trip (decidedUnder counts book trip room)
+  by-decision : settledUnder tariff counts book trip room ≡ afterDecision tariff counts book trip (decidedUnder tariff counts book trip room)
   unfolding settledUnder
-  by-decision = same (decidedUnder counts book trip room)
+  by-decision = same (decidedUnder tariff counts book trip room)
     where
       same :
           (d : Decision)
@@ -126,15 +132,15 @@ module _ (tariff : List ℕ) (counts : Counts) (book trip : List ℕ) (room : �
       same (Clear fields window) = refl
 
   pub refused-under :
-      {why : Refusal} → decidedUnder counts book trip room ≡ Refused why → settledUnder tariff counts book trip room ≡ refused (refusal why) 0
+      {why : Refusal} → decidedUnder tariff counts book trip room ≡ Refused why → settledUnder tariff counts book trip room ≡ refused (refusal why) 0
   refused-under e = by-decision ∙ ap (afterDecision tariff counts book trip) e
 
   pub unsound-under : sound book (counts .areas) ≡ false → settledUnder tariff counts book trip room ≡ refused (refusal why.UnsoundBook) 0
   unfolding rows
-  unsound-under is = refused-under (refused-first counts book trip room (stop _ _ (rw is)))
+  unsound-under is = refused-under (refused-first tariff counts book trip room (stop _ _ (rw is)))
 
   pub accepted-under :
-      (fields : Trip) (window : Window) → decidedUnder counts book trip room ≡ Clear fields window
+      (fields : Trip) (window : Window) → decidedUnder tariff counts book trip room ≡ Clear fields window
       → settledUnder tariff counts book trip room ≡ acceptedTrip tariff counts book trip fields window
   accepted-under fields window e = by-decision ∙ ap (afterDecision tariff counts book trip) e
 
@@ -148,11 +154,11 @@ module _ (tariff book trip : List ℕ) (room : ℕ) where
     unfolding settled
     faultless-way = rw (read, settled)
 
-    pub refused-way : {why : Refusal} → decidedUnder counts book trip room ≡ Refused why → settled tariff book trip room ≡ refused (refusal why) 0
+    pub refused-way : {why : Refusal} → decidedUnder tariff counts book trip room ≡ Refused why → settled tariff book trip room ≡ refused (refusal why) 0
     refused-way e = faultless-way ∙ refused-under tariff counts book trip room e
 
     pub accepted-way :
-        (fields : Trip) (window : Window) → decidedUnder counts book trip room ≡ Clear fields window
+        (fields : Trip) (window : Window) → decidedUnder tariff counts book trip room ≡ Clear fields window
         → settled tariff book trip room ≡ acceptedTrip tariff counts book trip fields window
     accepted-way fields window e = faultless-way ∙ accepted-under tariff counts book trip room fields window e
 
@@ -167,18 +173,18 @@ refusal-told o book statement number place e near =
 
 -- The numbers of the table are 4 to the last.
 pub refusal-range :
-    (counts : Counts) (book trip : List ℕ) (room : ℕ) {why : Refusal} → decidedUnder counts book trip room ≡ Refused why
+    (tariff : List ℕ) (counts : Counts) (book trip : List ℕ) (room : ℕ) {why : Refusal} → decidedUnder tariff counts book trip room ≡ Refused why
     → (4 ≤ refusal why) × (refusal why ≤ lastRefusal)
-refusal-range counts book trip room e =
-    first-range (rows counts book trip room) (rows-range counts book trip room) (refused-found counts book trip room e)
+refusal-range tariff counts book trip room e =
+    first-range (rows tariff counts book trip room) (rows-range tariff counts book trip room) (refused-found tariff counts book trip room e)
 
 -- A clear decision is all that writing asks.
 pub all-clear :
     (tariff : List ℕ) (counts : Counts) (book bytes : List ℕ) (trip : Trip) (window : Window) (statement : List ℕ) → Ready tariff counts book
-    → decidedUnder counts book bytes (length statement) ≡ Clear trip window → AllClear tariff counts book bytes trip window statement
+    → decidedUnder tariff counts book bytes (length statement) ≡ Clear trip window → AllClear tariff counts book bytes trip window statement
 all-clear tariff counts book bytes trip window statement ready e =
-    let (no-one, (trip-is, window-is)) = clear-found counts book bytes (length statement) e in
-    let clear = no-row counts book bytes (length statement) no-one in
+    let (no-one, (trip-is, window-is)) = clear-found tariff counts book bytes (length statement) e in
+    let clear = no-row tariff counts book bytes (length statement) no-one in
     record {
       read = ready .read;
       sound-book = ready .sound-book;

@@ -1,3 +1,4 @@
+pub mod Rides
 pub mod Refusals
 pub mod Outcome
 pub mod Contracts

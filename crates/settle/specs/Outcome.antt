@@ -11,7 +11,6 @@ use Rattle.trip.specs.declared.Trip.{Trip}
 use Rattle.trip.specs.Moments.{checkinOf, checkoutOf}
 use Rattle.trip.specs.Trips.{tripOf}
 use Rattle.fare.specs.declared.Ride.{Ride}
-use Rattle.fare.specs.Rides.{rideOf}
 use Rattle.book.specs.declared.Window.{Window}
 use Rattle.book.specs.Windows.{windowOf, inWindow}
 use Rattle.book.specs.Charging.{chargesOf}
@@ -19,6 +18,7 @@ use Rattle.book.specs.Posting.{posted}
 use Rattle.statement.specs.Record.{Part, statementOf}
 use Rattle.settle.specs.declared.decide.Decision.{Decision}
 use Rattle.settle.specs.declared.decide.Decision.the-variants.{Refused, Clear}
+use Rattle.settle.specs.Rides.{ridesOf}
 use Rattle.settle.specs.Refusals.{refusal, rows, firstOf, nothing, found}
 
 -- a refusal with its number and place; or the new book and the parts that the trip was charged in
@@ -27,18 +27,14 @@ pub data Outcome : Type 0 where
   accepted : List ℕ → List Part → Outcome
 
 -- what is decided under a faultless tariff: the first row of the table that holds; or that none does, with the trip's fields and window
-unfoldable pub decidedUnder : Counts → List ℕ → List ℕ → ℕ → Decision
-decidedUnder counts book trip room =
-    elim (firstOf (rows counts book trip room)) [
+unfoldable pub decidedUnder : List ℕ → Counts → List ℕ → List ℕ → ℕ → Decision
+decidedUnder tariff counts book trip room =
+    elim (firstOf (rows tariff counts book trip room)) [
       | found why ↦ Refused why
       | nothing ↦ Clear (tripOf trip) (windowOf book (checkinOf trip) (checkoutOf trip))
     ]
 
 -- ---- What a trip that meets no refusal comes to.
-
--- the rides that a trip is charged as: one
-unfoldable pub ridesOf : List ℕ → Counts → List ℕ → Trip → List Ride
-ridesOf tariff counts bytes trip = rideOf tariff counts bytes trip ∷ []
 
 -- a ride charged in a window of the book
 unfoldable pub partOf : List ℕ → Counts → List ℕ → Window → Ride → Part
@@ -71,7 +67,7 @@ acceptedTrip tariff counts book bytes trip window =
 -- of a trip on a book, under a tariff without fault, with so many bytes of room for the records. 4 to 12 have no place
 unfoldable pub settledUnder : List ℕ → Counts → List ℕ → List ℕ → ℕ → Outcome
 settledUnder tariff counts book trip room =
-    elim (decidedUnder counts book trip room) [
+    elim (decidedUnder tariff counts book trip room) [
       | Refused why ↦ refused (refusal why) 0
       | Clear fields window ↦ acceptedTrip tariff counts book trip fields window
     ]

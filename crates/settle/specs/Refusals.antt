@@ -4,14 +4,16 @@ use Prim.Native.Nat.{ℕ, _+_}
 use mathlib.Core.Path.{_≡_}
 use mathlib.Core.List.{List, [], _∷_}
 use mathlib.Core.Bool.{Bool, false, cond, not}
+use lib.ListN.{length}
 use lib.Dec.{eqb, ltb}
 use Rattle.tariff.specs.declared.Counts.{Counts}
 use Rattle.trip.specs.Record.{classAt, levelAt, partyAt, countAt}
 use Rattle.trip.specs.Moments.{checkinOf, checkoutOf}
-use Rattle.trip.specs.Trips.{isTrip, partyRight, stopsKnown, stampsRight, inOrder}
+use Rattle.trip.specs.Trips.{isTrip, partyRight, stopsKnown, stampsRight, inOrder, tripOf}
 use Rattle.book.specs.Sound.{sound}
 use Rattle.book.specs.Windows.{tooEarly, windowOf}
-use Rattle.statement.specs.Record.{recordSize}
+use Rattle.statement.specs.Record.{statementSize}
+use Rattle.settle.specs.Rides.{ridesOf}
 use Rattle.settle.specs.declared.refusals.Refusal.{Refusal}
 use Rattle.settle.specs.declared.refusals.Refusal.the-variants.{
   UnsoundBook,
@@ -55,10 +57,11 @@ row why test = record { why = why; test = test }
 -- 8: a stamp that is no date 2000..2099 or no clock time 00:00..23:59
 -- 9: check-out before check-in, or over 1,440 minutes after it
 -- 10: check-in before the book's last check-out (word 0 not 0)
--- 11: the trip would be the 257th of its window
--- 12: statement slice shorter than the charge record
-unfoldable pub rows : Counts → List ℕ → List ℕ → ℕ → List Row
-rows counts book trip room =
+-- 11: the trip would be the 257th of its window; each of its rides counts as one
+-- 12: statement slice shorter than the charge records of its rides
+unfoldable pub rows : List ℕ → Counts → List ℕ → List ℕ → ℕ → List Row
+rows tariff counts book trip room =
+    let rides = ridesOf tariff counts trip (tripOf trip) in
     row UnsoundBook (not (sound book (counts .areas)))
     ∷ row NoTrip (not (isTrip trip))
     ∷ row WrongParty (not (partyRight (classAt trip 0) (levelAt trip 0) (partyAt trip 0) (countAt trip 0)))
@@ -66,8 +69,8 @@ rows counts book trip room =
     ∷ row WrongStamp (not (stampsRight trip))
     ∷ row WrongOrder (not (inOrder (checkinOf trip) (checkoutOf trip)))
     ∷ row TooEarly (tooEarly book (checkinOf trip))
-    ∷ row FullWindow (ltb 256 (windowOf book (checkinOf trip) (checkoutOf trip) .trips + 1))
-    ∷ row NoRoom (ltb room (recordSize (partyAt trip 0)))
+    ∷ row FullWindow (ltb 256 (windowOf book (checkinOf trip) (checkoutOf trip) .trips + length rides))
+    ∷ row NoRoom (ltb room (statementSize rides))
     ∷ []
 
 -- no row, or the row of a refusal

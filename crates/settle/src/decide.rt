@@ -29,9 +29,9 @@ pub enum Decision {
 }
 
 // Under a faultless tariff, on a sound book.
-pub fn decide(counts: Counts, book: &[u8], trip: &[u8], room: usize) -> Decision
+pub fn decide(tariff: &[u8], counts: Counts, book: &[u8], trip: &[u8], room: usize) -> Decision
     requires { ⌜ sound (now book) (counts .areas) ≡ true ⌝ }
-    ensures { λ r. ⌜ r ≡ decidedUnder counts (now (book .entry)) (now (trip .entry)) room ⌝ }
+    ensures { λ r. ⌜ r ≡ decidedUnder (now (tariff .entry)) counts (now (book .entry)) (now (trip .entry)) room ⌝ }
 {
     let Shape::Stops(stops) = whole_trip(trip) else {
         return Decision::Refused(Refusal::NoTrip);

@@ -86,7 +86,7 @@ pub fn settle_next(
     requires { ⌜ Ready (now tariff) counts (now book) ⌝ }
     ensures { λ r. ⌜ NextSettled (now (tariff .entry)) counts (now (book .entry)) (now (trip .entry)) (now (statement .entry)) (now (book .exit)) (now (statement .exit)) r ⌝ }
 {
-    match decide(counts, book, trip, statement.len()) {
+    match decide(tariff, counts, book, trip, statement.len()) {
         Decision::Refused(why) => Answer::Refused {
             number: number(why),
             place: 0,

@@ -19,9 +19,7 @@ use Rattle.statement.proofs.Head.{length-head}
 pub length-charges : (charges : List ℕ) → length (chargeBytes charges) ≡ 4 * length charges
 unfolding chargeBytes
 length-charges [] = refl
-length-charges (c ∷ more) =
-    let rest = length-charges more in
-    length-append (bytesOf 4 c) (chargeBytes more) ∙ (omega (arith, length-bytes 4 c))
+length-charges (c ∷ more) = rw (length-append, length-bytes) (omega (arith, length-charges more))
 
 -- The bytes of one charge more stand behind the others'.
 charges-more : (charges : List ℕ) (c : ℕ) → chargeBytes (charges ++ (c ∷ [])) ≡ chargeBytes charges ++ bytesOf 4 c

@@ -96,8 +96,8 @@ fn show_price(tariff: &[u8], trip: &[u8]) {
         say(b"no tariff\n");
         return;
     };
-    let fresh = [0u8; 5428];
-    match decide(counts, &fresh, trip, LARGEST) {
+    let fresh = [0u8; SIZE];
+    match decide(tariff, counts, &fresh, trip, LARGEST) {
         Decision::Clear(fields, _) => show_ride(tariff, counts, trip, fields),
         Decision::Refused(why) => {
             say_number(b"refused ", number(why) as u64);

@@ -38,8 +38,8 @@ show-ride-requires : tie.Need-show-ride-requires
 show-ride-requires c κs =
     let read = c .before .before .before .before .before .before in
     let decision = sym (c .before .before .before .decide .ensures) ∙ c .before .fields .given .1 in
-    let (none, (trip-is, window-is)) = clear-found _ _ _ _ decision in
-    (sym (read .before .before .read-tariff .ensures) ∙ read .counts .given .1, (no-row _ _ _ _ none .good, trip-is))
+    let (none, (trip-is, window-is)) = clear-found _ _ _ _ _ decision in
+    (sym (read .before .before .read-tariff .ensures) ∙ read .counts .given .1, (no-row _ _ _ _ _ none .good, trip-is))
 
 enum-known-why : tie.Need-enum-known-why
 enum-known-why c = search needs

@@ -20,12 +20,13 @@ use Rattle.book.proofs.SoundLaws.{sound-has}
 use Rattle.statement.specs.Record.{recordSize}
 use Rattle.settle.specs.Refusals.{Row, rows, firstOf}
 use Rattle.settle.proofs.Rows.{skip, stop, end}
+use Rattle.settle.proofs.Rides.{one-ride, one-size}
 use Rattle.settle.proofs.Ways.{refused-first, clear-with}
 use Rattle.settle.proofs.decide.decide.Statement.{statement}
 use Rattle.settle.proofs.decide.decide.Tie as tie
 
 abbrev Table : tie.Start → List Row
-Table s = rows (s .args .counts) (s .args .book .now) (s .args .trip .now) (s .args .room)
+Table s = rows (s .args .tariff .now) (s .args .counts) (s .args .book .now) (s .args .trip .now) (s .args .room)
 
 -- the first rows do not hold
 abbrev Past : ℕ → tie.Start → Type 0
@@ -53,12 +54,12 @@ unfolding rows
 returns c =
     let whole = c .before .before in
     sym
-    (refused-first _ _ _ _
-    (past-4 (whole .before .before .before)
+    (refused-first _ _ _ _ _
+    (past-4 (whole .before .before .before .before)
     ∙ stop _ _ (rw (whole-none _ (sym (whole .whole-trip .ensures) ∙ c .enum-told .given .1)))))
 
 abbrev start-5 : tie.After-known-told → tie.Start
-start-5 c = c .before .before .before .before .before .before
+start-5 c = c .before .before .before .before .before .before .before
 
 filling : (c : tie.After-known-told) → Filling (start-5 c .args .trip .now) (c .before .stops .given .0 .0)
 filling c = whole-fills _ _ (sym (c .before .before .before .whole-trip .ensures) ∙ c .before .stops .given .1)
@@ -97,7 +98,7 @@ party c =
 returns-2 : tie.Need-returns-2
 unfolding rows
 returns-2 c =
-    sym (refused-first _ _ _ _ (past-5 (c .before .before .before .before .before) ∙ stop _ _ (rw (party (c .before)) (c .if1 .taken))))
+    sym (refused-first _ _ _ _ _ (past-5 (c .before .before .before .before .before) ∙ stop _ _ (rw (party (c .before)) (c .if1 .taken))))
 
 abbrev start-6 : tie.Else1 → tie.Start
 start-6 c = start-5 (c .before .before .before .before .before)
@@ -119,7 +120,7 @@ stops c = rw (filling (c .before .before .before .before .before .before) .count
 
 returns-3 : tie.Need-returns-3
 unfolding rows
-returns-3 c = sym (refused-first _ _ _ _ (past-6 (c .before .before) ∙ stop _ _ (rw (stops (c .before)) (c .if2 .taken))))
+returns-3 c = sym (refused-first _ _ _ _ _ (past-6 (c .before .before) ∙ stop _ _ (rw (stops (c .before)) (c .if2 .taken))))
 
 abbrev start-7 : tie.Else2 → tie.Start
 start-7 c = start-6 (c .before .before)
@@ -144,7 +145,7 @@ unfolding rows
 returns-4 c =
     let times = c .before .before in
     sym
-    (refused-first _ _ _ _
+    (refused-first _ _ _ _ _
     (past-7 (times .before) ∙ stop _ _ (rw (times-none _ (sym (times .times-of .ensures) ∙ c .enum-told2 .given .1)))))
 
 abbrev start-8 : tie.After-known-told2 → tie.Start
@@ -180,7 +181,7 @@ order c = let (right, (from, to)) = times-are _ _ _ (times (c .before)) in rw (f
 
 returns-5 : tie.Need-returns-5
 unfolding rows
-returns-5 c = sym (refused-first _ _ _ _ (past-8 (c .before .before) ∙ stop _ _ (rw (order (c .before)) (c .if3 .taken))))
+returns-5 c = sym (refused-first _ _ _ _ _ (past-8 (c .before .before) ∙ stop _ _ (rw (order (c .before)) (c .if3 .taken))))
 
 past-9 : (c : tie.Else3) → Past 6 (start-8 (timed-9 c))
 unfolding rows
@@ -199,7 +200,7 @@ early c =
 
 returns-6 : tie.Need-returns-6
 unfolding rows
-returns-6 c = sym (refused-first _ _ _ _ (past-9 (c .before .before) ∙ stop _ _ (early (c .before) ∙ c .if4 .taken)))
+returns-6 c = sym (refused-first _ _ _ _ _ (past-9 (c .before .before) ∙ stop _ _ (early (c .before) ∙ c .if4 .taken)))
 
 abbrev timed-10 : tie.Else4 → tie.After-known-told2
 timed-10 c = timed-9 (c .before .before)
@@ -228,7 +229,7 @@ returns-7 : tie.Need-returns-7
 unfolding rows
 returns-7 c =
     let opened = c .before .before in
-    sym (refused-first _ _ _ _ (past-10 (opened .before) ∙ stop _ _ (rw (window opened) (lt-ltb _ _ (c .if5 .taken)))))
+    sym (refused-first _ _ _ _ _ (past-10 (opened .before) ∙ stop _ _ (rw (one-ride, window opened) (lt-ltb _ _ (c .if5 .taken)))))
 
 abbrev timed-11 : tie.Else5 → tie.After-known-told2
 timed-11 c = timed-10 (c .before .before .before)
@@ -237,7 +238,7 @@ past-11 : (c : tie.Else5) → Past 8 (start-8 (timed-11 c))
 unfolding rows
 past-11 c =
     let opened = c .before .before in
-    past-10 (opened .before) ∙ skip _ _ (rw (window opened) (le-ltb _ _ (c .if5 .left)))
+    past-10 (opened .before) ∙ skip _ _ (rw (one-ride, window opened) (le-ltb _ _ (c .if5 .left)))
 
 -- ---- 12.
 
@@ -251,11 +252,11 @@ size c = rw (← party-8 (timed-11 (c .before)) .party-at .ensures) (sym (c .rec
 
 returns-8 : tie.Need-returns-8
 unfolding rows
-returns-8 c = sym (refused-first _ _ _ _ (past-11 (c .before .before) ∙ stop _ _ (rw (size (c .before)) (lt-ltb _ _ (c .if6 .taken)))))
+returns-8 c = sym (refused-first _ _ _ _ _ (past-11 (c .before .before) ∙ stop _ _ (rw (one-size, size (c .before)) (lt-ltb _ _ (c .if6 .taken)))))
 
 past-12 : (c : tie.Else6) → Past 9 (start-8 (timed-11 (c .before .before)))
 unfolding rows
-past-12 c = past-11 (c .before .before) ∙ skip _ _ (rw (size (c .before)) (le-ltb _ _ (c .if6 .left)))
+past-12 c = past-11 (c .before .before) ∙ skip _ _ (rw (one-size, size (c .before)) (le-ltb _ _ (c .if6 .left)))
 
 -- ---- None of them holds.
 
@@ -265,7 +266,7 @@ returns-9 c =
     let timed = timed-11 (c .before .before) in
     let read = party-8 timed in
     let (right, (from, to)) = times-are _ _ _ (times timed) in
-    clear-with _ _ _ _ (past-12 c ∙ end) from to
+    clear-with _ _ _ _ _ (past-12 c ∙ end) from to
     (read .before .before .class-at .ensures) (read .before .level-at .ensures) (read .party-at .ensures)
     (filling (read .before .before .before) .count) (window (c .before .before .before .before))
 
