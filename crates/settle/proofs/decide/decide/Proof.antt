@@ -212,7 +212,7 @@ past-10 c = past-9 (c .before .before) ∙ skip _ _ (early (c .before) ∙ c .if
 -- ---- 11.
 
 window-of-requires : tie.Need-window-of-requires
-window-of-requires c κs = search needs
+window-of-requires c κs = start-8 (timed-10 c) .pre
 
 window :
     (c : tie.After-window-of)
