@@ -10,6 +10,7 @@ use mathlib.Core.List.{List}
 use mathlib.Core.Bool.{Bool, true, false, not, _&&_, false≢true}
 use borrow.Author.Tests.{leb-true, leb-false, eq-eqb, ne-eqb, eqb-true, eqb-false}
 use lib.Dec.{leb, eqb}
+use Rattle.units.specs.Day.{dayMinutes}
 use Rattle.tariff.specs.declared.Counts.{Counts}
 use Rattle.tariff.specs.declared.Reading.{Reading}
 use Rattle.tariff.specs.declared.Reading.the-variants.{Fault, Faultless}
@@ -32,19 +33,19 @@ use Rattle.promises.proofs.Alike.{fresh-same}
 -- ---- Windows.
 
 module _ (book : List ℕ) (checkin checkout : ℕ) where
-  by-window : (none : Bool) → eqb (tripsOf book) 0 ≡ none → (soon : Bool) → leb checkout (openingOf book + 1440) ≡ soon
-      → (not none && soon ≡ false) ↔ ((tripsOf book ≡ 0) ⊎ (openingOf book + 1440 < checkout))
+  by-window : (none : Bool) → eqb (tripsOf book) 0 ≡ none → (soon : Bool) → leb checkout (openingOf book + dayMinutes) ≡ soon
+      → (not none && soon ≡ false) ↔ ((tripsOf book ≡ 0) ⊎ (openingOf book + dayMinutes < checkout))
   by-window true e soon e′ = (λ _. inl (eqb-true _ _ e), λ _. refl)
   by-window false e true e′ = (
     λ never. absurd (false≢true (sym never)),
-    ⊎-elim (λ is. absurd (eqb-false _ _ e is)) (λ late. absurd (let soon = leb-true checkout (openingOf book + 1440) e′ in omega arith)),
+    ⊎-elim (λ is. absurd (eqb-false _ _ e is)) (λ late. absurd (let soon = leb-true checkout (openingOf book + dayMinutes) e′ in omega arith)),
   )
-  by-window false e false e′ = (λ _. inr (leb-false checkout (openingOf book + 1440) e′), λ _. refl)
+  by-window false e false e′ = (λ _. inr (leb-false checkout (openingOf book + dayMinutes) e′), λ _. refl)
 
   -- A trip opens a new window exactly when none is open, or its check-out is over 1,440 minutes after the opening of the open one.
-  pub new-window : windowOf book checkin checkout .current ≡ false ↔ ((tripsOf book ≡ 0) ⊎ (openingOf book + 1440 < checkout))
+  pub new-window : windowOf book checkin checkout .current ≡ false ↔ ((tripsOf book ≡ 0) ⊎ (openingOf book + dayMinutes < checkout))
   unfolding windowOf belongs
-  new-window = by-window (eqb (tripsOf book) 0) refl (leb checkout (openingOf book + 1440)) refl
+  new-window = by-window (eqb (tripsOf book) 0) refl (leb checkout (openingOf book + dayMinutes)) refl
 
   -- The new window opens at the trip's check-in, and the trip is its first.
   pub new-window-opens :

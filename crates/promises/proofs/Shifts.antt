@@ -24,6 +24,7 @@ use Rattle.trip.specs.Record.{countAt, classAt, levelAt, partyAt, stopNumber}
 use Rattle.trip.specs.Moments.{checkinOf, checkoutOf}
 use Rattle.trip.specs.Trips.{stopsKnown, stampsRight, inOrder, tripOf}
 use Rattle.trip.proofs.Shapes.{trip-same}
+use Rattle.fare.specs.Prices.{mostPrice}
 use Rattle.fare.specs.Rides.{stopOf, areaOfStops, rideOf}
 use Rattle.book.specs.Words.{bookSize, word, tripsOf, openingOf, lastOutOf, coverWord}
 use Rattle.book.specs.Sound.{allZero, headSound, pairsSound, coversSound, sound}
@@ -129,7 +130,7 @@ module _ {c d : ℕ} {book bytes book′ bytes′ : List ℕ} (s : Shifted c d b
         leb-alike (openingOf book) (lastOutOf book) (openingOf book′) (lastOutOf book′) (λ h. omega arith) (λ h. omega arith),
         le-leb (lastOutOf book′) lastMinute (s .in-calendar .1),
         le-leb (lastOutOf book) lastMinute (s .in-calendar .0),
-        leb-alike (lastOutOf book) (openingOf book + 1440) (lastOutOf book′) (openingOf book′ + 1440) (λ h. omega arith) (λ h. omega arith),
+        leb-alike (lastOutOf book) (openingOf book + dayMinutes) (lastOutOf book′) (openingOf book′ + dayMinutes) (λ h. omega arith) (λ h. omega arith),
       )
 
   sound-same : (areas : ℕ) → sound book′ areas ≡ sound book areas
@@ -139,13 +140,13 @@ module _ {c d : ℕ} {book bytes book′ bytes′ : List ℕ} (s : Shifted c d b
       go : Dec (tripsOf book ≡ 0)
           → eqb (length book) bookSize
           && cond (eqb (tripsOf book) 0) (allZero book′)
-          (headSound (tripsOf book) (openingOf book′) (lastOutOf book′) && (pairsSound book′ (tripsOf book * 3790000) && coversSound book′ areas))
+          (headSound (tripsOf book) (openingOf book′) (lastOutOf book′) && (pairsSound book′ (tripsOf book * mostPrice) && coversSound book′ areas))
           ≡ eqb (length book) bookSize
           && cond (eqb (tripsOf book) 0) (allZero book)
-          (headSound (tripsOf book) (openingOf book) (lastOutOf book) && (pairsSound book (tripsOf book * 3790000) && coversSound book areas))
+          (headSound (tripsOf book) (openingOf book) (lastOutOf book) && (pairsSound book (tripsOf book * mostPrice) && coversSound book areas))
       go (yes none) = rw (eq-eqb (tripsOf book) 0 none, zeros-same none)
       go (no used) =
-          rw (ne-eqb (tripsOf book) 0 used, rw trips-same at (head-same used), pairs-same (tripsOf book * 3790000), covers-same areas)
+          rw (ne-eqb (tripsOf book) 0 used, rw trips-same at (head-same used), pairs-same (tripsOf book * mostPrice), covers-same areas)
 
   -- the trip belongs to the open window or not alike
   belongs-same : belongs book′ (checkoutOf bytes′) ≡ belongs book (checkoutOf bytes)
@@ -153,13 +154,13 @@ module _ {c d : ℕ} {book bytes book′ bytes′ : List ℕ} (s : Shifted c d b
   belongs-same = rw trips-same (go (ℕ-discrete (tripsOf book) 0))
     where
       go : Dec (tripsOf book ≡ 0)
-          → not (eqb (tripsOf book) 0) && leb (checkoutOf bytes′) (openingOf book′ + 1440)
-          ≡ not (eqb (tripsOf book) 0) && leb (checkoutOf bytes) (openingOf book + 1440)
+          → not (eqb (tripsOf book) 0) && leb (checkoutOf bytes′) (openingOf book′ + dayMinutes)
+          ≡ not (eqb (tripsOf book) 0) && leb (checkoutOf bytes) (openingOf book + dayMinutes)
       go (yes none) = rw (eq-eqb (tripsOf book) 0 none)
       go (no used) =
           let o = s .opening used in
           let out = s .checkout in
-          rw (leb-alike (checkoutOf bytes) (openingOf book + 1440) (checkoutOf bytes′) (openingOf book′ + 1440) (λ h. omega arith) (λ h. omega arith))
+          rw (leb-alike (checkoutOf bytes) (openingOf book + dayMinutes) (checkoutOf bytes′) (openingOf book′ + dayMinutes) (λ h. omega arith) (λ h. omega arith))
 
   trips-alike : windowOf book′ (checkinOf bytes′) (checkoutOf bytes′) .trips ≡ windowOf book (checkinOf bytes) (checkoutOf bytes) .trips
   unfolding windowOf
