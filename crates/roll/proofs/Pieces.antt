@@ -216,8 +216,8 @@ same-start tariff book roll come r = go (r .decides)
         rw (← r .whole-roll, now .0) (record { step = same .0; book-after = same .1 })
     go (inr over) = rw (← r .whole-roll, over .1, over .0) (rw (append-nil (come .kept)) (record { step = refl; book-after = refl }))
 
--- the lines of a roll, and of one that comes in pieces, by the first step
-afterStep : Step → (Line → ℕ → List Line) → List Line
+-- the lines of a roll, and of one that comes in pieces, by what stands at its start
+unfoldable pub afterStep : Step → (Line → ℕ → List Line) → List Line
 afterStep End on = []
 afterStep More on = []
 afterStep Broken on = Refused 5 ∷ []
@@ -234,7 +234,7 @@ no-offer : (records : ℕ) (roll : List ℕ) → frameAt roll 0 ≡ frame.Broken
 unfolding offersOf
 no-offer records roll e = rw (e, offersOf)
 
-lines-step :
+pub lines-step :
     (records : ℕ) (tariff book roll : List ℕ)
     → linesOf (suc records) tariff book roll
     ≡ afterStep (stepOf tariff book roll false) (λ line used. linesOf records tariff (bookStep tariff book roll false) (drop used roll))

@@ -118,6 +118,13 @@ module _ (tariff book piece : List ℕ) (more : Bool) where
       go : Stands tariff book piece more More → (more ≡ true) × (length piece < 1026)
       go (unfinished-yet t) = (both-left more (unfinished piece) t, unfinished-short piece (both-right more (unfinished piece) t))
 
+  -- It leaves the book as it is.
+  pub more-stays : stepOf tariff book piece more ≡ More → bookStep tariff book piece more ≡ book
+  more-stays e = go (rw e at stands)
+    where
+      go : Stands tariff book piece more More → bookStep tariff book piece more ≡ book
+      go (unfinished-yet t) = more-way tariff book piece more t .1
+
 -- The contract of `next`, way by way.
 module _ (tariff : List ℕ) (areas : ℕ) (book piece : List ℕ) (more u : Bool) (is : sound book areas ≡ true) (e : u ≡ unfinished piece) where
   pub more-stepped : more && u ≡ true → Stepped tariff areas book piece more book More

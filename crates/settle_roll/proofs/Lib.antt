@@ -1,2 +1,4 @@
-pub mod Digits
+pub mod Moves
 pub mod Turns
+pub mod Printed
+pub mod Through

@@ -1,9 +1,9 @@
 // Bytes of a file: the tariff's first, and the roll's next.
 use libc::ENOENT;
 use libc::STDIN_FILENO;
-ghost use mathlib.Core.Path.{_≡_};
 ghost use Prim.Native.Nat.{_+_, _≤_, _<_};
 ghost use lib.ListN.{length};
+ghost use Rattle.settle_roll.specs.Contracts.{Came, Kept};
 
 // What reading came to: how many bytes, or a failure, which was told on standard error.
 pub struct Got {
@@ -14,7 +14,7 @@ pub struct Got {
 // One read of a file into the room from a place on; no byte is the file's end, where there is room.
 fn read_at(file: i32, name: &[u8], room: &mut [u8], place: usize) -> Got
     requires { ⌜ place ≤ length (now room) ⌝ }
-    ensures { λ r. ⌜ place + r .bytes ≤ length (now (room .entry)) ⌝ }
+    ensures { λ r. ⌜ Came (now (room .entry)) place (now (room .exit)) (r .bytes) ⌝ }
 {
     let answer = libc::read(file, &mut room[place..]);
     if answer < 0 {
@@ -72,7 +72,7 @@ pub fn load_tariff(room: &mut [u8]) -> Got
 // The roll's next bytes, behind those that are there already.
 pub fn read_roll(room: &mut [u8], place: usize) -> Got
     requires { ⌜ place < length (now room) ⌝ }
-    ensures { λ r. ⌜ place + r .bytes ≤ length (now (room .entry)) ⌝ }
+    ensures { λ r. ⌜ Came (now (room .entry)) place (now (room .exit)) (r .bytes) ⌝ }
 {
     read_at(STDIN_FILENO, b"standard input", room, place)
 }
@@ -80,7 +80,7 @@ pub fn read_roll(room: &mut [u8], place: usize) -> Got
 // Moves the bytes from `from` to `to` to the start of the room. The answer is how many they are.
 pub fn keep(room: &mut [u8], from: usize, to: usize) -> usize
     requires { ⌜ (from ≤ to) × (to ≤ length (now room)) ⌝ }
-    ensures { λ r. ⌜ r + from ≡ to ⌝ }
+    ensures { λ r. ⌜ Kept (now (room .entry)) from to (now (room .exit)) r ⌝ }
 {
     let count = to - from;
     for i in 0..count {

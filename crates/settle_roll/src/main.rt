@@ -1,11 +1,12 @@
 // Settles a roll of trips: the tariff from tariff.bin, the roll from standard input, a line a record on standard output.
-// This program only reads, calls and prints; what a line says is the library's.
+// This program only reads, takes turns and writes; what a turn does, and what it prints, is the library's.
 //
 // input.rt    bytes of a file: the tariff's first, and the roll's next
-// output.rt   lines, put together in a buffer that is written when it is full
-// run.rt      the roll, record by record
+// output.rt   bytes written
+// run.rt      the roll, turn by turn
 use input::load_tariff;
-use output::print_fault;
+use lines::text::put_fault;
+use output::write;
 use run::settle_roll;
 use tariff::Reading;
 use tariff::fields::DECIDING_BYTES;
@@ -14,6 +15,13 @@ use tariff::scan::read_tariff;
 mod input;
 mod output;
 mod run;
+
+// The one line of a refused tariff.
+fn print_fault(number: u8, at: usize) {
+    let mut out = [0u8; 64];
+    let end = put_fault(&mut out, number, at);
+    write(&out, end);
+}
 
 // A refused tariff gives its one line; under any other the roll is settled.
 fn settle_under(tariff: &[u8]) {

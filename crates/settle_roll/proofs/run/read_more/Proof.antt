@@ -2,7 +2,7 @@
 -- Assumes nothing.
 use native.Mathlib.Omega.{arith}
 use borrow.Author.Needs.{needs}
-use Rattle.settle_roll.proofs.Turns.{read-turned}
+use Rattle.settle_roll.proofs.Turns.{more-came}
 use Rattle.settle_roll.proofs.run.read_more.Statement.{statement}
 use Rattle.settle_roll.proofs.run.read_more.Tie as tie
 
@@ -30,9 +30,10 @@ same-length-2 c = search needs
 returns-2 : tie.Need-returns-2
 returns-2 c =
     let start = c .before .before .before .before .before .before .before .before .before .before .before .before .before .before in
-    let keep = c .before .before .before .before .before .before .before .before .before .keep in
+    let kept = c .before .before .before .before .before .before .before .before .before .keep in
     let got = c .before .before .before .before .before .read-roll in
-    read-turned _ _ _ (start .pre .range) (start .pre .more) (keep .ensures) (omega arith)
+    more-came (start .args .run) (start .args .input .now) (kept .last .0) (got .last .0) (kept .result) (got .result .bytes) (start .pre .range)
+    (start .pre .more) (omega arith) (omega arith) (kept .ensures) (got .ensures)
 
 pub read-more-spec : {M : Type 1} → statement M
 read-more-spec =

@@ -2,11 +2,9 @@
 -- Assumes nothing.
 use native.Mathlib.Omega.{arith}
 use borrow.Author.Needs.{needs}
+use Rattle.settle_roll.proofs.Turns.{begins}
 use Rattle.settle_roll.proofs.run.settle_roll.Statement.{statement}
 use Rattle.settle_roll.proofs.run.settle_roll.Tie as tie
-
--- `run::settle_roll` is safe: a fresh book is sound under every tariff, and a run that begins is in range.
--- Assumes nothing.
 
 fresh-book-requires : tie.Need-fresh-book-requires
 fresh-book-requires c κs = search needs
@@ -29,16 +27,23 @@ slice-aggregate-settle-all-3 c = search needs
 settle-all-requires : tie.Need-settle-all-requires
 settle-all-requires c κs =
     let start = c .before .before .before .before .before .before .before .before in
-    let fresh = c .before .before .before .before .before .before .fresh-book .ensures in (
-      record { read = start .pre; sound-book = fresh .sound-book _ },
-      (
-        search needs,
-        (
-          c .before .before .before .before .put-header .kept .0,
-          record { order = omega arith; inside = omega arith; room = omega arith; few = omega arith; cents = omega arith },
-        ),
-      ),
-    )
+    let fresh = c .before .before .before .before .before .before .fresh-book .ensures in
+    let header = c .before .before .before .before .put-header in
+    record {
+      running =
+          record {
+            ready = record { read = start .pre; sound-book = fresh .sound-book _ };
+            sizes = record { of-input = search needs; of-out = header .kept .0 };
+            range =
+                record {
+                  order = omega arith;
+                  inside = omega arith;
+                  room = omega (arith, header .ensures .room);
+                  counting = record { few = omega arith; cents = omega arith };
+                };
+          };
+      at-start = begins (fresh .is) (header .ensures .put);
+    }
 
 returns : tie.Need-returns
 returns c = search needs

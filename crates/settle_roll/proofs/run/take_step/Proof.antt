@@ -1,57 +1,55 @@
--- `run::take_step` meets its contract: where a record is not whole yet there is room for more, and a whole one is used whole.
+-- `run::take_step` meets its contract: what the turn did is one step of the loop, and where its record is not whole yet there is room for more.
 -- Assumes nothing.
+use native.Mathlib.Omega.{arith}
 use borrow.Author.Needs.{needs}
-use Rattle.settle_roll.proofs.Turns.{more-room, record-room, record-cents}
+use Rattle.settle_roll.proofs.Turns.{more-room, fed-on, fits, on-range, on-made, at-last}
 use Rattle.settle_roll.proofs.run.take_step.Statement.{statement}
 use Rattle.settle_roll.proofs.run.take_step.Tie as tie
 
-sub-next : tie.Need-sub-next
-sub-next c = search needs
+sub-take-turn : tie.Need-sub-take-turn
+sub-take-turn c = search needs
 
-part-next-start : tie.Need-part-next-start
-part-next-start c = search needs
+part-take-turn-start : tie.Need-part-take-turn-start
+part-take-turn-start c = search needs
 
-part-next-end : tie.Need-part-next-end
-part-next-end c = search needs
+part-take-turn-end : tie.Need-part-take-turn-end
+part-take-turn-end c = search needs
 
-next-requires : tie.Need-next-requires
-next-requires c κs = search needs
+take-turn-requires : tie.Need-take-turn-requires
+take-turn-requires c κs = search needs
 
 enum-told : tie.Need-enum-told
 enum-told c = search needs
 
 read-more-requires : tie.Need-read-more-requires
 read-more-requires c κs =
-    let start = c .before .before .before .before .before .before .before .before .before .before .before .before .before .before .before in
-    let input = start .pre .1 .0 in
-    let range = start .pre .1 .1 .1 in
-    let room = more-room _ _ _ _ range input (c .before .before .before .before .before .before .next .ensures .found) (c .before .before .enum-told .given .1) in
-    record { input-size = input; output-size = start .pre .1 .1 .0; range = range; more = room .0; room = room .1 }
+    let start = c .before .before .before .before .before .before .before .before .before .before .before .before .before .before .before .before .before in
+    let turned = c .before .before .before .before .before .before .before .before .take-turn in
+    let room = more-room (start .args .input .now) (start .pre .range) (start .pre .sizes .of-input) (turned .ensures) (c .before .before .enum-told .given .1) in
+    record {
+      sizes = record { of-input = start .pre .sizes .of-input; of-out = omega (arith, start .pre .sizes .of-out) };
+      range = start .pre .range;
+      more = room .0;
+      room = room .1;
+    }
 
-enum-known-line : tie.Need-enum-known-line
-enum-known-line c = search needs
+enum-known-used : tie.Need-enum-known-used
+enum-known-used c = search needs
 
-take-line-requires : tie.Need-take-line-requires
-take-line-requires c κs =
-    let start = c .before .before .before .before .before .before .before .before .before .before .before .before .before .before .before in
-    let step = c .before .before .before .before .before .before .next .ensures in
-    let range = start .pre .1 .1 .1 in
-    let is = c .before .before .line .given .1 in (
-      start .pre .1 .1 .0,
-      (range, (record-cents _ _ (step .range) is, record-room _ _ _ _ range (start .pre .1 .0) _ _ (step .found) is)),
-    )
+add-t29 : tie.Need-add-t29
+add-t29 c =
+    let start = c .before .before .before .before .before .before .before .before .before .before .before .before .before .before .before .before in
+    let turned = c .before .before .before .before .before .before .before .take-turn in
+    omega (arith, start .pre .range .inside, fits (start .args .input .now) (start .pre .range) (start .pre .sizes .of-input) (turned .ensures) (c .before .used .given .1))
 
-enum-told-2 : tie.Need-enum-told-2
-enum-told-2 c = search needs
+make-room-requires : tie.Need-make-room-requires
+make-room-requires c κs =
+    let start = c .before .before .before .before .before .before .before .before .before .before .before .before .before .before .before .before .before in
+    let turned = c .before .before .before .before .before .before .before .before .take-turn in
+    (omega (arith, start .pre .sizes .of-out), on-range (start .args .input .now) (start .pre .range) (start .pre .sizes .of-input) (turned .ensures) (c .before .before .used .given .1))
 
-take-line-requires-2 : tie.Need-take-line-requires-2
-take-line-requires-2 c κs = search needs
-
-enum-told-3 : tie.Need-enum-told-3
-enum-told-3 c = search needs
-
-finish-requires : tie.Need-finish-requires
-finish-requires c κs = search needs
+enum-known-end : tie.Need-enum-known-end
+enum-known-end c = search needs
 
 same-length : tie.Need-same-length
 same-length c = search needs
@@ -63,7 +61,10 @@ same-length-3 : tie.Need-same-length-3
 same-length-3 c = search needs
 
 returns : tie.Need-returns
-returns c = search needs
+returns c =
+    let start = c .before .before .before .before .before .before .before .before .before .before .before .before .before .before .before .before .before .before .before .before in
+    let turned = c .before .before .before .before .before .before .before .before .before .before .before .take-turn in
+    record { again = turned .ensures .again; advanced = fed-on (start .args .input .now) (start .pre .range) (start .pre .sizes .of-input) (turned .ensures) _ _ (c .before .before .before .before .before .enum-told .given .1) (c .before .before .read-more .ensures) }
 
 same-length-4 : tie.Need-same-length-4
 same-length-4 c = search needs
@@ -75,7 +76,10 @@ same-length-6 : tie.Need-same-length-6
 same-length-6 c = search needs
 
 returns-2 : tie.Need-returns-2
-returns-2 c = search needs
+returns-2 c =
+    let start = c .before .before .before .before .before .before .before .before .before .before .before .before .before .before .before .before .before .before in
+    let turned = c .before .before .before .before .before .before .before .before .before .take-turn in
+    record { again = turned .ensures .again; advanced = on-made (start .args .input .now) (start .pre .range) (start .pre .sizes .of-input) (turned .ensures) (c .before .before .before .used .given .1) _ (c .make-room .ensures) }
 
 same-length-7 : tie.Need-same-length-7
 same-length-7 c = search needs
@@ -87,36 +91,25 @@ same-length-9 : tie.Need-same-length-9
 same-length-9 c = search needs
 
 returns-3 : tie.Need-returns-3
-returns-3 c = search needs
-
-same-length-10 : tie.Need-same-length-10
-same-length-10 c = search needs
-
-same-length-11 : tie.Need-same-length-11
-same-length-11 c = search needs
-
-same-length-12 : tie.Need-same-length-12
-same-length-12 c = search needs
-
-returns-4 : tie.Need-returns-4
-returns-4 c = search needs
+returns-3 c =
+    let start = c .before .before .before .before .before .before .before .before .before .before .before .before .before .before .before .before in
+    let turned = c .before .before .before .before .before .before .before .take-turn in
+    record { again = turned .ensures .again; advanced = at-last (start .args .input .now) (start .pre .range) (start .pre .sizes .of-input) (turned .ensures) (c .before .end .given .1) }
 
 pub take-step-spec : {M : Type 1} → statement M
 take-step-spec =
     tie.close
     (tie.spec
-    sub-next
-    part-next-start
-    part-next-end
-    next-requires
+    sub-take-turn
+    part-take-turn-start
+    part-take-turn-end
+    take-turn-requires
     enum-told
     read-more-requires
-    enum-known-line
-    take-line-requires
-    enum-told-2
-    take-line-requires-2
-    enum-told-3
-    finish-requires
+    enum-known-used
+    add-t29
+    make-room-requires
+    enum-known-end
     same-length
     same-length-2
     same-length-3
@@ -128,8 +121,4 @@ take-step-spec =
     same-length-7
     same-length-8
     same-length-9
-    returns-3
-    same-length-10
-    same-length-11
-    same-length-12
-    returns-4)
+    returns-3)

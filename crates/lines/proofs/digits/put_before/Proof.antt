@@ -1,18 +1,21 @@
--- `output::put_before` is safe, and puts 10 digits at most. The loop's invariant: what is left has no more digits than there are places
--- left of the ten. The measure is the place.
+-- `digits::put_before` meets its contract. The loop's invariant: the digits that are left, in front of those that stand, are the number's, and
+-- there is a place for each. The measure is the place.
 -- Assumes nothing.
-use Prim.Native.Nat.{_-_, _/_, _≤_, _<_}
+use Prim.Native.Nat.{_+_, _-_, _/_, _%_, _≤_, _<_}
 use native.Mathlib.Omega.{arith}
-use mathlib.Core.Path.{_≡_, refl, _∙_}
-use lib.ListN.{length, length-set}
+use mathlib.Core.Path.{_≡_, refl, sym, ap, _∙_}
+use mathlib.Core.List.{_++_}
+use lib.ListN.{length, drop, length-set}
 use borrow.Author.Needs.{needs}
-use Rattle.settle_roll.proofs.Digits.{DigitsLeft, digit-put}
-use Rattle.settle_roll.proofs.output.put_before.Statement.{statement}
-use Rattle.settle_roll.proofs.output.put_before.Tie as tie
+use Rattle.lines.specs.Text.{decimal}
+use Rattle.lines.proofs.Decimal.{digits, set-behind, last-put, more-put, all-put, DigitsLeft, digit-put}
+use Rattle.lines.proofs.digits.put_before.Statement.{statement}
+use Rattle.lines.proofs.digits.put_before.Tie as tie
 
 abbrev Inv-loop : tie.InvT-loop
 Inv-loop text₀ end number at₀ rest₀ text at rest =
     DigitsLeft rest (end - 10) at × (at < end) × (end ≤ length text₀) × (length text ≡ length text₀)
+    × (digits rest ++ drop at text ≡ decimal number ++ drop end text₀)
 
 abbrev μ-loop : tie.MeasureT-loop
 μ-loop text₀ end number at₀ rest₀ text at rest = at
@@ -33,7 +36,14 @@ loop-holds : tie.Need-loop-holds Inv-loop μ-loop
 loop-holds c =
     let fits = c .fits .number .fits in
     let small : c .args .number / 10 < 1000000000 = omega arith in
-    (record { left = 9; small = small; room = omega arith }, omega arith, simp length-set (omega arith), refl)
+    let stands = last-put (c .args .text .now) (c .args .end) (c .args .number) (omega arith) (omega arith) in
+    let behind = set-behind (c .args .text .now) (c .args .end) (48 + c .args .number % 10) (omega arith) in (
+      record { left = 9; small = small; room = omega arith },
+      omega arith,
+      simp length-set (omega arith),
+      refl,
+      stands ∙ ap (decimal (c .args .number) ++_) (sym behind),
+    )
 
 sub-at-2 : tie.Need-sub-at-2 Inv-loop μ-loop
 sub-at-2 c = omega (arith, digit-put (c .before .loop .inv .0) (c .loop-test .taken))
@@ -52,18 +62,28 @@ loop-less c = omega (arith, digit-put (c .before .loop .inv .0) (c .loop-test .t
 
 loop-again : tie.Need-loop-again Inv-loop μ-loop
 loop-again c =
-    let s = c .before .loop .inv in (
+    let s = c .before .loop .inv in
+    let room = digit-put (s .0) (c .loop-test .taken) .1 in (
       digit-put (s .0) (c .loop-test .taken) .0,
       omega arith,
       s .2,
       length-set (c .before .loop .text) _ _ ∙ s .3,
+      more-put (c .before .loop .text) (c .before .loop .at) (c .before .loop .rest) (omega arith) (omega arith) (c .loop-test .taken) ∙ s .4,
     )
 
 same-length : tie.Need-same-length Inv-loop μ-loop
 same-length c = c .before .loop .inv .3 ∙ length-set (c .before .before .args .text .now) _ _
 
 returns : tie.Need-returns Inv-loop μ-loop
-returns c = (omega arith, omega (arith, c .before .loop .inv .0 .room))
+returns c =
+    let s = c .before .loop .inv in
+    let args = c .before .before .args in
+    let behind = set-behind (args .text .now) (args .end) (48 + args .number % 10) (omega arith) in
+    record {
+      put = sym (all-put (c .before .loop .rest) _ (omega arith)) ∙ s .4 ∙ ap (decimal (args .number) ++_) behind;
+      order = omega arith;
+      room = omega (arith, s .0 .room);
+    }
 
 pub put-before-spec : {M : Type 1} → statement M
 put-before-spec =

@@ -4,14 +4,17 @@
 use Prim.Native.Nat.{_+_, _-_, _^_, _≤_, _<_}
 use native.Mathlib.Omega.{arith}
 use mathlib.Core.Path.{_≡_, refl, _∙_}
-use lib.ListN.{length, length-set}
-use Rattle.settle_roll.proofs.Digits.{DigitsLeft, digit-put, long-left}
-use Rattle.settle_roll.proofs.output.put_long_before.Statement.{statement}
-use Rattle.settle_roll.proofs.output.put_long_before.Tie as tie
+use mathlib.Core.List.{_++_}
+use lib.ListN.{length, drop, length-set}
+use Rattle.lines.specs.Text.{decimal}
+use Rattle.lines.proofs.Decimal.{long-put, DigitsLeft, digit-put, long-left}
+use Rattle.lines.proofs.digits.put_long_before.Statement.{statement}
+use Rattle.lines.proofs.digits.put_long_before.Tie as tie
 
 abbrev Inv-loop : tie.InvT-loop
 Inv-loop text₀ end number at₀ rest₀ text at rest =
     DigitsLeft rest (end - 20) at × (at ≤ end) × (end ≤ at + 11) × (length text ≡ length text₀)
+    × (decimal rest ++ drop at text ≡ decimal number ++ drop end text₀)
 
 abbrev μ-loop : tie.MeasureT-loop
 μ-loop text₀ end number at₀ rest₀ text at rest = at
@@ -20,7 +23,7 @@ loop-holds : tie.Need-loop-holds Inv-loop μ-loop
 loop-holds c =
     let fits = c .before .fits .number .fits in
     let small : c .before .args .number < 100000000000000000000 = omega arith in
-    (record { left = 20; small = small; room = omega arith }, omega arith, omega arith, refl)
+    (record { left = 20; small = small; room = omega arith }, omega arith, omega arith, refl, refl)
 
 sub-at : tie.Need-sub-at Inv-loop μ-loop
 sub-at c = omega arith
@@ -44,6 +47,7 @@ loop-again c =
       omega arith,
       omega (arith, long-left (s .0) (c .loop-test .taken)),
       length-set (c .before .loop .text) _ _ ∙ s .3,
+      long-put (c .before .loop .text) (c .before .loop .at) (c .before .loop .rest) (omega arith) (omega arith) (omega arith) ∙ s .4,
     )
 
 cast-put-before : tie.Need-cast-put-before Inv-loop μ-loop
@@ -56,7 +60,10 @@ same-length : tie.Need-same-length Inv-loop μ-loop
 same-length c = omega arith
 
 returns : tie.Need-returns Inv-loop μ-loop
-returns c = omega arith
+returns c =
+    let done = c .before .before .put-before .ensures in
+    let inv = c .before .before .before .before .before .loop .inv in
+    record { put = done .put ∙ inv .4; order = omega arith; room = omega arith }
 
 pub put-long-before-spec : {M : Type 1} → statement M
 put-long-before-spec =

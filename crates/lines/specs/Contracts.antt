@@ -1,0 +1,77 @@
+-- What the contracts say: a text was put in front of a place of a buffer, or behind one; what a turn did; and that every sum fits.
+use Prim.Native.Nat.{ℕ, _+_, _*_, _≤_, _<_}
+use mathlib.Core.Path.{_≡_}
+use mathlib.Core.Bool.{Bool, true}
+use mathlib.Core.List.{List, _++_}
+use lib.ListN.{length, take, drop}
+use Rattle.tariff.specs.declared.Counts.{Counts}
+use Rattle.roll.specs.declared.Line.{Line}
+use Rattle.statement.specs.Contracts.{mostCents}
+use Rattle.settle.specs.Contracts.{Ready}
+use Rattle.roll.specs.Pieces.{stepOf, bookStep}
+use Rattle.lines.specs.declared.turns.Tally.{Tally}
+use Rattle.lines.specs.declared.turns.Turn.{Turn}
+use Rattle.lines.specs.declared.turns.Turn.the-variants.{More, On, Over}
+use Rattle.roll.specs.Lines.{mostRecords}
+use Rattle.lines.specs.Turns.{records, counted, Effect, asks, puts, ends, lineEffect, effectOf}
+
+-- a line, or the tail, takes at most so many bytes, and a turn at most both
+abbrev pub mostLine : ℕ
+mostLine = 128
+
+abbrev pub mostTurn : ℕ
+mostTurn = 256
+
+-- from `start` on stand the text, and behind it what stood from `end` on; it took at most so many places
+pub record Before (text : List ℕ) (most : ℕ) (before : List ℕ) (end : ℕ) (after : List ℕ) (start : ℕ) : Type 0 where
+  pub put : drop start after ≡ text ++ drop end before
+  pub order : start ≤ end
+  pub room : end ≤ start + most
+
+-- up to `end` stand what stood up to `place`, and the text behind it; it took at most so many places
+pub record Behind (text : List ℕ) (most : ℕ) (before : List ℕ) (place : ℕ) (after : List ℕ) (end : ℕ) : Type 0 where
+  pub put : take end after ≡ take place before ++ text
+  pub order : place ≤ end
+  pub room : end ≤ place + most
+
+-- each record has added what a line can say at most
+abbrev pub CentsFit : Tally → Type 0
+CentsFit tally = tally .cents ≤ records tally * mostCents
+
+-- a record may come
+pub record Counting (tally : Tally) : Type 0 where
+  pub few : records tally < mostRecords
+  pub cents : CentsFit tally
+
+pub record Counted (tally : Tally) (line : Line) (r : Tally) : Type 0 where
+  pub is : r ≡ counted tally line
+  pub one : records r ≡ records tally + 1
+  pub cents : CentsFit r
+
+-- what a turn does stands in the output, and in its answer
+pub data Did (before : List ℕ) (place : ℕ) (after : List ℕ) : Effect → Turn → Type 0 where
+  asked : take place after ≡ take place before → Did before place after asks More
+  put : {used : ℕ} {text : List ℕ} {tally : Tally} {end : ℕ} → Behind text mostLine before place after end
+      → Did before place after (puts used text tally) (On used end tally)
+  ended : {text : List ℕ} {end : ℕ} → Behind text mostTurn before place after end → Did before place after (ends text) (Over end)
+
+pub record LineTaken (tally : Tally) (line : Line) (used : ℕ) (last : Bool) (out : List ℕ) (place : ℕ) (out′ : List ℕ) (r : Turn) : Type 0 where
+  pub did : Did out place out′ (lineEffect tally line used last) r
+  pub cents : CentsFit (counted tally line)
+
+-- where more bytes are wanted, fewer are there than the longest record has; where the run goes on, it has one record more, and another
+-- may come
+abbrev pub Range : List ℕ → Bool → Tally → ℕ → Turn → Type 0
+Range piece more tally place More = (more ≡ true) × (length piece < 1026)
+Range piece more tally place (On used end after) =
+    (used ≤ length piece) × ((end ≤ place + mostLine) × (Counting after × (records after ≡ records tally + 1)))
+Range piece more tally place (Over end) = end ≤ place + mostTurn
+
+pub record Turned
+    (tariff : List ℕ) (counts : Counts) (book piece : List ℕ) (more : Bool) (tally : Tally) (out : List ℕ) (place : ℕ) (book′ out′ : List ℕ)
+    (r : Turn)
+    : Type 0 where
+  pub did : Did out place out′ (effectOf (stepOf tariff book piece more) tally) r
+  pub book-is : book′ ≡ bookStep tariff book piece more
+  pub again : Ready tariff counts book′
+  pub range : Range piece more tally place r

@@ -1,0 +1,81 @@
+-- docs/RULES.md, section 16 (R16.2, R16.6, R16.7): what the program prints, byte for byte.
+use Prim.Native.Nat.{ℕ, zero, suc, _+_, _/_, _%_}
+use Prim.Native.Char.{code}
+use Prim.Native.String as string
+use mathlib.Core.Bool.{cond}
+use mathlib.Core.List.{List, [], _∷_, _++_}
+use lib.Dec.{eqb}
+use Rattle.roll.specs.declared.Line.{Line}
+use Rattle.roll.specs.declared.Line.the-variants.{Charged, Refused}
+
+-- ---- Words and numbers.
+
+-- a text's bytes: each of its characters is one, as in ASCII
+unfoldable pub bytes : string.String → List ℕ
+bytes string.[] = []
+bytes (string._∷_ character text) = code character ∷ bytes text
+
+-- a number's last digit
+unfoldable pub digit : ℕ → ℕ
+digit n = 48 + n % 10
+
+-- a number's digits, the first one first, and none for 0. No number has more digits than it counts, so that many are enough
+unfoldable pub digitsIn : ℕ → ℕ → List ℕ
+digitsIn zero n = []
+digitsIn (suc most) n = cond (eqb n 0) [] (digitsIn most (n / 10) ++ (digit n ∷ []))
+
+-- a number in decimal: no 0 in front, and 0 itself has one digit
+unfoldable pub decimal : ℕ → List ℕ
+decimal n = digitsIn n (n / 10) ++ (digit n ∷ [])
+
+-- ---- R16.6: the header, and a line.
+
+unfoldable pub header : List ℕ
+header = bytes "trip area km min open cents\n"
+
+-- each number behind a blank, and the line's end
+unfoldable pub spaced : List ℕ → List ℕ
+spaced [] = bytes "\n"
+spaced (n ∷ numbers) = (bytes " " ++ decimal n) ++ spaced numbers
+
+-- an accepted trip's number, area, kilometres, minutes, opening minute and cents; a refused one's number and refusal
+unfoldable pub lineText : ℕ → Line → List ℕ
+lineText number (Charged area km minutes opening cents) = decimal number ++ spaced (area ∷ km ∷ minutes ∷ opening ∷ cents ∷ [])
+lineText number (Refused refusal) = decimal number ++ bytes " refused " ++ decimal refusal ++ bytes "\n"
+
+-- ---- R16.7: the last line.
+
+unfoldable pub tailText : ℕ → ℕ → ℕ → List ℕ
+tailText accepted refused cents =
+    bytes "accepted " ++ decimal accepted ++ bytes " refused " ++ decimal refused ++ bytes " cents " ++ decimal cents ++ bytes "\n"
+
+-- how many lines are of accepted trips, how many of refused ones, and all their cents
+unfoldable pub acceptedOf : List Line → ℕ
+acceptedOf [] = 0
+acceptedOf (Charged area km minutes opening cents ∷ lines) = 1 + acceptedOf lines
+acceptedOf (Refused refusal ∷ lines) = acceptedOf lines
+
+unfoldable pub refusedOf : List Line → ℕ
+refusedOf [] = 0
+refusedOf (Charged area km minutes opening cents ∷ lines) = refusedOf lines
+refusedOf (Refused refusal ∷ lines) = 1 + refusedOf lines
+
+unfoldable pub centsOf : List Line → ℕ
+centsOf [] = 0
+centsOf (Charged area km minutes opening cents ∷ lines) = cents + centsOf lines
+centsOf (Refused refusal ∷ lines) = centsOf lines
+
+-- ---- The text of a roll's lines.
+
+-- the lines, numbered from a number on
+unfoldable pub linesText : ℕ → List Line → List ℕ
+linesText number [] = []
+linesText number (line ∷ lines) = lineText number line ++ linesText (number + 1) lines
+
+unfoldable pub textOf : List Line → List ℕ
+textOf lines = header ++ linesText 1 lines ++ tailText (acceptedOf lines) (refusedOf lines) (centsOf lines)
+
+-- ---- R16.2: the one line of a refused tariff.
+
+unfoldable pub faultText : ℕ → ℕ → List ℕ
+faultText refusal place = bytes "tariff refused " ++ decimal refusal ++ bytes " at " ++ decimal place ++ bytes "\n"

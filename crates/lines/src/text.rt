@@ -1,0 +1,116 @@
+// The texts of a roll, put behind what is there already: each function answers the place behind what it has put.
+use crate::digits::put_before;
+use crate::digits::put_long_before;
+use crate::digits::put_long_spaced_before;
+use crate::digits::put_spaced_before;
+use crate::turns::Tally;
+use roll::Line;
+ghost use Prim.Native.Nat.{_+_, _≤_};
+ghost use mathlib.Core.List.{_++_};
+ghost use lib.ListN.{length};
+ghost use Rattle.roll.specs.declared.Line.the-variants.{Charged};
+ghost use Rattle.lines.specs.Text.{decimal, header, lineText, tailText, faultText};
+ghost use Rattle.lines.specs.Contracts.{mostLine, Behind};
+
+fn put_text(out: &mut [u8], place: usize, text: &[u8]) -> usize
+    requires { ⌜ place + length (now text) ≤ length (now out) ⌝ }
+    ensures { λ r. ⌜ Behind (now (text .entry)) (length (now (text .entry))) (now (out .entry)) place (now (out .exit)) r ⌝ }
+{
+    for i in 0..text.len() {
+        out[place + i] = text[i];
+    }
+    place + text.len()
+}
+
+// A number's digits from a place on.
+fn put_number(out: &mut [u8], place: usize, number: u64) -> usize
+    requires { ⌜ place + 21 ≤ length (now out) ⌝ }
+    ensures { λ r. ⌜ Behind (decimal number) 21 (now (out .entry)) place (now (out .exit)) r ⌝ }
+{
+    let mut digits = [0u8; 21];
+    let at = put_long_before(&mut digits, 21, number);
+    put_text(out, place, &digits[at..])
+}
+
+// A text and a number behind it.
+fn put_named(out: &mut [u8], place: usize, text: &[u8], number: u64) -> usize
+    requires { ⌜ place + length (now text) + 21 ≤ length (now out) ⌝ }
+    ensures { λ r. ⌜ Behind (now (text .entry) ++ decimal number) (length (now (text .entry)) + 21) (now (out .entry)) place (now (out .exit)) r ⌝ }
+{
+    let start = put_text(out, place, text);
+    put_number(out, start, number)
+}
+
+// The first line.
+pub fn put_header(out: &mut [u8]) -> usize
+    requires { ⌜ 28 ≤ length (now out) ⌝ }
+    ensures { λ r. ⌜ Behind header 28 (now (out .entry)) 0 (now (out .exit)) r ⌝ }
+{
+    put_text(out, 0, b"trip area km min open cents\n")
+}
+
+// The line of an accepted trip, put together from its end on and then copied.
+fn put_charged(
+    out: &mut [u8],
+    place: usize,
+    number: u32,
+    area: u8,
+    km: u16,
+    minutes: u16,
+    opening: u32,
+    cents: u64,
+) -> usize
+    requires { ⌜ place + mostLine ≤ length (now out) ⌝ }
+    ensures { λ r. ⌜ Behind (lineText number (Charged area km minutes opening cents)) mostLine (now (out .entry)) place (now (out .exit)) r ⌝ }
+{
+    let mut text = [b'\n'; 128];
+    let at5 = put_long_spaced_before(&mut text, 127, cents);
+    let at4 = put_spaced_before(&mut text, at5, opening);
+    let at3 = put_spaced_before(&mut text, at4, minutes as u32);
+    let at2 = put_spaced_before(&mut text, at3, km as u32);
+    let at1 = put_spaced_before(&mut text, at2, area as u32);
+    let start = put_before(&mut text, at1, number);
+    put_text(out, place, &text[start..])
+}
+
+// The line of a record: its number, and what the library says of it.
+pub fn put_line(out: &mut [u8], place: usize, number: u32, line: Line) -> usize
+    requires { ⌜ place + mostLine ≤ length (now out) ⌝ }
+    ensures { λ r. ⌜ Behind (lineText number line) mostLine (now (out .entry)) place (now (out .exit)) r ⌝ }
+{
+    match line {
+        Line::Charged {
+            area,
+            km,
+            minutes,
+            opening,
+            cents,
+        } => put_charged(out, place, number, area, km, minutes, opening, cents),
+        Line::Refused(refusal) => {
+            let start = put_number(out, place, number as u64);
+            let end = put_named(out, start, b" refused ", refusal);
+            put_text(out, end, b"\n")
+        }
+    }
+}
+
+// The last line.
+pub fn put_tail(out: &mut [u8], place: usize, tally: Tally) -> usize
+    requires { ⌜ place + mostLine ≤ length (now out) ⌝ }
+    ensures { λ r. ⌜ Behind (tailText (tally .accepted) (tally .refused) (tally .cents)) mostLine (now (out .entry)) place (now (out .exit)) r ⌝ }
+{
+    let after1 = put_named(out, place, b"accepted ", tally.accepted as u64);
+    let after2 = put_named(out, after1, b" refused ", tally.refused as u64);
+    let after3 = put_named(out, after2, b" cents ", tally.cents);
+    put_text(out, after3, b"\n")
+}
+
+// The one line of a refused tariff.
+pub fn put_fault(out: &mut [u8], refusal: u8, place: usize) -> usize
+    requires { ⌜ 64 ≤ length (now out) ⌝ }
+    ensures { λ r. ⌜ Behind (faultText refusal place) 64 (now (out .entry)) 0 (now (out .exit)) r ⌝ }
+{
+    let after1 = put_named(out, 0, b"tariff refused ", refusal as u64);
+    let after2 = put_named(out, after1, b" at ", place as u64);
+    put_text(out, after2, b"\n")
+}
