@@ -1,10 +1,17 @@
--- A trip that meets none of 5 to 9 is a ride: the tariff has its stops, and it goes from its first to its last in at most a day.
+-- A trip that meets none of 5 to 9 is a ride: the tariff has its stops, it goes from its first to its last in at most a day, and its
+-- ticket level is one.
 -- Assumes nothing.
 use Prim.Native.Nat.{ℕ}
 use native.Mathlib.Nat.{le-of-eq}
+use mathlib.Core.Path.{_≡_, _∙_}
+use mathlib.Core.Bool.{true}
 use mathlib.Core.List.{List}
+use borrow.Author.Tests.{le-leb}
+use Rattle.units.specs.declared.Cents.{Cents}
 use Rattle.tariff.specs.declared.Counts.{Counts}
 use Rattle.tariff.specs.Areas.{Read}
+use Rattle.tariff.specs.Levels.{levelCap}
+use Rattle.tariff.proofs.LevelCaps.{answered, answered-levels}
 use Rattle.trip.specs.Record.{countAt}
 use Rattle.trip.specs.Trips.{tripOf}
 use Rattle.trip.specs.Contracts.{GoodTrip}
@@ -19,3 +26,9 @@ riding read good = record { read = read; known = good .stops; fits = le-of-eq (g
 pub in-order : {bytes : List ℕ} {known : ℕ} → GoodTrip bytes known → InOrder (tripOf bytes)
 in-order good =
     record { two = good-fields good .ranges .least; most = good-fields good .ranges .most; times = good .order }
+
+-- Whatever an area's five amounts are, the trip's level picks one of them or none: no price is made with a level that is refused.
+pub level-answered :
+    {bytes : List ℕ} {known : ℕ} → GoodTrip bytes known → (k a b c d : Cents) → answered (levelCap k a b c d (tripOf bytes .level)) ≡ true
+level-answered {bytes} good k a b c d =
+    answered-levels k a b c d (tripOf bytes .level) ∙ le-leb _ _ (good-fields good .ranges .level-most)

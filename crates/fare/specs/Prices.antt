@@ -24,7 +24,8 @@ mostPrice = 3790000
 unfoldable pub step1 : Area → ℕ → ℕ → ℕ
 step1 area minutes km = area .«base_price» .0 * periods minutes (area .validity .0) + area .«price_per_km» .0 * km
 
--- the trip cap: sort 1 applies up to its minutes; sort 2 by level, and level 0 has none; sorts 0 and 1 ignore the level
+-- the trip cap: sort 1 applies up to its minutes; sort 2 by level, and level 0 has none; sorts 0 and 1 ignore the level. The last case is
+-- never met: a level above 5 is refused with 6 before anything is priced (proofs/GoodTrips.antt: level-answered)
 unfoldable pub tripCap : TripCap → ℕ → ℕ → Cap
 tripCap (sort.NoCap) minutes level = limit.NoCap
 tripCap (sort.Flat amount most) minutes level = cond (leb minutes (most .0)) (limit.UpTo amount) limit.NoCap

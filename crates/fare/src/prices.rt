@@ -34,7 +34,8 @@ fn distance_price(area: Area, minutes: Minutes, km: Km) -> Cents
     Cents(base.0 * started_periods(minutes, validity) + rate.0 * km.0)
 }
 
-// The trip cap of a ride, where it has one: flat up to its minutes, or by ticket level.
+// The trip cap of a ride, where it has one: flat up to its minutes, or by ticket level. No ride has a level that is refused here: its trip
+// was refused with 6 before.
 fn trip_cap(sort: TripCap, minutes: Minutes, level: u8) -> Cap
     ensures { λ r. ⌜ r ≡ tripCap sort (minutes .0) level ⌝ }
 {
