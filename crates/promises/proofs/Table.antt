@@ -1,190 +1,181 @@
--- docs/RULES.md, section 18: the starred cases, computed with the definitions that `settled` uses. A whole book is too large to compute
--- with; but the holder's rides in the sample's seven areas go by the book's first 17 words alone.
+-- docs/RULES.md, section 18: the starred sums. Whether a whole book is sound is too much to compute; but every book that a run leaves is
+-- sound, by a law. So the trips of the table are settled by the other rows of the table of refusals, on whole books, by computation.
 -- Assumes nothing.
-use Prim.Native.Nat.{ℕ, zero, suc, _+_, _*_, _<_}
-use native.Mathlib.Omega.{arith}
-use mathlib.Core.Path.{_≡_, refl, sym, _∙_}
-use mathlib.Core.List.{List, [], _∷_}
-use mathlib.Core.Bool.{Bool, true, _&&_}
-use lib.ListN.{length, replicate, length-replicate, getD-replicate}
-use lib.Dec.{eqb, ltb}
+use Prim.Native.Nat.{ℕ}
+use mathlib.Core.Path.{_≡_, refl, sym, ap, _∙_}
+use mathlib.Core.List.{List, [], _∷_, _++_, map, List·Memᴰ, List·Memᴰ·head, List·Memᴰ·tail}
+use mathlib.Core.Bool.{true}
+use lib.ListN.{drop}
 use Rattle.units.specs.Rounding.{dividedUp, hundredthsOf, periods}
 use Rattle.wire.specs.Number.{getLe, putLe, bytesOf}
 use Rattle.wire.specs.Each.{each}
 use Rattle.wire.specs.Frame.{broken, frameAt}
-use Rattle.wire.proofs.Starts.{SameStart, put-start, get-start}
 use Rattle.calendar.specs.Days.{monthDays, daysOfMonths, daysOfYears, dayNumber}
 use Rattle.calendar.specs.Stamps.{minuteNumber}
-use Rattle.tariff.specs.Fields.{areaFields}
+use Rattle.caps.specs.Limits.{leftOf, cappedHere}
+use Rattle.caps.specs.Rides.{ChargedRide}
+use Rattle.caps.specs.Tree.{foldUp, among, chargeIn}
+use Rattle.tariff.specs.declared.Counts.{Counts}
+use Rattle.tariff.specs.Fields.{areaFields, stopFields}
 use Rattle.tariff.specs.Rules.{capsRight, placeRight}
-use Rattle.tariff.specs.Scan.{areaEntry, entryAt, readFrom, readTariff}
+use Rattle.tariff.specs.Scan.{areaEntry, stopEntry, entryAt, readFrom, readTariff}
 use Rattle.tariff.specs.Levels.{levelCap}
-use Rattle.tariff.specs.Areas.{tripCapOf, dayCapOf, areaOf, areaAt, Read}
-use Rattle.wire.proofs.Tests.{told, both-left, both-right}
-use Rattle.tariff.proofs.Faultless.{faultless}
+use Rattle.tariff.specs.Areas.{tripCapOf, dayCapOf, areaOf, areaAt, stopAt, liesWithin, smallestOf, Read}
 use Rattle.trip.specs.Record.{shapeAt, partyAt, stopNumber}
 use Rattle.trip.specs.Moments.{checkinOf, checkoutOf}
-use Rattle.trip.specs.Trips.{isTrip, partyRight, stopsKnown, stampsRight}
-use Rattle.fare.specs.declared.Ride.{Ride}
+use Rattle.trip.specs.Trips.{isTrip, partyRight, stopsKnown, stampsRight, tripOf}
 use Rattle.fare.specs.Distance.{apart, kmFrom, kmOf}
-use Rattle.fare.specs.Rides.{rideOf}
+use Rattle.fare.specs.Rides.{stopOf, areaOfStops, rideOf}
 use Rattle.fare.specs.Prices.{step1, step2, step3, step4, tripCap, priceOf}
-use Rattle.caps.specs.Limits.{leftOf, cappedHere}
-use Rattle.caps.specs.Tree.{foldUp, chargeIn}
-use Rattle.book.specs.Words.{bookSize, freshBook, word}
+use Rattle.book.specs.Words.{freshBook}
+use Rattle.book.specs.Sound.{sound}
 use Rattle.book.specs.Caps.{secondCap, allCap}
 use Rattle.book.specs.Charging.{riderCharge, riderCharges, bicycleCharges, chargesOf}
 use Rattle.book.specs.Windows.{belongs, tooEarly, windowOf}
 use Rattle.book.specs.Posting.{addHere, addUp, addList, coverBicycles, opened, posted}
-use Rattle.book.proofs.AlikeBooks.{Alike, Touches, charges-alike, posted-alike}
 use Rattle.statement.specs.Record.{statementSize}
-use Rattle.settle.specs.Rides.{ridesOf}
-use Rattle.settle.specs.Refusals.{rows, firstOf}
+use Rattle.settle.specs.Rides.{ridesOf as tripRides}
+use Rattle.settle.specs.Refusals.{refusal, rows, Found, nothing, found, firstOf}
+use Rattle.settle.specs.Outcome.{Outcome, refused, partOf, oneMore, partsOf, postedAll, acceptedTrip, settled, bookAfter}
+use Rattle.settle.specs.Runs.{Offer, Settlement, runFrom, bookFrom}
+use Rattle.settle.proofs.Ways.{refused-first, clear-first, refused-way, accepted-way}
+use Rattle.promises.specs.Runs.{bookOf, entryOf, ridesWith, ridesAfter, ridesOver}
 use Rattle.promises.specs.Cases.{
   sampleArea,
   areaBytes,
   areasBytes,
+  sampleStop,
+  stopBytes,
+  stopsBytes,
+  sampleAreas,
+  sampleStops,
   sample,
   sampleCounts,
-  rideIn,
-  charged,
-  cases,
-  sameList,
-  ridesHold,
   stampBytes,
+  numbersBytes,
   tripBytes,
-  refusedOn,
-  holds,
-  everyHolds,
-  Ridden,
+  offered,
+  Result,
+  partResults,
+  outcomeResults,
+  resultsOf,
+  ridesIn,
   Case,
-  areas,
-  price,
-  rides,
-  distance,
-  duration,
-  refuses,
-  oneWindow,
+  offers,
+  results,
+  Holds,
+  cases,
 }
+use Rattle.promises.proofs.Promises.{book-stays-sound}
 
--- ---- Books with the same first words.
+-- ---- Settling on a sound book.
 
--- the first 17 words
-word-start : {b b′ : List ℕ} → SameStart 68 b b′ → (i : ℕ) → i < 17 → word b′ i ≡ word b i
-word-start s i h = get-start 4 s (4 * i) (omega arith)
+-- by the rows of the table of refusals but its first, which asks whether the book is sound
+unfoldable onSound : List ℕ → Counts → List ℕ → List ℕ → ℕ → Outcome
+onSound tariff counts book bytes room =
+    elim (firstOf (drop 1 (rows tariff counts book bytes room))) [
+      | found why ↦ refused (refusal why) 0
+      | nothing ↦ acceptedTrip tariff counts book bytes (tripOf bytes) (windowOf book (checkinOf bytes) (checkoutOf bytes))
+    ]
+
+-- and a run so settled
+unfoldable runOnSound : List ℕ → Counts → List ℕ → List Offer → List Settlement
+runOnSound tariff counts book [] = []
+runOnSound tariff counts book (o ∷ run) =
+    let outcome = onSound tariff counts book (o .bytes) (o .room) in
+    record { book = book; offer = o; outcome = outcome } ∷ runOnSound tariff counts (bookAfter outcome book) run
+
+-- the book after some trips and one more
+book-more :
+    (tariff book : List ℕ) (done : List Offer) (o : Offer)
+    → bookFrom tariff book (done ++ o ∷ [])
+    ≡ bookAfter (settled tariff (bookFrom tariff book done) (o .bytes) (o .room)) (bookFrom tariff book done)
+unfolding bookFrom
+book-more tariff book [] o = refl
+book-more tariff book (d ∷ done) o = book-more tariff (bookAfter (settled tariff book (d .bytes) (d .room)) book) done o
+
+module _ (tariff : List ℕ) (counts : Counts) (read : Read tariff counts) where
+  module _ (book bytes : List ℕ) (room : ℕ) (is-sound : sound book (counts .areas) ≡ true) where
+    -- the rows but the first
+    abbrev others : Found
+    others = firstOf (drop 1 (rows tariff counts book bytes room))
+
+    skipped : firstOf (rows tariff counts book bytes room) ≡ others
+    unfolding rows firstOf
+    skipped = rw is-sound
+
+    on-sound : settled tariff book bytes room ≡ onSound tariff counts book bytes room
+    unfolding onSound
+    on-sound = go others refl
+      where
+        go : (f : Found) → others ≡ f → settled tariff book bytes room ≡ onSound tariff counts book bytes room
+        go (found why) e =
+            rw (e, onSound) (refused-way tariff book bytes room counts read (refused-first tariff counts book bytes room (skipped ∙ e)))
+        go nothing e =
+            rw (e, onSound) (accepted-way tariff book bytes room counts read _ _ (clear-first tariff counts book bytes room (skipped ∙ e)))
+
+  -- every book of a run from a fresh book is sound; `done` are the trips that this one comes from
+  run-from :
+      (run done : List Offer) (book : List ℕ) → book ≡ bookOf tariff done → runFrom tariff book run ≡ runOnSound tariff counts book run
+  unfolding runFrom runOnSound
+  run-from [] done book from = refl
+  run-from (o ∷ run) done book from =
+      let outcome = settled tariff book (o .bytes) (o .room) in
+      let here = on-sound book (o .bytes) (o .room) (rw from (book-stays-sound tariff counts read done)) in
+      rw (← here)
+      (ap (λ more. record { book = book; offer = o; outcome = outcome } ∷ more)
+      (run-from run (done ++ o ∷ []) (bookAfter outcome book) (rw from (sym (book-more tariff freshBook done o)))))
+
+  run-fresh : (run : List Offer) → runFrom tariff freshBook run ≡ runOnSound tariff counts freshBook run
+  unfolding bookFrom
+  run-fresh run = run-from run [] freshBook refl
 
 -- ---- The sample.
 
--- the sample is faultless
-sample-read : Read sample sampleCounts
-unfolding readTariff readFrom entryAt areaEntry frameAt broken areaFields capsRight placeRight getLe bytesOf sample areasBytes areaBytes sampleArea
+-- The sample is a faultless tariff of seven areas and 28 stops.
+pub sample-read : Read sample sampleCounts
+unfolding readTariff readFrom entryAt areaEntry stopEntry frameAt broken areaFields stopFields capsRight placeRight getLe bytesOf sample
+    sampleAreas sampleStops areasBytes areaBytes sampleArea stopsBytes stopBytes sampleStop
 sample-read = refl
 
--- ---- The holder's rides.
+-- ---- The table.
 
--- the holder alone, in one of the seven areas
-record Alone (ride : Ride) : Type 0 where
-  adults : ride .party .adults ≡ 0
-  children : ride .party .children ≡ 0
-  bicycles : ride .party .bicycles ≡ 0
-  area : ride .area < 7
+-- what the trips of a case come to, and the rider's rides in the window
+record Sums : Type 0 where
+  come-to : List Result
+  window : List ChargedRide
 
--- the holder's sums in the seven areas are among the first 17 words
-start-alike : Alike (SameStart 68) (λ i. i < 17)
-start-alike = record { same = λ b b′ s. word-start s; put = λ b b′ s p v. put-start 4 s (4 * p) v }
+-- as they are settled on books that are sound; and as the case says
+abbrev settledSums : Case → Sums
+settledSums c =
+    let run = runOnSound sample sampleCounts freshBook (offers c) in
+    record { come-to = resultsOf (c .rider) run; window = ridesOver sample sampleCounts (c .rider) run [] }
 
-touches : (ride : Ride) → Alone ride → Touches (λ i. i < 17) sampleCounts ride
-touches ride alone =
-    record {
-      adults = λ i h a ha. (omega (arith, alone .adults), omega (arith, alone .adults));
-      children = λ i h. absurd (omega (arith, alone .children));
-      bicycles = λ i h. absurd (omega (arith, alone .bicycles));
-    }
+abbrev saidSums : Case → Sums
+saidSums c = record { come-to = results c; window = ridesIn (results c) [] }
 
-module _ (ride : Ride) (alone : Alone ride) {b b′ : List ℕ} (s : SameStart 68 b b′) where
-  charges-start : chargesOf sample sampleCounts b′ ride ≡ chargesOf sample sampleCounts b ride
-  charges-start = charges-alike start-alike (faultless sample sampleCounts sample-read) ride (alone .area) (touches ride alone) b b′ s
-
-  opened-start : SameStart 68 (opened oneWindow 0 b) (opened oneWindow 0 b′)
-  unfolding opened
-  opened-start = put-start 4 (put-start 4 (put-start 4 s 0 1) 4 0) 8 0
-
-  posted-start : SameStart 68 (posted sample sampleCounts b oneWindow 0 ride) (posted sample sampleCounts b′ oneWindow 0 ride)
-  posted-start =
-      posted-alike start-alike (faultless sample sampleCounts sample-read) ride (alone .area) (touches ride alone) oneWindow oneWindow 0 0 b b′ s
-      opened-start
-
--- ---- The cases.
-
--- every ride is the holder's alone, in one of the seven areas
-unfoldable aloneIn : List Ridden → Bool
-aloneIn [] = true
-aloneIn (c ∷ more) =
-    eqb (c .ride .party .adults) 0 && eqb (c .ride .party .children) 0 && eqb (c .ride .party .bicycles) 0 && ltb (c .ride .area) 7
-    && aloneIn more
-
-unfoldable aloneOf : Case → Bool
-aloneOf (areas n) = true
-aloneOf (price ride child cents) = true
-aloneOf (rides list) = aloneIn list
-aloneOf (distance metres km) = true
-aloneOf (duration from to minutes) = true
-aloneOf (refuses from to number) = true
-
--- and so of every case
-unfoldable everyAlone : List Case → Bool
-everyAlone [] = true
-everyAlone (c ∷ more) = aloneOf c && everyAlone more
-
-rides-start :
-    (list : List Ridden) → aloneIn list ≡ true → {b b′ : List ℕ} → SameStart 68 b b′ → ridesHold b′ list ≡ ridesHold b list
-unfolding ridesHold aloneIn
-rides-start [] e s = refl
-rides-start (c ∷ more) e {b} {b′} s =
-    let alone : Alone (c .ride) = search told depth 9 in
-    rw (charges-start (c .ride) alone s, rides-start more (search told depth 9) (posted-start (c .ride) alone s))
-
-case-start : (c : Case) → aloneOf c ≡ true → {b b′ : List ℕ} → SameStart 68 b b′ → holds b′ c ≡ holds b c
-unfolding holds aloneOf
-case-start (areas n) e s = refl
-case-start (price ride child cents) e s = refl
-case-start (rides list) e s = rides-start list e s
-case-start (distance metres km) e s = refl
-case-start (duration from to minutes) e s = refl
-case-start (refuses from to number) e s = refl
-
-cases-start : (list : List Case) → everyAlone list ≡ true → {b b′ : List ℕ} → SameStart 68 b b′ → everyHolds b′ list ≡ everyHolds b list
-unfolding everyHolds everyAlone
-cases-start [] e s = refl
-cases-start (c ∷ more) e s =
-    rw (case-start c (both-left (aloneOf c) (everyAlone more) e) s, cases-start more (both-right (aloneOf c) (everyAlone more) e) s)
-
--- the first 17 words of a fresh book
-abbrev firstWords : List ℕ
-firstWords = replicate 68 0
-
-first-words : SameStart 68 firstWords freshBook
-first-words =
-    record {
-      long = omega (arith, length-replicate {A = ℕ} 68 0);
-      long′ = omega (arith, length-replicate {A = ℕ} bookSize 0);
-      same = λ i h. getD-replicate {A = ℕ} bookSize i 0 0 (omega arith) ∙ sym (getD-replicate {A = ℕ} 68 i 0 0 h);
-    }
-
-cases-alone : everyAlone cases ≡ true
-unfolding everyAlone aloneOf aloneIn cases charged rideIn
-cases-alone = refl
-
--- on these the cases are computed
-computed : everyHolds firstWords cases ≡ true
-unfolding ridesOf statementSize everyHolds holds cases sample sampleArea areaBytes areasBytes rideIn charged sameList ridesHold stampBytes tripBytes
-    getLe putLe bytesOf each broken frameAt dividedUp hundredthsOf periods monthDays daysOfMonths daysOfYears dayNumber minuteNumber
-    areaFields capsRight placeRight areaEntry entryAt readFrom readTariff levelCap tripCapOf dayCapOf areaOf areaAt
-    shapeAt partyAt stopNumber checkinOf checkoutOf isTrip partyRight stopsKnown stampsRight belongs windowOf tooEarly rows firstOf refusedOn apart kmFrom kmOf rideOf
-    step1 step2 step3 step4 tripCap priceOf secondCap allCap leftOf cappedHere foldUp chargeIn riderCharge riderCharges bicycleCharges chargesOf
-    addHere addUp addList coverBicycles opened posted
+-- all cases, computed
+computed : map settledSums cases ≡ map saidSums cases
+unfolding dividedUp hundredthsOf periods getLe putLe bytesOf each broken frameAt monthDays daysOfMonths daysOfYears dayNumber minuteNumber leftOf
+    cappedHere foldUp among chargeIn areaFields stopFields levelCap tripCapOf dayCapOf areaOf areaAt stopAt liesWithin smallestOf shapeAt partyAt
+    stopNumber checkinOf checkoutOf isTrip partyRight stopsKnown stampsRight apart kmFrom kmOf stopOf areaOfStops rideOf step1 step2 step3 step4
+    tripCap priceOf secondCap allCap riderCharge riderCharges bicycleCharges chargesOf belongs tooEarly windowOf addHere addUp addList coverBicycles
+    opened posted statementSize tripRides rows firstOf partOf oneMore partsOf postedAll acceptedTrip onSound runOnSound entryOf ridesWith ridesAfter
+    ridesOver sampleArea areaBytes areasBytes sampleStop stopBytes stopsBytes sampleAreas sampleStops sample stampBytes numbersBytes tripBytes offered
+    partResults outcomeResults resultsOf ridesIn cases
 computed = refl
 
--- Every starred sum comes out, its rides charged one after another from a fresh book on.
-pub table : everyHolds freshBook cases ≡ true
-table = cases-start cases cases-alone first-words ∙ computed
+-- where two functions agree all along a list, they agree on each of it
+on-each : {A B : Type 0} (f g : A → B) (l : List A) → map f l ≡ map g l → (x : A) → List·Memᴰ x l → f x ≡ g x
+on-each f g (y ∷ l) e x (List·Memᴰ·head is) = rw is (cc e)
+on-each f g (y ∷ l) e x (List·Memᴰ·tail there) = on-each f g l (cc e) x there
+
+-- Every starred sum comes out, its trips settled one after another from a fresh book on.
+pub table : (c : Case) → List·Memᴰ c cases → Holds c
+table c there =
+    let sums = on-each settledSums saidSums cases computed c there in
+    let run = run-fresh sample sampleCounts sample-read (offers c) in
+    record {
+      results-are = ap (resultsOf (c .rider)) run ∙ ap (λ s. s .come-to) sums;
+      window-is = ap (λ settlements. ridesOver sample sampleCounts (c .rider) settlements []) run ∙ ap (λ s. s .window) sums;
+    }

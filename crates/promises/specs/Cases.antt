@@ -1,27 +1,21 @@
--- docs/RULES.md, section 18: the starred sums, as one table.
-use Prim.Native.Nat.{ℕ}
-use mathlib.Core.List.{List, [], _∷_, _++_}
-use mathlib.Core.Bool.{Bool, true, false, _&&_}
-use lib.ListN.{drop}
-use lib.Dec.{eqb}
+-- docs/RULES.md, section 18: the starred sums, as one table. Each is a run of trips, made of their bytes and settled one after another from a
+-- fresh book under the sample, and what it comes to.
+use Prim.Native.Nat.{ℕ, _+_, _*_, _/_, _%_}
+use mathlib.Core.Path.{_≡_}
+use mathlib.Core.List.{List, [], _∷_, _++_, map}
+use lib.ListN.{length}
 use Rattle.wire.specs.Number.{bytesOf}
 use Rattle.calendar.specs.declared.Stamp.{Stamp}
+use Rattle.caps.specs.Rides.{ChargedRide}
 use Rattle.tariff.specs.declared.Counts.{Counts}
 use Rattle.tariff.specs.declared.fields.AreaFields.{AreaFields}
-use Rattle.tariff.specs.declared.Reading.the-variants.{Fault, Faultless}
-use Rattle.tariff.specs.declared.Stop.{Stop}
-use Rattle.tariff.specs.Scan.{readTariff}
-use Rattle.tariff.specs.Areas.{areaAt}
-use Rattle.trip.specs.Trips.{tripOf}
-use Rattle.fare.specs.declared.Ride.{Ride}
-use Rattle.fare.specs.Distance.{apart, kmOf}
-use Rattle.fare.specs.Prices.{priceOf}
-use Rattle.fare.specs.Rides.{rideOf}
-use Rattle.book.specs.declared.Window.{Window}
-use Rattle.book.specs.Charging.{chargesOf}
-use Rattle.book.specs.Posting.{posted}
+use Rattle.tariff.specs.declared.fields.StopFields.{StopFields}
+use Rattle.trip.specs.declared.Party.{Party}
 use Rattle.book.specs.Words.{freshBook}
-use Rattle.settle.specs.Refusals.{refusal, rows, Found, nothing, found, firstOf}
+use Rattle.statement.specs.Record.{Part, largestSize}
+use Rattle.settle.specs.Outcome.{Outcome, refused, accepted}
+use Rattle.settle.specs.Runs.{Offer, Settlement, runFrom}
+use Rattle.promises.specs.Runs.{entryOf, ridesOf}
 
 -- ---- The sample.
 
@@ -60,141 +54,226 @@ unfoldable pub areasBytes : List AreaFields → List ℕ
 areasBytes [] = []
 areasBytes (f ∷ more) = areaBytes f ++ areasBytes more
 
+-- a stop: area, x and y
+unfoldable pub sampleStop : ℕ → ℕ → ℕ → StopFields
+sampleStop area x y = record { area = area; x = x; y = y }
+
+-- a stop record, kind 2: a head of 4 bytes and a body of 9
+unfoldable pub stopBytes : StopFields → List ℕ
+stopBytes f = bytesOf 2 11 ++ (bytesOf 2 2 ++ (bytesOf 1 (f .area) ++ (bytesOf 4 (f .x) ++ bytesOf 4 (f .y))))
+
+-- stop records one after another
+unfoldable pub stopsBytes : List StopFields → List ℕ
+stopsBytes [] = []
+stopsBytes (f ∷ more) = stopBytes f ++ stopsBytes more
+
 -- state 0, regions 1 and 6, cities 2 to 5 of region 1. Ours: the state's prices, the bicycle flats, levels K, A, C and D of region 6
-unfoldable pub sample : List ℕ
-sample =
-    areasBytes
-    (sampleArea 0 0 180 28 360 0 0 0 0 0 0 3000 500
+unfoldable pub sampleAreas : List AreaFields
+sampleAreas =
+    sampleArea 0 0 180 28 360 0 0 0 0 0 0 3000 500
     ∷ sampleArea 1 0 140 27 360 0 0 0 0 0 0 2500 380
     ∷ sampleArea 2 1 140 27 90 1 230 90 0 0 0 550 290
     ∷ sampleArea 2 1 140 27 90 1 220 90 0 0 0 490 280
     ∷ sampleArea 2 1 140 27 90 1 200 90 0 0 0 65535 250
     ∷ sampleArea 2 1 140 27 90 0 0 0 0 0 0 400 300
     ∷ sampleArea 1 0 173 29 240 2 210 340 740 1250 1690 2890 400
-    ∷ [])
+    ∷ []
 
--- its seven areas; it has no stops
+-- the stops, as in samples/tariff.txt: 0 to 6 in city 2, 7 and 8 in city 3, 9 and 10 in city 4, 11 and 12 in city 5, 13 in region 1, 14 to 26 in
+-- region 6, 27 in the state
+unfoldable pub sampleStops : List StopFields
+sampleStops =
+    sampleStop 2 300000 200000
+    ∷ sampleStop 2 303000 200000
+    ∷ sampleStop 2 303000 204000
+    ∷ sampleStop 2 308000 200000
+    ∷ sampleStop 2 306000 208000
+    ∷ sampleStop 2 300000 201000
+    ∷ sampleStop 2 300000 201001
+    ∷ sampleStop 3 320000 200000
+    ∷ sampleStop 3 326000 200000
+    ∷ sampleStop 4 340000 210000
+    ∷ sampleStop 4 344000 213000
+    ∷ sampleStop 5 350000 190000
+    ∷ sampleStop 5 350000 202000
+    ∷ sampleStop 1 367000 200000
+    ∷ sampleStop 6 500000 300000
+    ∷ sampleStop 6 506000 300000
+    ∷ sampleStop 6 506000 308000
+    ∷ sampleStop 6 500000 312000
+    ∷ sampleStop 6 505000 312000
+    ∷ sampleStop 6 518000 300000
+    ∷ sampleStop 6 521000 300000
+    ∷ sampleStop 6 523000 300000
+    ∷ sampleStop 6 507000 324000
+    ∷ sampleStop 6 520000 321000
+    ∷ sampleStop 6 532000 300000
+    ∷ sampleStop 6 524000 332000
+    ∷ sampleStop 6 536000 348000
+    ∷ sampleStop 0 420000 250000
+    ∷ []
+
+-- the tariff's bytes
+unfoldable pub sample : List ℕ
+sample = areasBytes sampleAreas ++ stopsBytes sampleStops
+
+-- and what it has
 abbrev pub sampleCounts : Counts
-sampleCounts = record { areas = 7; stops = 0 }
+sampleCounts = record { areas = 7; stops = 28 }
 
--- ---- What a case is.
-
--- a ride of the holder alone: area, km, minutes, class and ticket level
-unfoldable pub rideIn : ℕ → ℕ → ℕ → ℕ → ℕ → Ride
-rideIn area km minutes class level =
-    record {
-      area = area;
-      km = record { 0 = km };
-      minutes = record { 0 = minutes };
-      class = class;
-      level = level;
-      party = record { adults = 0; children = 0; bicycles = 0 };
-    }
-
--- such a ride, its price and its charge
-pub record Ridden : Type 0 where
-  pub ride : Ride
-  pub price : ℕ
-  pub charge : ℕ
-
--- area, km, minutes and class; price and charge
-unfoldable pub charged : ℕ → ℕ → ℕ → ℕ → ℕ → ℕ → Ridden
-charged area km minutes class price charge = record { ride = rideIn area km minutes class 0; price = price; charge = charge }
-
-pub data Case : Type 0 where
-  -- the sample is a faultless tariff with so many areas
-  areas : ℕ → Case
-  -- a ride, whether for a child, and its price
-  price : Ride → Bool → ℕ → Case
-  -- rides one after another in one window, each with its price and its charge
-  rides : List Ridden → Case
-  -- metres, and the kilometres that they are
-  distance : ℕ → ℕ → Case
-  -- check-in, check-out, and the minutes between them
-  duration : Stamp → Stamp → ℕ → Case
-  -- check-in, check-out, and the refusal that the trip is given
-  refuses : Stamp → Stamp → ℕ → Case
+-- ---- Trips.
 
 -- year, month, day, hour and minute
 abbrev pub stamp : ℕ → ℕ → ℕ → ℕ → ℕ → Stamp
 stamp year month day hour minute = record { year = year; month = month; day = day; hour = hour; minute = minute }
 
--- the starred sums, in their order; ticket level 3 is B
-unfoldable pub cases : List Case
-cases =
-    areas 7
-    ∷ price (rideIn 6 6 30 2 0) false 347
-    ∷ price (rideIn 6 21 30 2 0) false 782
-    ∷ price (rideIn 6 21 30 2 3) false 740
-    ∷ price (rideIn 6 21 30 1 3) false 1110
-    ∷ price (rideIn 6 21 30 2 3) true 370
-    ∷ price (rideIn 2 5 90 2 0) false 230
-    ∷ price (rideIn 2 5 91 2 0) false 415
-    ∷ rides (charged 5 12 95 2 604 400 ∷ [])
-    ∷ rides (charged 6 18 30 1 1043 1043 ∷ charged 6 23 30 1 1260 1260 ∷ charged 6 13 30 1 825 825 ∷ charged 6 29 30 1 1521 1207 ∷ [])
-    ∷ rides
-    (charged 6 40 30 2 1333 1333 ∷ charged 6 60 30 2 1913 1557 ∷ charged 6 10 30 2 463 0 ∷ charged 6 13 30 1 825 825
-    ∷ charged 6 12 30 2 521 0 ∷ charged 6 29 30 1 1521 620 ∷ [])
-    ∷ rides (charged 2 10 30 2 230 230 ∷ charged 1 67 30 2 1949 1949 ∷ charged 4 5 30 2 200 200 ∷ charged 4 5 30 2 200 121 ∷ [])
-    ∷ distance 1000 1
-    ∷ distance 1001 2
-    ∷ duration (stamp 2026 2 28 23 50) (stamp 2026 3 1 0 15) 25
-    ∷ refuses (stamp 2028 2 28 23 50) (stamp 2028 3 1 0 15) 9
-    ∷ []
-
--- ---- Whether a case holds, by the definitions that settling uses.
-
--- the window that the rides of a case are in: the book's own words count
-abbrev pub oneWindow : Window
-oneWindow = record { current = true; opening = record { 0 = 0 }; trips = 0 }
-
--- two lists are the same
-unfoldable pub sameList : List ℕ → List ℕ → Bool
-sameList [] [] = true
-sameList [] (y ∷ ys) = false
-sameList (x ∷ xs) [] = false
-sameList (x ∷ xs) (y ∷ ys) = eqb x y && sameList xs ys
-
--- each price is right, and each charge on the book that the rides before left; the holder's charge is the only one
-unfoldable pub ridesHold : List ℕ → List Ridden → Bool
-ridesHold book [] = true
-ridesHold book (c ∷ more) =
-    eqb (priceOf (areaAt sample sampleCounts (c .ride .area)) (c .ride) false) (c .price)
-    && sameList (chargesOf sample sampleCounts book (c .ride)) (c .charge ∷ [])
-    && ridesHold (posted sample sampleCounts book oneWindow 0 (c .ride)) more
-
--- a stop so many metres along the plane's first axis
-abbrev pub stopAtX : ℕ → Stop
-stopAtX metres = record { area = 0; x = record { 0 = metres }; y = record { 0 = 0 } }
-
 -- a stamp: year 2, month, day, hour, minute
 unfoldable pub stampBytes : Stamp → List ℕ
 stampBytes s = bytesOf 2 (s .year) ++ (bytesOf 1 (s .month) ++ (bytesOf 1 (s .day) ++ (bytesOf 1 (s .hour) ++ bytesOf 1 (s .minute))))
 
--- a trip record, kind 3: class 2, level 0, the holder alone, from stop 0 to stop 1
-unfoldable pub tripBytes : Stamp → Stamp → List ℕ
-tripBytes from to =
-    bytesOf 2 24 ++ (bytesOf 2 3 ++ (stampBytes from ++ (stampBytes to ++ (2 ∷ 0 ∷ 0 ∷ 0 ∷ 0 ∷ 2 ∷ bytesOf 2 0 ++ bytesOf 2 1))))
+-- stops of 2 bytes
+unfoldable pub numbersBytes : List ℕ → List ℕ
+numbersBytes [] = []
+numbersBytes (stop ∷ more) = bytesOf 2 stop ++ numbersBytes more
 
--- the first row of the table that holds of a trip, under a tariff with two stops and on a fresh book, which is sound: 5 on
-unfoldable pub refusedOn : List ℕ → Found
-refusedOn trip = firstOf (drop 1 (rows sample (record { areas = 7; stops = 2 }) freshBook trip 17))
+-- a trip record, kind 3, of its check-in, check-out, class, ticket level, party and stops; the length counts the kind and a body of 18 + 2n
+unfoldable pub tripBytes : Stamp → Stamp → ℕ → ℕ → Party → List ℕ → List ℕ
+tripBytes from to class level party stops =
+    bytesOf 2 (20 + 2 * length stops) ++ (bytesOf 2 3
+    ++ (stampBytes from ++ (stampBytes to ++ (bytesOf 1 class ++ (bytesOf 1 level
+    ++ (bytesOf 1 (party .adults) ++ (bytesOf 1 (party .children) ++ (bytesOf 1 (party .bicycles) ++ (bytesOf 1 (length stops) ++ numbersBytes stops)))))))))
 
--- whether a case holds; rides begin with a book
-unfoldable pub holds : List ℕ → Case → Bool
-holds book (areas n) = elim (readTariff sample) [ Faultless counts ↦ eqb (counts .areas) n | Fault number at ↦ false ]
-holds book (price ride child cents) = eqb (priceOf (areaAt sample sampleCounts (ride .area)) ride child) cents
-holds book (rides list) = ridesHold book list
-holds book (distance metres km) = eqb (kmOf (apart (stopAtX 0) (stopAtX metres))) km
-holds book (duration from to minutes) =
-    elim (refusedOn (tripBytes from to)) [
-      | nothing ↦ eqb (rideOf sample sampleCounts (tripBytes from to) (tripOf (tripBytes from to)) .minutes .0) minutes
-      | found why ↦ false
-    ]
-holds book (refuses from to number) =
-    elim (refusedOn (tripBytes from to)) [ nothing ↦ false | found why ↦ eqb (refusal why) number ]
+-- the holder alone; and with one child
+abbrev pub alone : Party
+alone = record { adults = 0; children = 0; bicycles = 0 }
 
--- whether each case holds
-unfoldable pub everyHolds : List ℕ → List Case → Bool
-everyHolds book [] = true
-everyHolds book (c ∷ more) = holds book c && everyHolds book more
+abbrev pub withChild : Party
+withChild = record { adults = 0; children = 1; bicycles = 0 }
+
+-- some trip from a stop to a stop, offered with room for any record
+unfoldable pub offered : Stamp → Stamp → ℕ → ℕ → Party → ℕ → ℕ → Offer
+offered from to class level party first last =
+    record { bytes = tripBytes from to class level party (first ∷ last ∷ []); room = largestSize }
+
+-- so many minutes after a full hour of 2026-03-02, in the same day
+abbrev pub after : ℕ → ℕ → Stamp
+after hour minutes = stamp 2026 3 2 (hour + minutes / 60) (minutes % 60)
+
+-- the holder's trip: the full hour of its check-in, its minutes, class and ticket level (3 is B), its first and its last stop
+abbrev pub trip : ℕ → ℕ → ℕ → ℕ → ℕ → ℕ → Offer
+trip hour minutes class level first last = offered (after hour 0) (after hour minutes) class level alone first last
+
+-- ---- What trips come to.
+
+-- what a trip comes to for one rider: a ride that it is charged as, with the rider's price and charge, its km and minutes, and the charges of
+-- the whole party; or the refusal's number and place
+pub data Result : Type 0 where
+  ridden : ChargedRide → ℕ → ℕ → List ℕ → Result
+  refusedWith : ℕ → ℕ → Result
+
+-- a ride for each part
+unfoldable pub partResults : ℕ → List Part → List Result
+partResults rider [] = []
+partResults rider (part ∷ parts) =
+    ridden (entryOf sample sampleCounts rider part) (part .ride .km .0) (part .ride .minutes .0) (part .charges) ∷ partResults rider parts
+
+unfoldable pub outcomeResults : ℕ → Outcome → List Result
+outcomeResults rider (refused number place) = refusedWith number place ∷ []
+outcomeResults rider (accepted new parts) = partResults rider parts
+
+-- trip by trip
+unfoldable pub resultsOf : ℕ → List Settlement → List Result
+resultsOf rider [] = []
+resultsOf rider (s ∷ more) = outcomeResults rider (s .outcome) ++ resultsOf rider more
+
+-- the rides among them, the latest first; `before` are those before
+unfoldable pub ridesIn : List Result → List ChargedRide → List ChargedRide
+ridesIn [] before = before
+ridesIn (ridden ride km minutes charges ∷ more) before = ridesIn more (ride ∷ before)
+ridesIn (refusedWith number place ∷ more) before = ridesIn more before
+
+-- ---- What a case is.
+
+-- a rider, and trips one after another, each with what it comes to
+pub record Case : Type 0 where
+  pub rider : ℕ
+  pub trips : List (Offer × Result)
+
+abbrev pub offers : Case → List Offer
+offers c = map (λ t. t .0) (c .trips)
+
+abbrev pub results : Case → List Result
+results c = map (λ t. t .1) (c .trips)
+
+-- It holds: the trips, settled one after another from a fresh book under the sample, come to that; and the rides are the rider's in the window
+-- that is open at the end. Of one trip it says what `settled sample freshBook` of it is.
+pub record Holds (c : Case) : Type 0 where
+  pub results-are : resultsOf (c .rider) (runFrom sample freshBook (offers c)) ≡ results c
+  pub window-is : ridesOf sample sampleCounts (c .rider) (offers c) ≡ ridesIn (results c) []
+
+-- ---- The table.
+
+-- trips of the holder in one window; one trip alone; and one trip for the child that the holder carries, rider 11
+abbrev pub day : List (Offer × Result) → Case
+day trips = record { rider = 0; trips = trips }
+
+abbrev pub one : Offer → Result → Case
+one offer result = day ((offer, result) ∷ [])
+
+abbrev pub forChild : Offer → Result → Case
+forChild offer result = record { rider = 11; trips = (offer, result) ∷ [] }
+
+-- area, km, minutes and class; price and charge. Nobody else is charged
+abbrev pub ride : ℕ → ℕ → ℕ → ℕ → ℕ → ℕ → Result
+ride area km minutes class price charge =
+    ridden (record { area = area; class = class; price = price; charge = charge }) km minutes (charge ∷ [])
+
+-- the same of the child, and what the holder beside it is charged
+abbrev pub childRide : ℕ → ℕ → ℕ → ℕ → ℕ → ℕ → ℕ → Result
+childRide area km minutes class price charge holder =
+    ridden (record { area = area; class = class; price = price; charge = charge }) km minutes (holder ∷ charge ∷ [])
+
+-- the starred sums, in their order
+unfoldable pub cases : List Case
+cases =
+    -- region 6: 6 km; 21 km; 21 km at level B; that in class 1; that for a child
+    one (trip 6 30 2 0 14 15) (ride 6 6 30 2 347 347)
+    ∷ one (trip 6 30 2 0 14 20) (ride 6 21 30 2 782 782)
+    ∷ one (trip 6 30 2 3 14 20) (ride 6 21 30 2 740 740)
+    ∷ one (trip 6 30 1 3 14 20) (ride 6 21 30 1 1110 1110)
+    ∷ forChild (offered (after 6 0) (after 6 30) 2 3 withChild 14 20) (childRide 6 21 30 2 370 370 740)
+    -- city 2, 5 km: 90 minutes; 91 minutes
+    ∷ one (trip 6 90 2 0 0 2) (ride 2 5 90 2 230 230)
+    ∷ one (trip 6 91 2 0 0 2) (ride 2 5 91 2 415 415)
+    -- city 5, 12 km, 95 minutes
+    ∷ one (trip 6 95 2 0 11 12) (ride 5 12 95 2 604 400)
+    -- region 6, class 1: 18, 23, 13, 29 km
+    ∷ day
+    ((trip 6 30 1 0 14 19, ride 6 18 30 1 1043 1043)
+    ∷ (trip 7 30 1 0 14 21, ride 6 23 30 1 1260 1260)
+    ∷ (trip 8 30 1 0 14 18, ride 6 13 30 1 825 825)
+    ∷ (trip 9 30 1 0 14 23, ride 6 29 30 1 1521 1207)
+    ∷ [])
+    -- region 6: 40, 60, 10, 13 (class 1), 12, 29 (class 1) km
+    ∷ day
+    ((trip 6 30 2 0 14 25, ride 6 40 30 2 1333 1333)
+    ∷ (trip 7 30 2 0 14 26, ride 6 60 30 2 1913 1557)
+    ∷ (trip 8 30 2 0 14 16, ride 6 10 30 2 463 0)
+    ∷ (trip 9 30 1 0 14 18, ride 6 13 30 1 825 825)
+    ∷ (trip 10 30 2 0 14 17, ride 6 12 30 2 521 0)
+    ∷ (trip 11 30 1 0 14 23, ride 6 29 30 1 1521 620)
+    ∷ [])
+    -- city 2, 10 km; region 1, 67 km; city 4, 5 km, twice
+    ∷ day
+    ((trip 6 30 2 0 0 4, ride 2 10 30 2 230 230)
+    ∷ (trip 7 30 2 0 0 13, ride 1 67 30 2 1949 1949)
+    ∷ (trip 8 30 2 0 9 10, ride 4 5 30 2 200 200)
+    ∷ (trip 9 30 2 0 9 10, ride 4 5 30 2 200 121)
+    ∷ [])
+    -- 1,000 m; 1,001 m
+    ∷ one (trip 6 30 2 0 0 5) (ride 2 1 30 2 167 167)
+    ∷ one (trip 6 30 2 0 0 6) (ride 2 2 30 2 194 194)
+    -- 02-28 23:50 to 03-01 00:15, in 2026; in 2028
+    ∷ one (offered (stamp 2026 2 28 23 50) (stamp 2026 3 1 0 15) 2 0 alone 0 2) (ride 2 5 25 2 230 230)
+    ∷ one (offered (stamp 2028 2 28 23 50) (stamp 2028 3 1 0 15) 2 0 alone 0 2) (refusedWith 9 0)
+    ∷ []
