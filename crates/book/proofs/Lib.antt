@@ -11,3 +11,5 @@ pub mod PostSteps
 pub mod PostTurns
 pub mod AlikeBooks
 pub mod GoodRides
+pub mod InWords
+pub mod BookWords

@@ -5,3 +5,4 @@ pub mod Caps
 pub mod Charging
 pub mod Posting
 pub mod Contracts
+pub mod InWords

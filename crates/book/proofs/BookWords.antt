@@ -1,0 +1,100 @@
+-- A book is its words: each word is one of those that the rules name, and a book of bytes is determined by them. Posting leaves bytes bytes.
+-- Assumes nothing.
+use Prim.Native.Nat.{ℕ, zero, suc, _+_, _-_, _*_, _/_, _%_, _<_}
+use native.Mathlib.Nat.{add-zero}
+use native.Mathlib.Omega.{arith}
+use native.Mathlib.Decide.{ℕ-discrete, decLt}
+use mathlib.Core.Path.{_≡_, refl, sym, ap, subst, _∙_}
+use mathlib.Core.Bool.{Bool, true, false}
+use mathlib.Core.List.{List}
+use lib.ListN.{length, getD, replicate}
+use lib.Seq.{ext-getD}
+use Rattle.wire.specs.Number.{getLe, Bytes}
+use Rattle.wire.proofs.Number.{bytes-stay}
+use Rattle.tariff.specs.declared.Counts.{Counts}
+use Rattle.tariff.specs.Areas.{FaultlessTariff}
+use Rattle.fare.specs.declared.Ride.{Ride}
+use Rattle.book.specs.declared.Window.{Window}
+use Rattle.book.specs.Words.{bookSize, bookWords, word, putWord, pairPlace, coverPlace}
+use Rattle.book.specs.Windows.{inWindow}
+use Rattle.book.specs.Posting.{opened, posted}
+use Rattle.book.proofs.AlikeBooks.{Alike, Touches, posted-alike}
+
+-- ---- The words there are.
+
+-- Each word is the trips, the opening, the last check-out, one of a rider's two sums in an area, or a bicycle's.
+pub each-word :
+    (P : ℕ → Type 0) → P 0 → P 1 → P 2 → ((rider area : ℕ) → rider < 21 → area < 32 → P (pairPlace rider area) × P (pairPlace rider area + 1))
+    → ((k : ℕ) → k < 10 → P (coverPlace k)) → (i : ℕ) → i < bookWords → P i
+each-word P trips opening last sums covers zero h = trips
+each-word P trips opening last sums covers (suc zero) h = opening
+each-word P trips opening last sums covers (suc (suc zero)) h = last
+each-word P trips opening last sums covers (suc (suc (suc n))) h =
+    elim (decLt n 1344) [
+      | yes sum ↦
+          let pair = sums (n / 64) (n % 64 / 2) (omega arith) (omega arith) in
+          elim (ℕ-discrete (n % 2) 0) [
+            | yes even ↦ let e : pairPlace (n / 64) (n % 64 / 2) ≡ suc (suc (suc n)) = omega arith in subst P e (pair .0)
+            | no odd ↦ let e : pairPlace (n / 64) (n % 64 / 2) + 1 ≡ suc (suc (suc n)) = omega arith in subst P e (pair .1)
+          ]
+      | no past ↦ let e : coverPlace (n - 1344) ≡ suc (suc (suc n)) = omega arith in subst P e (covers (n - 1344) (omega arith))
+    ]
+
+-- numbers of bytes that are the same have the same bytes
+same-bytes :
+    (width : ℕ) (b b′ : List ℕ) (place : ℕ) → Bytes b → Bytes b′ → getLe width b place ≡ getLe width b′ place → (j : ℕ) → j < width
+    → getD b (place + j) 0 ≡ getD b′ (place + j) 0
+unfolding getLe
+same-bytes zero b b′ place bytes bytes′ same j h = absurd (omega arith)
+same-bytes (suc width) b b′ place bytes bytes′ same zero h = rw add-zero (omega (arith, bytes place, bytes′ place))
+same-bytes (suc width) b b′ place bytes bytes′ same (suc j) h =
+    let next : place + suc j ≡ place + 1 + j = omega arith in
+    rw next (same-bytes width b b′ (place + 1) bytes bytes′ (omega (arith, bytes place, bytes′ place)) j (omega arith))
+
+-- Two books of bytes with the same words are the same.
+pub words-same :
+    (b b′ : List ℕ) → length b ≡ bookSize → length b′ ≡ bookSize → Bytes b → Bytes b′ → ((i : ℕ) → i < bookWords → word b i ≡ word b′ i) → b ≡ b′
+words-same b b′ size size′ bytes bytes′ same = ext-getD 0 b b′ (size ∙ sym size′) at
+  where
+    at : (i : ℕ) → i < length b → getD b i 0 ≡ getD b′ i 0
+    at i h =
+        let place : 4 * (i / 4) + i % 4 ≡ i = omega arith in
+        rw place at (same-bytes 4 b b′ (4 * (i / 4)) bytes bytes′ (same (i / 4) (omega arith)) (i % 4) (omega arith))
+
+-- ---- Bytes.
+
+zeros-bytes : (n : ℕ) → Bytes (replicate n 0)
+zeros-bytes zero i = omega arith
+zeros-bytes (suc n) zero = omega arith
+zeros-bytes (suc n) (suc i) = zeros-bytes n i
+
+-- Where the book is of bytes, so are the words that count.
+pub window-bytes : (current : Bool) (book : List ℕ) → Bytes book → Bytes (inWindow current book)
+window-bytes true book bytes = bytes
+window-bytes false book bytes = zeros-bytes bookSize
+
+-- the same book of bytes twice
+abbrev Twice : List ℕ → List ℕ → Type 0
+Twice b b′ = (b ≡ b′) × Bytes b
+
+twice-alike : Alike Twice (λ i. Unit)
+twice-alike =
+    record {
+      same = λ b b′ s p known. ap (λ (c : List ℕ). word c p) (sym (s .0));
+      put = λ b b′ s p v. (ap (λ (c : List ℕ). putWord c p v) (s .0), bytes-stay 4 b (4 * p) v (s .1));
+    }
+
+opened-bytes : (window : Window) (checkout : ℕ) (b : List ℕ) → Bytes b → Bytes (opened window checkout b)
+unfolding opened
+opened-bytes window checkout b bytes = bytes-stay 4 _ _ _ (bytes-stay 4 _ _ _ (bytes-stay 4 _ _ _ bytes))
+
+-- A ride leaves a book of bytes where the words that count are one.
+pub posted-bytes :
+    {tariff : List ℕ} {counts : Counts} → FaultlessTariff tariff counts → (ride : Ride) → ride .area < counts .areas → (book : List ℕ) (window : Window)
+    (checkout : ℕ) → Bytes (inWindow (window .current) book) → Bytes (posted tariff counts book window checkout ride)
+posted-bytes t ride there book window checkout bytes =
+    let touches : Touches (λ i. Unit) _ ride =
+    record { adults = λ i h a h′. (tt, tt); children = λ i h a h′. (tt, tt); bicycles = λ i h. tt }
+    in
+    posted-alike twice-alike t ride there touches window window checkout checkout book book (refl, bytes)
+    (refl, opened-bytes window checkout (inWindow (window .current) book) bytes) .1

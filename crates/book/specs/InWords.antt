@@ -1,0 +1,61 @@
+-- Rules, sections 10 and 11: what a charge and a bicycle's covering area are, in the rules' words, without a way to find them.
+-- w stands for the words that count: the book's own in the open window, a fresh book's in the next (Windows: inWindow).
+use Prim.Native.Nat.{ℕ, _+_, _-_, _≤_, _<_}
+use mathlib.Core.Path.{_≡_}
+use mathlib.Core.Logic.{_⊎_}
+use mathlib.Core.List.{List}
+use mathlib.Core.Bool.{true, cond}
+use lib.Dec.{eqb}
+use Rattle.units.specs.declared.Cents.{Cents}
+use Rattle.units.specs.declared.Cap.the-variants.{UpTo}
+use Rattle.tariff.specs.declared.Counts.{Counts}
+use Rattle.tariff.specs.Rules.{flatOf}
+use Rattle.tariff.specs.Areas.{areaAt, liesWithin}
+use Rattle.fare.specs.declared.Ride.{Ride}
+use Rattle.fare.specs.Prices.{priceOf}
+use Rattle.book.specs.Words.{secondSum, allSum}
+use Rattle.book.specs.Caps.{secondCap, allCap}
+use Rattle.book.specs.Charging.{isChild}
+
+-- ---- The charge.
+
+-- what a rider pays where no cap cuts it
+abbrev pub priceFor : List ℕ → Counts → Ride → ℕ → ℕ
+priceFor tariff counts ride rider = priceOf (areaAt tariff counts (ride .area)) ride (isChild rider)
+
+-- an amount is what one of a ride's caps has left for a rider. A class 2 ride has both caps of its area and of every area above, a class 1
+-- ride the all-classes ones. What a cap has left is the cap less the rider's sum there, 0 if passed already
+pub data LeftByCap (tariff : List ℕ) (counts : Counts) (w : List ℕ) (ride : Ride) (rider left : ℕ) : Type 0 where
+  second-class :
+      (area : ℕ) (cap : Cents) → ride .class ≡ 2 → liesWithin tariff counts (ride .area) area ≡ true
+      → secondCap (areaAt tariff counts area) (isChild rider) ≡ UpTo cap → left ≡ cap .0 - secondSum w rider area
+      → LeftByCap tariff counts w ride rider left
+  all-classes :
+      (area : ℕ) (cap : Cents) → liesWithin tariff counts (ride .area) area ≡ true
+      → allCap (areaAt tariff counts area) (isChild rider) ≡ UpTo cap → left ≡ cap .0 - allSum w rider area
+      → LeftByCap tariff counts w ride rider left
+
+-- the charge is the smallest of the price and what each of these caps has left: it is none more than any of them, and it is one of them
+pub record ChargeSays (tariff : List ℕ) (counts : Counts) (w : List ℕ) (ride : Ride) (rider charge : ℕ) : Type 0 where
+  pub at-most-price : charge ≤ priceFor tariff counts ride rider
+  pub at-most-left : (left : ℕ) → LeftByCap tariff counts w ride rider left → charge ≤ left
+  pub one-of-them : (charge ≡ priceFor tariff counts ride rider) ⊎ LeftByCap tariff counts w ride rider charge
+
+-- ---- Bicycles. `old` is a bicycle's word: 0 if unused, else 1 + its old covering area.
+
+-- an area contains another and the old covering area, if any
+pub record ContainsBoth (tariff : List ℕ) (counts : Counts) (area old outer : ℕ) : Type 0 where
+  pub trips : liesWithin tariff counts area outer ≡ true
+  pub olds : (inner : ℕ) → old ≡ 1 + inner → liesWithin tariff counts inner outer ≡ true
+
+-- the new covering area is the smallest containing the trip's area and the old one: it contains both, and lies within every area that does
+pub record CoverSays (tariff : List ℕ) (counts : Counts) (area old new : ℕ) : Type 0 where
+  pub there : new < counts .areas
+  pub contains : ContainsBoth tariff counts area old new
+  pub least : (outer : ℕ) → ContainsBoth tariff counts area old outer → liesWithin tariff counts new outer ≡ true
+
+-- the charge is the new covering area's flat less the old one's, 0 if unused: what was paid before and the charge are together the flat
+pub record BicycleSays (tariff : List ℕ) (counts : Counts) (area old charge : ℕ) : Type 0 where
+  pub new : ℕ
+  pub covers : CoverSays tariff counts area old new
+  pub flat : cond (eqb old 0) 0 (flatOf tariff counts (old - 1)) + charge ≡ flatOf tariff counts new
