@@ -3,8 +3,9 @@
 use Prim.Native.Nat.{ℕ, _+_, _-_, _*_, _/_, _%_, _^_, _≤_, _<_}
 use native.Mathlib.Nat.{zero-add}
 use native.Mathlib.Omega.{arith}
-use mathlib.Core.Path.{_≡_, refl, sym, ap, _∙_}
+use mathlib.Core.Path.{_≡_, refl, sym, ap, subst, _∙_}
 use mathlib.Core.Logic.{_↔_, ⊎-elim}
+use mathlib.Core.Bool.{true}
 use mathlib.Core.List.{List, [], _∷_, append-nil}
 use lib.ListN.{length, getD}
 use Rattle.tariff.specs.declared.Counts.{Counts}
@@ -23,12 +24,16 @@ use Rattle.fare.proofs.Distance.{km-holds, km-least, km-range}
 use Rattle.fare.proofs.Stops.{stop-there, area-of-stops}
 use Rattle.fare.proofs.GoodTrips.{riding}
 use Rattle.book.specs.Windows.{inWindow}
-use Rattle.book.specs.Charging.{chargesOf}
+use Rattle.book.specs.Words.{coverWord}
+use Rattle.book.specs.Charging.{carries, placeOf, chargesOf}
+use Rattle.book.specs.InWords.{ChargeSays, BicycleSays}
 use Rattle.book.specs.Contracts.{Rideable}
 use Rattle.book.specs.Posting.{posted}
 use Rattle.book.proofs.SoundLaws.{sound-has}
 use Rattle.book.proofs.SoundAgain.{WindowRight, window-right}
-use Rattle.book.proofs.ChargeLaws.{charges-length, adult-stands, child-stands, bicycle-stands, charges-most}
+use Rattle.book.proofs.ChargeLaws.{charges-length, adult-stands, child-stands, bicycle-stands, charges-most, cover-known}
+use Rattle.book.proofs.PostedLaws.{place-there, rider-stands}
+use Rattle.book.proofs.InWords.{charge-says, bicycle-says}
 use Rattle.book.proofs.GoodRides.{apart-most, good-ride}
 use Rattle.statement.specs.Record.{Part, sizeWith, recordOf, statementOf, Recordable}
 use Rattle.statement.specs.Reading.{chargeIn}
@@ -120,6 +125,31 @@ module _ {tariff book bytes : List ℕ} {room : ℕ} {new : List ℕ} {parts : L
   unfolding partOf
   charge-stands i h = charge-is part (statementOf parts) 0 stands recordable i h
 
+  -- each rider's and each bicycle's charge there is the one of the rules' words
+  rider-pays :
+      (rider : ℕ) → carries (ride .party) rider ≡ true
+      → ChargeSays tariff (a .counts) w ride rider (chargeIn (statementOf parts) 0 (placeOf (ride .party) rider))
+  rider-pays rider on =
+      let there : placeOf (ride .party) rider < length (chargesOf tariff (a .counts) w ride) =
+      omega (arith, charges-length tariff (a .counts) w ride, place-there ride rider on)
+      in
+      subst (ChargeSays tariff (a .counts) w ride rider)
+      (sym (charge-stands (placeOf (ride .party) rider) there ∙ rider-stands tariff (a .counts) w ride rider on))
+      (charge-says (faultless tariff (a .counts) (a .read)) w ride (rideable .area) rider)
+
+  bicycle-pays :
+      (i : ℕ) → i < ride .party .bicycles
+      → BicycleSays tariff (a .counts) (ride .area) (coverWord w i)
+      (chargeIn (statementOf parts) 0 (1 + ride .party .adults + ride .party .children + i))
+  bicycle-pays i h =
+      let place = 1 + ride .party .adults + ride .party .children + i in
+      let there : place < length (chargesOf tariff (a .counts) w ride) = omega (arith, charges-length tariff (a .counts) w ride) in
+      let sound-words = sound-has book (a .counts .areas) (rideable .sound-book) in
+      subst (BicycleSays tariff (a .counts) (ride .area) (coverWord w i))
+      (sym (charge-stands place there ∙ bicycle-stands tariff (a .counts) w ride i h))
+      (bicycle-says (faultless tariff (a .counts) (a .read)) (ride .area) (coverWord w i) (rideable .area)
+      (cover-known (tripWindow book bytes .current) sound-words i (omega (arith, rideable .bicycles))))
+
   said : RecordSays tariff bytes w (a .counts) (tripWindow book bytes .opening .0) (countAt bytes 0 - 1) ride (statementOf parts)
   unfolding rideOf partOf
   said =
@@ -150,6 +180,8 @@ module _ {tariff book bytes : List ℕ} {room : ℕ} {new : List ℕ} {parts : L
         children = λ i h. charge-stands (1 + ride .party .adults + i) (omega arith) ∙ child-stands tariff (a .counts) w ride i h;
         bicycles = λ i h.
             charge-stands (1 + ride .party .adults + ride .party .children + i) (omega arith) ∙ bicycle-stands tariff (a .counts) w ride i h;
+        riders-pay = rider-pays;
+        bicycles-pay = bicycle-pays;
       }
 
 -- ---- The answers.

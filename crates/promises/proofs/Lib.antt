@@ -7,3 +7,4 @@ pub mod Refusing
 pub mod Shifts
 pub mod Alike
 pub mod RunLaws
+pub mod Books

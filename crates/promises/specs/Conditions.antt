@@ -19,7 +19,8 @@ use Rattle.book.specs.declared.Window.{Window}
 use Rattle.book.specs.Words.{tripsOf, lastOutOf, coverWord}
 use Rattle.book.specs.Sound.{sound}
 use Rattle.book.specs.Windows.{windowOf}
-use Rattle.book.specs.Charging.{riderCharge, bicycleCharge}
+use Rattle.book.specs.Charging.{carries, placeOf, riderCharge, bicycleCharge}
+use Rattle.book.specs.InWords.{ChargeSays, BicycleSays}
 use Rattle.statement.specs.Record.{Part, recordSize, chargeKind, statementSize}
 use Rattle.statement.specs.Reading.{longIn, kindIn, openingIn, areaIn, kmIn, minutesIn, chargeIn}
 use Rattle.settle.specs.Rides.{ridesOf}
@@ -94,7 +95,9 @@ pub record AcceptedBy (tariff book bytes : List ℕ) (room : ℕ) (new : List �
 
 -- what the record of an accepted trip says, read off its bytes: the window's opening minute, the smallest area containing all the trip's
 -- stops, the least kilometres between its first and last stop, check-out less check-in; then the charges, in the order
--- holder, adults, children, bicycles. w stands for the words that count: the book's own in the open window, a fresh book's in the next
+-- holder, adults, children, bicycles: by their definitions, and then in words, each rider's the smallest of the price and what each of the
+-- ride's caps has left, and each bicycle's the new covering area's flat less the old one's. w stands for the words that count: the book's
+-- own in the open window, a fresh book's in the next
 pub record RecordSays (tariff bytes w : List ℕ) (counts : Counts) (opens last : ℕ) (ride : Ride) (entry : List ℕ) : Type 0 where
   pub size : length entry ≡ recordSize (ride .party)
   pub long : longIn entry 0 + 2 ≡ length entry
@@ -111,3 +114,8 @@ pub record RecordSays (tariff bytes w : List ℕ) (counts : Counts) (opens last 
   pub bicycles :
       (i : ℕ) → i < ride .party .bicycles
       → chargeIn entry 0 (1 + ride .party .adults + ride .party .children + i) ≡ bicycleCharge tariff counts (ride .area) (coverWord w i)
+  pub riders-pay :
+      (rider : ℕ) → carries (ride .party) rider ≡ true → ChargeSays tariff counts w ride rider (chargeIn entry 0 (placeOf (ride .party) rider))
+  pub bicycles-pay :
+      (i : ℕ) → i < ride .party .bicycles
+      → BicycleSays tariff counts (ride .area) (coverWord w i) (chargeIn entry 0 (1 + ride .party .adults + ride .party .children + i))

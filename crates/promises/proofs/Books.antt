@@ -1,0 +1,278 @@
+-- What an accepted trip leaves in the book, in the rules' words; and that the words leave nothing open: there is no other book of bytes
+-- that they hold of.
+-- Assumes nothing.
+use Prim.Native.Nat.{ℕ, _+_, _≤_, _<_}
+use native.Mathlib.Nat.{add-zero}
+use native.Mathlib.Omega.{arith}
+use native.Mathlib.Decide.{ℕ-discrete, decLt}
+use mathlib.Core.Path.{_≡_, refl, sym, ap, subst, _∙_}
+use mathlib.Core.Bool.{Bool, true, false, cond, _&&_, false≢true}
+use mathlib.Core.List.{List, [], _∷_}
+use borrow.Author.Tests.{eqb-true, eq-eqb}
+use lib.ListN.{length, getD}
+use lib.Dec.{eqb}
+use Rattle.wire.specs.Number.{Bytes}
+use Rattle.wire.proofs.Tests.{both-left, both-right}
+use Rattle.caps.specs.Tree.{within}
+use Rattle.tariff.specs.declared.Counts.{Counts}
+use Rattle.tariff.specs.Areas.{liesWithin, FaultlessTariff}
+use Rattle.tariff.proofs.Faultless.{faultless}
+use Rattle.trip.specs.Moments.{checkoutOf}
+use Rattle.trip.specs.Trips.{tripOf}
+use Rattle.trip.proofs.Clear.{good-fields}
+use Rattle.fare.specs.declared.Ride.{Ride}
+use Rattle.book.specs.declared.Window.{Window}
+use Rattle.book.specs.Words.{bookWords, word, tripsOf, secondSum, allSum, coverWord}
+use Rattle.book.specs.Sound.{sound}
+use Rattle.book.specs.Windows.{inWindow}
+use Rattle.book.specs.Caps.{treeOf}
+use Rattle.book.specs.Charging.{isChild, carries, placeOf, newCover, chargesOf}
+use Rattle.book.specs.Contracts.{Rideable}
+use Rattle.book.specs.Posting.{posted}
+use Rattle.book.specs.InWords.{ChargeSays, CoverSays}
+use Rattle.book.proofs.Trees.{lies-within}
+use Rattle.book.proofs.SoundLaws.{sound-has}
+use Rattle.book.proofs.ChargeLaws.{cover-known}
+use Rattle.book.proofs.SumLaws.{sumOf}
+use Rattle.book.proofs.PostedLaws.{posted-size, posted-trips, posted-opening, posted-out, posted-sum, posted-cover, posted-uncovered, rider-stands}
+use Rattle.book.proofs.SoundAgain.{WindowRight, window-right, window-room, posted-sound}
+use Rattle.book.proofs.InWords.{charge-says, charge-one, cover-says, cover-one}
+use Rattle.book.proofs.BookWords.{each-word, words-same, window-bytes, posted-bytes}
+use Rattle.statement.specs.Record.{Part}
+use Rattle.settle.specs.declared.refusals.Refusal.the-variants as why
+use Rattle.settle.specs.Rides.{ridesOf}
+use Rattle.settle.specs.Outcome.{partOf, oneMore, partsOf, postedAll}
+use Rattle.promises.specs.Conditions.{tripWindow, condition, AcceptedBy}
+use Rattle.promises.specs.Books.{CountsIn, Takes, chargeOf, BookSays, BooksSay, none, more}
+use Rattle.promises.proofs.Answers.{clear, charged-ride}
+
+-- ---- One ride.
+
+-- a sum that grows by an amount where two tests hold takes it where the words of both do
+takes :
+    {here : Type 0} (s v : Bool) (amount old new : ℕ) → new ≡ old + cond s (cond v amount 0) 0 → (here → (s ≡ true) × (v ≡ true))
+    → (s ≡ true → v ≡ true → here) → Takes here amount old new
+takes true true amount old new e to from = record { grows = λ _. e; stays = λ out. absurd (out (from refl refl)) }
+takes true false amount old new e to from = record { grows = λ h. absurd (false≢true (to h .1)); stays = λ _. e ∙ add-zero old }
+takes false v amount old new e to from = record { grows = λ h. absurd (false≢true (to h .0)); stays = λ _. e ∙ add-zero old }
+
+module _ {tariff : List ℕ} {counts : Counts} {book : List ℕ} {ride : Ride} (ok : Rideable tariff counts book ride) {window : Window} {checkout : ℕ}
+    (right : WindowRight book window checkout) where
+  abbrev w : List ℕ
+  w = inWindow (window .current) book
+
+  abbrev charges : List ℕ
+  charges = chargesOf tariff counts w ride
+
+  abbrev new : List ℕ
+  new = posted tariff counts book window checkout ride
+
+  t : FaultlessTariff tariff counts
+  t = faultless tariff counts (ok .read)
+
+  -- the ride's area lies within an area as it does in the tree of areas
+  abbrev inTree : ℕ → Bool
+  inTree area = within (treeOf tariff counts false) (ride .area) area
+
+  inside : (area : ℕ) → liesWithin tariff counts (ride .area) area ≡ inTree area
+  inside area = lies-within t false (ride .area) area (ok .area)
+
+  all-takes :
+      (rider area : ℕ) → rider < 21 → area < 32
+      → Takes (CountsIn tariff counts ride rider area) (chargeOf ride charges rider) (allSum w rider area) (allSum new rider area)
+  all-takes rider area hr ha =
+      takes (inTree area) (carries (ride .party) rider) (chargeOf ride charges rider) (allSum w rider area) (allSum new rider area)
+      (posted-sum ok window checkout (window-room right) false rider area hr ha)
+      (λ c. (sym (inside area) ∙ c .inside, c .on-trip)) (λ s v. record { on-trip = v; inside = inside area ∙ s })
+
+  second-takes :
+      (rider area : ℕ) → rider < 21 → area < 32
+      → Takes ((ride .class ≡ 2) × CountsIn tariff counts ride rider area) (chargeOf ride charges rider) (secondSum w rider area)
+      (secondSum new rider area)
+  second-takes rider area hr ha =
+      takes (eqb (ride .class) 2 && inTree area) (carries (ride .party) rider) (chargeOf ride charges rider) (secondSum w rider area)
+      (secondSum new rider area) (posted-sum ok window checkout (window-room right) true rider area hr ha)
+      (λ c. (rw (eq-eqb (ride .class) 2 (c .0)) (sym (inside area) ∙ c .1 .inside), c .1 .on-trip))
+      (λ s v. (
+        eqb-true (ride .class) 2 (both-left (eqb (ride .class) 2) (inTree area) s),
+        record { on-trip = v; inside = inside area ∙ both-right (eqb (ride .class) 2) (inTree area) s },
+      ))
+
+  -- What a ride leaves in the book is what the words say.
+  pub ride-says : BookSays tariff counts w window checkout ride charges new
+  ride-says =
+      let room = window-room right in
+      let head = right .head in
+      let known = cover-known (window .current) (sound-has book (counts .areas) (ok .sound-book)) in
+      record {
+        size = posted-size ok window checkout room;
+        bytes = posted-bytes t ride (ok .area) book window checkout;
+        trips = posted-trips ok window checkout room (omega arith);
+        opening = posted-opening ok window checkout room (omega arith);
+        last-out = posted-out ok window checkout room (omega arith);
+        charged = λ rider on.
+            subst (ChargeSays tariff counts w ride rider) (sym (rider-stands tariff counts w ride rider on)) (charge-says t w ride (ok .area) rider);
+        all-classes = all-takes;
+        second-class = second-takes;
+        covered = λ k h. (
+          newCover tariff counts (ride .area) (coverWord w k),
+          posted-cover ok window checkout room k h,
+          cover-says t (ride .area) (coverWord w k) (ok .area) (known k (omega (arith, ok .bicycles))),
+        );
+        uncovered = λ k h few. posted-uncovered ok window checkout room k h;
+      }
+
+  -- the same window, open now, is right for a ride more
+  right-again : window .trips + 2 ≤ 256 → WindowRight new (oneMore window) checkout
+  unfolding oneMore
+  right-again few =
+      let head = right .head in
+      let trips = posted-trips ok window checkout (window-room right) (omega arith) in
+      record {
+        trips = sym trips;
+        used = λ _. omega arith;
+        head = record { some = omega arith; few = omega arith; order = head .order; last = head .last; day = head .day };
+      }
+
+-- ---- The rides of a trip.
+
+-- each of some rides can be charged on a book
+pub data Rideables (tariff : List ℕ) (counts : Counts) (book : List ℕ) : List Ride → Type 0 where
+  no-ride : Rideables tariff counts book []
+  one-ride : {ride : Ride} {rides : List Ride} → Rideable tariff counts book ride → Rideables tariff counts book rides
+      → Rideables tariff counts book (ride ∷ rides)
+
+-- and so it can on every other sound book
+on-another :
+    {tariff : List ℕ} {counts : Counts} {book : List ℕ} {rides : List Ride} (book′ : List ℕ) → sound book′ (counts .areas) ≡ true
+    → Rideables tariff counts book rides → Rideables tariff counts book′ rides
+on-another book′ right no-ride = no-ride
+on-another book′ right (one-ride ok oks) =
+    one-ride
+    (record {
+      read = ok .read;
+      sound-book = right;
+      area = ok .area;
+      km = ok .km;
+      minutes = ok .minutes;
+      adults = ok .adults;
+      children = ok .children;
+      bicycles = ok .bicycles;
+    })
+    (on-another book′ right oks)
+
+-- What rides leave in the book, one after another, is what the words say, where the window has room for them.
+pub rides-say :
+    {tariff : List ℕ} {counts : Counts} {checkout : ℕ} (rides : List Ride) {book : List ℕ} {window : Window} → Rideables tariff counts book rides
+    → (window .trips + 1 ≤ 256 → WindowRight book window checkout) → window .trips + length rides ≤ 256
+    → BooksSay tariff counts checkout book window (partsOf tariff counts book window checkout rides)
+    (postedAll tariff counts book window checkout rides)
+unfolding partsOf partOf postedAll oneMore
+rides-say [] oks right few = none
+rides-say {tariff} {counts} {checkout} (ride ∷ rides) {book} {window} (one-ride ok oks) right few =
+    let here = right (omega arith) in
+    more (ride-says ok here)
+    (rides-say rides (on-another (posted tariff counts book window checkout ride) (posted-sound ok here) oks)
+    (λ room. right-again ok here (omega arith)) (omega arith))
+
+module _ {tariff book bytes : List ℕ} {room : ℕ} {new : List ℕ} {parts : List Part} (a : AcceptedBy tariff book bytes room new parts) where
+  -- the rides of an accepted trip can be charged, and the window has room for them
+  charged-rides : Rideables tariff (a .counts) book (ridesOf tariff (a .counts) bytes (tripOf bytes))
+  unfolding ridesOf
+  charged-rides = one-ride (charged-ride a) no-ride
+
+  window-fits : tripWindow book bytes .trips + length (ridesOf tariff (a .counts) bytes (tripOf bytes)) ≤ 256
+  unfolding condition
+  window-fits =
+      elim (decLt 256 (tripWindow book bytes .trips + length (ridesOf tariff (a .counts) bytes (tripOf bytes)))) [
+        | yes full ↦ absurd (a .none why.FullWindow full)
+        | no fits ↦ omega arith
+      ]
+
+  -- What an accepted trip leaves in the book is what the words say, part by part.
+  pub book-says : BooksSay tariff (a .counts) (checkoutOf bytes) book (tripWindow book bytes) parts new
+  book-says =
+      let c = clear a in
+      let fields = good-fields (c .good) in
+      rw (a .new-is, a .parts-is)
+      (rides-say (ridesOf tariff (a .counts) bytes (tripOf bytes)) charged-rides
+      (window-right (sound-has book (a .counts .areas) (c .sound-book)) (fields .forward) (fields .short) (fields .range) (c .on-time)
+      (tripWindow book bytes) refl)
+      window-fits)
+
+-- ---- There is no other.
+
+-- a sum that takes the same amount from the same has the same after it
+takes-one :
+    {here : Type 0} {amount amount′ old new new′ : ℕ} → Dec here → (here → amount ≡ amount′) → Takes here amount old new → Takes here amount′ old new′
+    → new ≡ new′
+takes-one (yes h) same s s′ = s .grows h ∙ rw (same h) (sym (s′ .grows h))
+takes-one (no out) same s s′ = s .stays out ∙ sym (s′ .stays out)
+
+-- whether a ride counts in a rider's sums is decided
+counts-or-not : (tariff : List ℕ) (counts : Counts) (ride : Ride) (rider area : ℕ) → Dec (CountsIn tariff counts ride rider area)
+counts-or-not tariff counts ride rider area = go (carries (ride .party) rider) refl (liesWithin tariff counts (ride .area) area) refl
+  where
+    go :
+        (on : Bool) → carries (ride .party) rider ≡ on → (inside : Bool) → liesWithin tariff counts (ride .area) area ≡ inside
+        → Dec (CountsIn tariff counts ride rider area)
+    go true e true e′ = yes (record { on-trip = e; inside = e′ })
+    go true e false e′ = no (λ c. false≢true (sym e′ ∙ c .inside))
+    go false e inside e′ = no (λ c. false≢true (sym e ∙ c .on-trip))
+
+second-or-not :
+    (tariff : List ℕ) (counts : Counts) (ride : Ride) (rider area : ℕ) → Dec ((ride .class ≡ 2) × CountsIn tariff counts ride rider area)
+second-or-not tariff counts ride rider area =
+    elim (ℕ-discrete (ride .class) 2) [
+      | yes two ↦ elim (counts-or-not tariff counts ride rider area) [ yes c ↦ yes (two, c) | no out ↦ no (λ c. out (c .1)) ]
+      | no other ↦ no (λ c. other (c .0))
+    ]
+
+-- The words say one book of bytes alone.
+module _ {tariff : List ℕ} {counts : Counts} (t : FaultlessTariff tariff counts) {w : List ℕ} {window : Window} {checkout : ℕ} {ride : Ride} where
+  pub book-one :
+      {charges charges′ new new′ : List ℕ} → BookSays tariff counts w window checkout ride charges new
+      → BookSays tariff counts w window checkout ride charges′ new′ → Bytes new → Bytes new′ → new ≡ new′
+  book-one {charges} {charges′} {new} {new′} s s′ bytes bytes′ =
+      words-same new new′ (s .size) (s′ .size) bytes bytes′
+      (each-word (λ i. word new i ≡ word new′ i) (s .trips ∙ sym (s′ .trips)) (s .opening ∙ sym (s′ .opening))
+      (s .last-out ∙ sym (s′ .last-out)) sums covers)
+    where
+      same : (rider area : ℕ) → CountsIn tariff counts ride rider area → chargeOf ride charges rider ≡ chargeOf ride charges′ rider
+      same rider area c = charge-one (s .charged rider (c .on-trip)) (s′ .charged rider (c .on-trip))
+
+      sums :
+          (rider area : ℕ) → rider < 21 → area < 32
+          → (secondSum new rider area ≡ secondSum new′ rider area) × (allSum new rider area ≡ allSum new′ rider area)
+      sums rider area hr ha = (
+        takes-one (second-or-not tariff counts ride rider area) (λ c. same rider area (c .1)) (s .second-class rider area hr ha)
+            (s′ .second-class rider area hr ha),
+        takes-one (counts-or-not tariff counts ride rider area) (same rider area) (s .all-classes rider area hr ha) (s′ .all-classes rider area hr ha),
+      )
+
+      covers : (k : ℕ) → k < 10 → coverWord new k ≡ coverWord new′ k
+      covers k few =
+          elim (decLt k (ride .party .bicycles)) [
+            | yes on ↦
+                let (area, is, says) = s .covered k on in
+                let (area′, is′, says′) = s′ .covered k on in
+                is ∙ ap (λ (x : ℕ). 1 + x) (cover-one t says says′) ∙ sym is′
+            | no off ↦ s .uncovered k (omega arith) few ∙ sym (s′ .uncovered k (omega arith) few)
+          ]
+
+-- And so of the parts of a trip.
+pub books-one :
+    {tariff : List ℕ} {counts : Counts} {checkout : ℕ} {book : List ℕ} {window : Window} {parts : List Part} {new new′ : List ℕ}
+    → FaultlessTariff tariff counts → Bytes book → BooksSay tariff counts checkout book window parts new
+    → BooksSay tariff counts checkout book window parts new′ → new ≡ new′
+books-one t bytes none none = refl
+books-one {book = book} {window} t bytes (more s rest) (more s′ rest′) =
+    let old = window-bytes (window .current) book bytes in
+    let same = book-one t s s′ (s .bytes old) (s′ .bytes old) in
+    books-one t (s .bytes old) rest (rw (← same) at rest′)
+
+-- So the new book of an accepted trip is the only one.
+pub book-only :
+    {tariff book bytes : List ℕ} {room : ℕ} {new : List ℕ} {parts : List Part} (a : AcceptedBy tariff book bytes room new parts) → Bytes book
+    → (other : List ℕ) → BooksSay tariff (a .counts) (checkoutOf bytes) book (tripWindow book bytes) parts other → other ≡ new
+book-only {tariff} a bytes other says = books-one (faultless tariff (a .counts) (a .read)) bytes says (book-says a)
