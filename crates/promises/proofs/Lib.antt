@@ -8,3 +8,4 @@ pub mod Shifts
 pub mod Alike
 pub mod RunLaws
 pub mod Books
+pub mod RideLaws

@@ -37,7 +37,8 @@ use Rattle.book.specs.Charging.{isChild}
 use Rattle.book.proofs.Trees.{is-tree}
 use Rattle.settle.specs.Runs.{Offer}
 use Rattle.promises.specs.Runs.{bookOf, ridesOf}
-use Rattle.promises.proofs.RunLaws.{Kept, kept}
+use Rattle.promises.proofs.RunLaws.{kept}
+use Rattle.promises.proofs.RideLaws.{Kept}
 
 module _ (tariff : List ℕ) (counts : Counts) (read : Read tariff counts) (rider : ℕ) (known : rider < 21) where
   -- the tariff's areas with the rider's caps: a child's for riders 11 to 20

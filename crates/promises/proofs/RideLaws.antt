@@ -1,0 +1,205 @@
+-- Rides charged one after another in a window: the book stays sound, each rider's sums in it are the totals of the rider's rides in its
+-- window, and each of these rides was charged what the caps had left over the totals of the rides before it.
+-- Assumes nothing.
+use Prim.Native.Nat.{ℕ, _+_, _≤_, _<_}
+use native.Mathlib.Nat.{add-zero}
+use native.Mathlib.Omega.{arith}
+use mathlib.Core.Path.{_≡_, refl, sym, ap, _∙_}
+use mathlib.Core.Bool.{Bool, true, false, cond, _&&_}
+use mathlib.Core.List.{List, [], _∷_}
+use lib.ListN.{length}
+use Rattle.caps.specs.Tree.{Tree, within}
+use Rattle.caps.specs.Rides.{ChargedRide, ChargedInTurn, none, more, allTotal, secondTotal}
+use Rattle.caps.proofs.Charge.{charge-same}
+use Rattle.tariff.specs.declared.Counts.{Counts}
+use Rattle.tariff.proofs.Faultless.{faultless}
+use Rattle.fare.specs.declared.Ride.{Ride}
+use Rattle.book.specs.declared.Window.{Window}
+use Rattle.book.specs.Words.{freshBook, tripsOf, openingOf, pairPlace}
+use Rattle.book.specs.Sound.{sound}
+use Rattle.book.specs.Windows.{inWindow}
+use Rattle.book.specs.Caps.{treeOf}
+use Rattle.book.specs.Charging.{isChild, carries, riderCharge, chargesOf}
+use Rattle.book.specs.Posting.{posted}
+use Rattle.book.specs.Contracts.{Rideable}
+use Rattle.book.proofs.Trees.{is-tree}
+use Rattle.book.proofs.WordLaws.{word-fresh}
+use Rattle.book.proofs.SoundLaws.{fresh-sound}
+use Rattle.book.proofs.SumLaws.{sumOf, counted}
+use Rattle.book.proofs.PostedLaws.{added, ownCharge, rider-stands, posted-sum, posted-trips, posted-opening}
+use Rattle.book.proofs.SoundAgain.{WindowRight, window-room, posted-sound}
+use Rattle.statement.specs.Record.{Part}
+use Rattle.settle.specs.Outcome.{partOf, oneMore, partsOf, postedAll}
+use Rattle.promises.specs.Runs.{entryOf, ridesWith}
+
+-- ---- A book and a rider's rides.
+
+-- the one or the other total of a rider's rides within an area
+abbrev pub totalOf : Bool → Tree → ℕ → List ChargedRide → ℕ
+totalOf true t x es = secondTotal t x es
+totalOf false t x es = allTotal t x es
+
+-- one ride more adds its charge where its class counts and its area lies within
+total-more :
+    (which : Bool) (t : Tree) (x : ℕ) (e : ChargedRide) (es : List ChargedRide)
+    → totalOf which t x (e ∷ es) ≡ totalOf which t x es + cond (counted which (e .class) && within t (e .area) x) (e .charge) 0
+unfolding secondTotal allTotal
+total-more true t x e es = refl
+total-more false t x e es = refl
+
+total-none : (which : Bool) (t : Tree) (x : ℕ) → totalOf which t x [] ≡ 0
+unfolding secondTotal allTotal
+total-none true t x = refl
+total-none false t x = refl
+
+fresh-sum : (which : Bool) (rider x : ℕ) → sumOf which freshBook rider x ≡ 0
+fresh-sum true rider x = word-fresh (pairPlace rider x)
+fresh-sum false rider x = word-fresh (pairPlace rider x + 1)
+
+-- the book is sound, the rider's sums in it are the totals of these rides, and each was charged what the caps had left
+pub record Kept (tariff : List ℕ) (counts : Counts) (rider : ℕ) (book : List ℕ) (rides : List ChargedRide) : Type 0 where
+  pub sound-book : sound book (counts .areas) ≡ true
+  pub sums :
+      (which : Bool) (x : ℕ) → x < counts .areas → sumOf which book rider x ≡ totalOf which (treeOf tariff counts (isChild rider)) x rides
+  pub charged : ChargedInTurn (treeOf tariff counts (isChild rider)) rides
+
+-- a fresh book has no rides
+pub kept-fresh : (tariff : List ℕ) (counts : Counts) (rider : ℕ) → Kept tariff counts rider freshBook []
+kept-fresh tariff counts rider =
+    record {
+      sound-book = fresh-sound (counts .areas);
+      sums = λ which x h. fresh-sum which rider x ∙ sym (total-none which (treeOf tariff counts (isChild rider)) x);
+      charged = none;
+    }
+
+-- the words that count have the rides of the open window, or none
+kept-window :
+    {tariff : List ℕ} {counts : Counts} {rider : ℕ} {book : List ℕ} {rides : List ChargedRide} (current : Bool)
+    → Kept tariff counts rider book rides → Kept tariff counts rider (inWindow current book) (cond current rides [])
+kept-window true k = k
+kept-window {tariff} {counts} {rider} false k = kept-fresh tariff counts rider
+
+-- ---- One ride.
+
+module _ {tariff : List ℕ} {counts : Counts} {book : List ℕ} {ride : Ride} (ok : Rideable tariff counts book ride) {window : Window}
+    {checkout : ℕ} (right : WindowRight book window checkout) where
+  abbrev new : List ℕ
+  new = posted tariff counts book window checkout ride
+
+  -- the book has the window's opening, and one trip more
+  head-trips : tripsOf new ≡ window .trips + 1
+  head-trips = posted-trips ok window checkout (window-room right) (omega (arith, right .head .few))
+
+  head-opening : openingOf new ≡ window .opening .0
+  head-opening = posted-opening ok window checkout (window-room right) (omega (arith, right .head .order, right .head .last))
+
+  -- the same window, with one trip more, is right for another ride with the same check-out
+  right-again : window .trips + 2 ≤ 256 → WindowRight new (oneMore window) checkout
+  unfolding oneMore
+  right-again few =
+      let head = right .head in
+      record {
+        trips = sym head-trips;
+        used = λ _. omega (arith, head-trips);
+        head = record { some = omega arith; few = omega arith; order = head .order; last = head .last; day = head .day };
+      }
+
+  module _ {rider : ℕ} (known : rider < 21) {rides : List ChargedRide} (k : Kept tariff counts rider book rides) where
+    -- the words that count, the rides in their window, and the ride's part
+    abbrev w : List ℕ
+    w = inWindow (window .current) book
+
+    abbrev before : List ChargedRide
+    before = cond (window .current) rides []
+
+    abbrev part : Part
+    part = partOf tariff counts book window ride
+
+    words : Kept tariff counts rider w before
+    words = kept-window (window .current) k
+
+    -- the charges of the party, and each sum with what the rider's own adds to it
+    abbrev charges : List ℕ
+    charges = chargesOf tariff counts w ride
+
+    grown :
+        (which : Bool) (x : ℕ) → x < counts .areas
+        → sumOf which new rider x
+        ≡ totalOf which (treeOf tariff counts (isChild rider)) x before + added which tariff counts ride x (ownCharge ride charges rider)
+    grown which x h =
+        posted-sum ok window checkout (window-room right) which rider x known (omega (arith, faultless tariff counts (ok .read) .few-areas))
+        ∙ ap (_+ added which tariff counts ride x (ownCharge ride charges rider)) (words .sums which x h)
+
+    -- a rider who is not carried keeps the rides
+    without : carries (ride .party) rider ≡ false → Kept tariff counts rider new before
+    without off =
+        record {
+          sound-book = posted-sound ok right;
+          sums = λ which x h.
+              grown which x h ∙ rw off (nothing (counted which (ride .class) && within (treeOf tariff counts false) (ride .area) x) _);
+          charged = words .charged;
+        }
+      where
+        nothing : (s : Bool) (n : ℕ) → n + cond s 0 0 ≡ n
+        nothing true n = add-zero n
+        nothing false n = add-zero n
+
+    -- a rider who is carried has one more
+    carried : carries (ride .party) rider ≡ true → Kept tariff counts rider new (entryOf tariff counts rider part ∷ before)
+    unfolding entryOf riderCharge partOf
+    carried on =
+        record {
+          sound-book = posted-sound ok right;
+          sums = λ which x h. grown which x h ∙ rw on (sym (total-more which (treeOf tariff counts (isChild rider)) x _ before));
+          charged =
+              more (words .charged) (ok .area)
+              (rider-stands tariff counts w ride rider on
+              ∙ charge-same (is-tree (faultless tariff counts (ok .read)) (isChild rider)) _ _ _ _ (words .sums true) (words .sums false) (ride .class)
+              (ride .area) _ (ok .area));
+        }
+
+    -- So the book after the ride is kept with the rider's rides.
+    kept-ride : Kept tariff counts rider new (ridesWith tariff counts rider (part ∷ []) before)
+    unfolding ridesWith partOf
+    kept-ride = go (carries (ride .party) rider) refl
+      where
+        go : (on : Bool) → carries (ride .party) rider ≡ on → Kept tariff counts rider new (cond on (entryOf tariff counts rider part ∷ before) before)
+        go true e = carried e
+        go false e = without e
+
+-- ---- Rides, one after another.
+
+-- one ride or more, each of which can be charged on every sound book
+pub data AllRideable (tariff : List ℕ) (counts : Counts) : List Ride → Type 0 where
+  one-ride :
+      {ride : Ride} → ((book : List ℕ) → sound book (counts .areas) ≡ true → Rideable tariff counts book ride)
+      → AllRideable tariff counts (ride ∷ [])
+  one-more :
+      {ride : Ride} {later : List Ride} → ((book : List ℕ) → sound book (counts .areas) ≡ true → Rideable tariff counts book ride)
+      → AllRideable tariff counts later → AllRideable tariff counts (ride ∷ later)
+
+-- there is one
+some : {tariff : List ℕ} {counts : Counts} {trip : List Ride} → AllRideable tariff counts trip → 1 ≤ length trip
+some (one-ride ok) = omega arith
+some (one-more ok later) = omega arith
+
+-- a book after rides of a window: kept with the rider's rides, and in use since the window's opening
+pub record KeptSince (tariff : List ℕ) (counts : Counts) (rider : ℕ) (book : List ℕ) (rides : List ChargedRide) (opening : ℕ) : Type 0 where
+  pub kept : Kept tariff counts rider book rides
+  pub in-use : 1 ≤ tripsOf book
+  pub since : openingOf book ≡ opening
+
+-- The book after the rides is kept with the rider's rides in their parts, behind those that the window had before.
+pub kept-rides :
+    {tariff : List ℕ} {counts : Counts} {rider : ℕ} {trip : List Ride} {book : List ℕ} {rides : List ChargedRide} {window : Window} {checkout : ℕ}
+    → rider < 21 → AllRideable tariff counts trip → Kept tariff counts rider book rides → WindowRight book window checkout
+    → window .trips + length trip ≤ 256
+    → KeptSince tariff counts rider (postedAll tariff counts book window checkout trip)
+    (ridesWith tariff counts rider (partsOf tariff counts book window checkout trip) (cond (window .current) rides [])) (window .opening .0)
+unfolding postedAll partsOf ridesWith oneMore
+kept-rides {book = book} known (one-ride can) k right few =
+    let ok = can book (k .sound-book) in
+    record { kept = kept-ride ok right known k; in-use = omega (arith, head-trips ok right); since = head-opening ok right }
+kept-rides {book = book} {window = window} known (one-more {later = later} can all) k right few =
+    let ok = can book (k .sound-book) in
+    kept-rides known all (kept-ride ok right known k) (right-again ok right (omega (arith, some all))) (omega arith)
