@@ -1,16 +1,16 @@
 -- Promise 3, about settling itself.
 --
 -- A run is any list of trips, offered one after another to `settled`, the definition that the exported function's contract cites, from a
--- fresh book under one faultless tariff. A rider is the account holder (0), a carried adult (1 to 10) or a carried child (11 to 20). A
--- rider's rides are those in the window that is open at the run's end, the latest first; a ride's area, class and price are those of the
--- accepted trip's part, and its charge is the one at the rider's place among the part's (specs/Runs.antt). Every beginning of a
--- run is a run: so what is said here of every run holds after each of its trips, and in each of its windows.
+-- fresh book under one faultless tariff. A rider is the account holder (0), a carried adult (1 to 10) or a carried child (11 to 20). The
+-- windows of a run are read off the check-ins and check-outs of its accepted trips alone; a ride's area, class and price are those of the
+-- accepted trip's part, and its charge is the one at the rider's place among the part's (specs/Runs.antt). Every beginning of a run is a
+-- run: so what is said here of every run holds after each of its trips.
 -- Assumes nothing.
 use Prim.Native.Nat.{ℕ, _≤_, _<_}
 use native.Mathlib.Omega.{arith}
 use mathlib.Core.Path.{_≡_, _∙_}
 use mathlib.Core.Bool.{true, false}
-use mathlib.Core.List.{List, _∷_, _++_, List·Memᴰ}
+use mathlib.Core.List.{List, [], _∷_, _++_, List·Memᴰ}
 use Rattle.caps.specs.Limits.{AtMost}
 use Rattle.caps.specs.Tree.{Tree, IsTree}
 use Rattle.caps.specs.Rides.{
@@ -30,15 +30,14 @@ use Rattle.caps.proofs.OneClass.{order-free}
 use Rattle.tariff.specs.declared.Counts.{Counts}
 use Rattle.tariff.specs.Areas.{areaAt, Read}
 use Rattle.tariff.proofs.Faultless.{faultless}
-use Rattle.book.specs.Words.{secondSum, allSum}
+use Rattle.book.specs.Words.{freshBook, secondSum, allSum}
 use Rattle.book.specs.Sound.{sound}
 use Rattle.book.specs.Caps.{secondCap, allCap, treeOf}
 use Rattle.book.specs.Charging.{isChild}
 use Rattle.book.proofs.Trees.{is-tree}
-use Rattle.settle.specs.Runs.{Offer}
-use Rattle.promises.specs.Runs.{bookOf, ridesOf}
-use Rattle.promises.proofs.RunLaws.{kept}
-use Rattle.promises.proofs.RideLaws.{Kept}
+use Rattle.settle.specs.Runs.{Offer, runFrom}
+use Rattle.promises.specs.Runs.{bookOf, ridesOf, Span, RiderWindow, WithinDay, OpenFirst, tripsIn, acceptedOver, windowsOf}
+use Rattle.promises.proofs.RunLaws.{RightWindow, KeptRun, kept, trips-over}
 
 module _ (tariff : List ℕ) (counts : Counts) (read : Read tariff counts) (rider : ℕ) (known : rider < 21) where
   -- the tariff's areas with the rider's caps: a child's for riders 11 to 20
@@ -48,17 +47,22 @@ module _ (tariff : List ℕ) (counts : Counts) (read : Read tariff counts) (ride
   tree-is : IsTree tree
   tree-is = is-tree (faultless tariff counts read) (isChild rider)
 
-  module _ (run : List Offer) where
-    -- the rider's rides in the window that is open at the run's end, the latest first
-    abbrev rides : List ChargedRide
-    rides = ridesOf tariff counts rider run
+  run-kept : (run : List Offer) → KeptRun tariff counts rider (bookOf tariff run) (ridesOf tariff counts rider run) (windowsOf tariff counts rider run)
+  run-kept run = kept tariff counts read rider known run
 
-    run-kept : Kept tariff counts rider (bookOf tariff run) rides
-    run-kept = kept tariff counts read rider known run
+  -- ---- Each window.
+
+  module _ (run : List Offer) (window : RiderWindow) (there : List·Memᴰ window (windowsOf tariff counts rider run)) where
+    -- the rider's rides in the window, the latest first
+    abbrev rides : List ChargedRide
+    rides = window .rides
+
+    window-right : RightWindow tree window
+    window-right = run-kept run .each window there
 
     -- All of it in one; and each part by itself.
     pub promise-three : PromiseThree tree rides
-    promise-three = of-charged tree-is (run-kept .charged)
+    promise-three = of-charged tree-is (window-right .charged)
 
     -- No charge exceeds its price.
     pub charges-at-most-prices : (e : ChargedRide) → List·Memᴰ e rides → e .charge ≤ e .price
@@ -88,27 +92,47 @@ module _ (tariff : List ℕ) (counts : Counts) (read : Read tariff counts) (ride
     pub one-class-sum : (class : ℕ) → oneClass class rides ≡ true → charges rides ≡ totalsAlone tree class rides
     one-class-sum = promise-three .one-class-adds
 
-    -- The book's words for the rider are the totals of these charges, in every area.
+    -- It is a window of 24 hours: each trip that counts in it has its check-in not before the opening, and its check-out at most 1,440
+    -- minutes after it.
+    pub trips-within-a-day : (trip : Span) → List·Memᴰ trip (window .trips) → WithinDay (window .opening) trip
+    trips-within-a-day = window-right .inside
+
+  -- ---- All windows.
+
+  module _ (run : List Offer) where
+    -- Every accepted trip counts in one of them: their trips together are the trips that were accepted, the latest first.
+    pub every-trip-counts : tripsIn (windowsOf tariff counts rider run) ≡ acceptedOver (runFrom tariff freshBook run) []
+    unfolding tripsIn
+    every-trip-counts = trips-over tariff counts rider (runFrom tariff freshBook run) []
+
+    -- The first is the one that the book has open at the run's end.
+    pub open-window : OpenFirst (bookOf tariff run) (ridesOf tariff counts rider run) (windowsOf tariff counts rider run)
+    open-window = run-kept run .in-step
+
+    -- The book's words for the rider are the totals of the charges in it, in every area.
     pub words-are-totals :
         (x : ℕ) → x < counts .areas
-        → (allSum (bookOf tariff run) rider x ≡ allTotal tree x rides) × (secondSum (bookOf tariff run) rider x ≡ secondTotal tree x rides)
-    words-are-totals x h = (run-kept .sums false x h, run-kept .sums true x h)
+        → (allSum (bookOf tariff run) rider x ≡ allTotal tree x (ridesOf tariff counts rider run))
+        × (secondSum (bookOf tariff run) rider x ≡ secondTotal tree x (ridesOf tariff counts rider run))
+    words-are-totals x h = (run-kept run .in-book .sums false x h, run-kept run .in-book .sums true x h)
 
-    -- The rider's all-classes sum in area 0 is the total of every charge made to the rider in the window.
-    pub state-word : allSum (bookOf tariff run) rider 0 ≡ charges rides
-    state-word = run-kept .sums false 0 (tree-is .state) ∙ state-total tree-is (run-kept .charged)
+    -- The rider's all-classes sum in area 0 is the total of every charge made to the rider in it.
+    pub state-word : allSum (bookOf tariff run) rider 0 ≡ charges (ridesOf tariff counts rider run)
+    state-word = run-kept run .in-book .sums false 0 (tree-is .state) ∙ state-total tree-is (run-kept run .in-book .charged)
 
-  -- So the order does not change the sum: two runs whose windows hold, for the rider, rides of one class with the same prices in each area,
-  -- in whatever order, charge the rider the same in all.
-  pub order-does-not-matter :
-      (run run′ : List Offer) (class : ℕ) → oneClass class (ridesOf tariff counts rider run) ≡ true
-      → oneClass class (ridesOf tariff counts rider run′) ≡ true
-      → ((x : ℕ) → x < counts .areas → ownPrices x (ridesOf tariff counts rider run) ≡ ownPrices x (ridesOf tariff counts rider run′))
-      → charges (ridesOf tariff counts rider run) ≡ charges (ridesOf tariff counts rider run′)
-  order-does-not-matter run run′ class one other same =
-      order-free tree-is class (run-kept run .charged) (run-kept run′ .charged) one other same
+  -- ---- The order of the rides.
+
+  -- two windows, of two runs or of one, in which the rider's rides are of one class
+  module _ (run run′ : List Offer) (window window′ : RiderWindow) (there : List·Memᴰ window (windowsOf tariff counts rider run))
+      (there′ : List·Memᴰ window′ (windowsOf tariff counts rider run′)) (class : ℕ) (one : oneClass class (window .rides) ≡ true)
+      (other : oneClass class (window′ .rides) ≡ true) where
+    -- So the order does not change the sum: where the prices in each area are the same in all, so are the charges.
+    pub order-does-not-matter :
+        ((x : ℕ) → x < counts .areas → ownPrices x (window .rides) ≡ ownPrices x (window′ .rides)) → charges (window .rides) ≡ charges (window′ .rides)
+    order-does-not-matter =
+        order-free tree-is class (window-right run window there .charged) (window-right run′ window′ there′ .charged) one other
 
 -- The book stays sound, whatever is settled on it.
 pub book-stays-sound :
     (tariff : List ℕ) (counts : Counts) → Read tariff counts → (run : List Offer) → sound (bookOf tariff run) (counts .areas) ≡ true
-book-stays-sound tariff counts read run = kept tariff counts read 0 (omega arith) run .sound-book
+book-stays-sound tariff counts read run = kept tariff counts read 0 (omega arith) run .in-book .sound-book

@@ -4,7 +4,7 @@
 use Prim.Native.Nat.{ℕ, zero, suc, _<_}
 use mathlib.Core.Path.{_≡_, refl, ap}
 use mathlib.Core.Bool.{cond}
-use mathlib.Core.List.{List, [], _∷_, _++_}
+use mathlib.Core.List.{List, [], _∷_, _++_, List·Memᴰ}
 use lib.ListN.{take}
 use Rattle.caps.specs.Rides.{PromiseThree}
 use Rattle.tariff.specs.declared.Counts.{Counts}
@@ -18,7 +18,7 @@ use Rattle.roll.specs.declared.Line.the-variants.{Refused}
 use Rattle.roll.specs.Lines.{offersOf, brokenIn, lineOf, linesIn, linesOf}
 use Rattle.roll.specs.Pieces.{joined, fedLines}
 use Rattle.roll.proofs.Pieces.{cut-same}
-use Rattle.promises.specs.Runs.{ridesOf}
+use Rattle.promises.specs.Runs.{RiderWindow, windowsOf}
 use Rattle.promises.proofs.Promises.{promise-three}
 
 -- the first lines of a run are those of its beginning
@@ -43,12 +43,13 @@ module _ (tariff : List ℕ) (pieces : List (List ℕ)) (records : ℕ) where
   roll-is-a-run = cut-same records tariff freshBook pieces
 
   -- So promise 3 holds of what the program prints, line by line: the first n lines are those of the run's first n trips, of which it holds
-  -- for every rider.
+  -- for every rider in each window.
   pub printed-promise-three :
       (counts : Counts) → Read tariff counts → (n : ℕ)
       → (take n (linesIn (runFrom tariff freshBook run)) ≡ linesIn (runFrom tariff freshBook (take n run)))
-      × ((rider : ℕ) → rider < 21 → PromiseThree (treeOf tariff counts (isChild rider)) (ridesOf tariff counts rider (take n run)))
+      × ((rider : ℕ) → rider < 21 → (window : RiderWindow) → List·Memᴰ window (windowsOf tariff counts rider (take n run))
+      → PromiseThree (treeOf tariff counts (isChild rider)) (window .rides))
   printed-promise-three counts read n = (
     first-lines tariff freshBook run n,
-    λ rider known. promise-three tariff counts read rider known (take n run),
+    λ rider known window there. promise-three tariff counts read rider known (take n run) window there,
   )

@@ -1,31 +1,67 @@
--- A run from a fresh book, trip by trip: after each the book is kept with each rider's rides in its window (RideLaws: Kept).
+-- A run from a fresh book, trip by trip: after each the book is kept with each rider's rides in its window (RideLaws: Kept), which is the
+-- first of the run's windows; and in each of them the rider's rides were charged what the caps had left over those before them in the
+-- window, and every trip lies within a day of the opening.
 -- Assumes nothing.
 use Prim.Native.Nat.{ℕ, _+_, _≤_, _<_}
+use native.Mathlib.Nat.{le-refl}
 use native.Mathlib.Omega.{arith}
-use mathlib.Core.Path.{_≡_, refl}
-use mathlib.Core.Bool.{cond}
-use mathlib.Core.List.{List, [], _∷_}
+use native.Mathlib.Decide.{decLt}
+use mathlib.Core.Path.{_≡_, refl, sym, ap, subst, _∙_}
+use mathlib.Core.Bool.{Bool, true, false, cond, not, _&&_}
+use mathlib.Core.List.{List, [], _∷_, _++_, List·Memᴰ, List·Memᴰ·head, List·Memᴰ·tail, List·Memᴰ·not-nil}
+use borrow.Author.Tests.{leb-true, eq-eqb, ne-eqb}
 use lib.ListN.{length}
-use Rattle.caps.specs.Rides.{ChargedRide}
+use lib.Dec.{leb, eqb}
+use Rattle.units.specs.Day.{dayMinutes}
+use Rattle.caps.specs.Tree.{Tree}
+use Rattle.caps.specs.Rides.{ChargedRide, ChargedInTurn}
 use Rattle.tariff.specs.declared.Counts.{Counts}
 use Rattle.tariff.specs.Areas.{Read}
 use Rattle.tariff.proofs.Faultless.{read-one}
-use Rattle.trip.specs.Moments.{checkoutOf}
+use Rattle.trip.specs.Moments.{checkinOf, checkoutOf}
 use Rattle.trip.specs.Trips.{tripOf}
 use Rattle.trip.specs.Contracts.{GoodTrip}
+use Rattle.trip.proofs.Clear.{good-fields}
+use Rattle.book.specs.Words.{freshBook, tripsOf, openingOf, lastOutOf}
 use Rattle.book.specs.Windows.{belongs, windowOf}
+use Rattle.book.specs.Caps.{treeOf}
+use Rattle.book.specs.Charging.{isChild}
+use Rattle.book.proofs.WordLaws.{word-fresh}
+use Rattle.book.proofs.SoundLaws.{sound-has}
 use Rattle.book.proofs.GoodRides.{good-ride}
 use Rattle.statement.specs.Record.{Part}
 use Rattle.settle.specs.declared.refusals.Refusal.the-variants as why
 use Rattle.settle.specs.Rides.{ridesOf as tripRides}
 use Rattle.settle.specs.Outcome.{Outcome, refused, accepted, settled, bookAfter}
-use Rattle.settle.specs.Runs.{Offer, runFrom, bookFrom}
+use Rattle.settle.specs.Runs.{Offer, Settlement, runFrom, bookFrom}
 use Rattle.promises.specs.Conditions.{tripWindow, condition, AcceptedBy}
-use Rattle.promises.specs.Runs.{bookOf, ridesWith, ridesAfter, ridesOver, ridesOf}
+use Rattle.promises.specs.Runs.{
+  bookOf,
+  ridesWith,
+  ridesAfter,
+  ridesOver,
+  ridesOf,
+  Span,
+  spanOf,
+  RiderWindow,
+  opensAt,
+  withTrip,
+  windowsWith,
+  windowsAfter,
+  windowsOver,
+  WithinDay,
+  OpenFirst,
+  none-open,
+  one-open,
+  tripsIn,
+  acceptedAfter,
+  acceptedOver,
+  windowsOf,
+}
 use Rattle.promises.proofs.Answers.{accepted-is, clear, right-window}
 use Rattle.promises.proofs.RideLaws.{Kept, kept-fresh, AllRideable, one-ride, KeptSince, kept-rides}
 
--- ---- One accepted trip.
+-- ---- The rides of an accepted trip.
 
 -- Every ride of a good trip can be charged.
 good-rides :
@@ -49,32 +85,204 @@ module _ {tariff book bytes : List ℕ} {room : ℕ} {new : List ℕ} {parts : L
   kept-trip known k =
       rw (a .new-is, a .parts-is) (kept-rides known (good-rides (a .read) bytes (clear a .good)) k (right-window a) few-rides)
 
+-- ---- A book and the windows so far.
+
+-- what holds of the first and of each other holds of each
+each-more :
+    {A : Type 0} (P : A → Type 0) {first : A} {others : List A} → P first → ((x : A) → List·Memᴰ x others → P x)
+    → (x : A) → List·Memᴰ x (first ∷ others) → P x
+each-more P this rest x (List·Memᴰ·head same) = subst P (sym same) this
+each-more P this rest x (List·Memᴰ·tail there) = rest x there
+
+-- the rides of a window were charged in turn, and its trips lie within its day
+pub record RightWindow (t : Tree) (window : RiderWindow) : Type 0 where
+  pub charged : ChargedInTurn t (window .rides)
+  pub inside : (trip : Span) → List·Memᴰ trip (window .trips) → WithinDay (window .opening) trip
+
+-- the book is kept with these rides, which are those of the first window, and each window is right
+pub record KeptRun (tariff : List ℕ) (counts : Counts) (rider : ℕ) (book : List ℕ) (rides : List ChargedRide) (windows : List RiderWindow) : Type 0 where
+  pub in-book : Kept tariff counts rider book rides
+  pub in-step : OpenFirst book rides windows
+  pub each : (window : RiderWindow) → List·Memᴰ window windows → RightWindow (treeOf tariff counts (isChild rider)) window
+
+fresh-run : (tariff : List ℕ) (counts : Counts) (rider : ℕ) → KeptRun tariff counts rider freshBook [] []
+fresh-run tariff counts rider =
+    record {
+      in-book = kept-fresh tariff counts rider;
+      in-step = none-open (word-fresh 0) refl;
+      each = λ window there. absurd (List·Memᴰ·not-nil there);
+    }
+
+-- ---- One accepted trip.
+
+-- what it leaves, where it belongs to the open window (`current`) or opens the next
+record Taken (tariff : List ℕ) (counts : Counts) (rider : ℕ) (book bytes new : List ℕ) (parts : List Part) (rides : List ChargedRide) (current : Bool) : Type 0 where
+  after :
+      KeptSince tariff counts rider new (ridesWith tariff counts rider parts (cond current rides []))
+      (cond current (openingOf book) (checkinOf bytes))
+  forward : checkinOf bytes ≤ checkoutOf bytes
+  short : checkoutOf bytes ≤ checkinOf bytes + dayMinutes
+  on-time : 1 ≤ tripsOf book → openingOf book ≤ checkinOf bytes
+
+module _ {tariff : List ℕ} {counts : Counts} {rider : ℕ} {book bytes new : List ℕ} {parts : List Part} {rides : List ChargedRide} where
+  -- it opens the next window, and the others stay
+  opens :
+      {windows : List RiderWindow} → KeptRun tariff counts rider book rides windows
+      → Taken tariff counts rider book bytes new parts rides false
+      → KeptRun tariff counts rider new (ridesWith tariff counts rider parts [])
+      (withTrip tariff counts rider bytes parts (opensAt (checkinOf bytes)) ∷ windows)
+  opens s t =
+      let day : WithinDay (checkinOf bytes) (spanOf bytes) = record { since = le-refl (checkinOf bytes); forward = t .forward; till = t .short } in
+      record {
+        in-book = t .after .kept;
+        in-step = one-open (t .after .in-use) (t .after .since) refl;
+        each =
+            each-more (RightWindow (treeOf tariff counts (isChild rider)))
+            (record {
+              charged = t .after .kept .charged;
+              inside = each-more (WithinDay (checkinOf bytes)) day (λ trip there. absurd (List·Memᴰ·not-nil there));
+            })
+            (s .each);
+      }
+
+  -- it belongs to the open window
+  joins :
+      {latest : RiderWindow} {earlier : List RiderWindow} → KeptRun tariff counts rider book rides (latest ∷ earlier)
+      → Taken tariff counts rider book bytes new parts rides true → 1 ≤ tripsOf book → openingOf book ≡ latest .opening → rides ≡ latest .rides
+      → checkoutOf bytes ≤ latest .opening + dayMinutes
+      → KeptRun tariff counts rider new (ridesWith tariff counts rider parts rides) (withTrip tariff counts rider bytes parts latest ∷ earlier)
+  joins {latest} s t some opening rides-are till =
+      let day : WithinDay (latest .opening) (spanOf bytes) = record { since = omega (arith, t .on-time some); forward = t .forward; till = till } in
+      let same = ap (ridesWith tariff counts rider parts) rides-are in
+      record {
+        in-book = t .after .kept;
+        in-step = one-open (t .after .in-use) (t .after .since ∙ opening) same;
+        each =
+            each-more (RightWindow (treeOf tariff counts (isChild rider)))
+            (record {
+              charged = subst (ChargedInTurn (treeOf tariff counts (isChild rider))) same (t .after .kept .charged);
+              inside = each-more (WithinDay (latest .opening)) day (s .each latest (List·Memᴰ·head refl) .inside);
+            })
+            (λ window there. s .each window (List·Memᴰ·tail there));
+      }
+
+  -- So the windows with the trip are right, and the first is the one that the new book has open.
+  after-trip :
+      {windows : List RiderWindow} → KeptRun tariff counts rider book rides windows
+      → Taken tariff counts rider book bytes new parts rides (belongs book (checkoutOf bytes))
+      → KeptRun tariff counts rider new (ridesWith tariff counts rider parts (cond (belongs book (checkoutOf bytes)) rides []))
+      (windowsWith tariff counts rider bytes parts windows)
+  unfolding windowsWith belongs
+  after-trip {windows} s t = go windows s (s .in-step)
+    where
+      go :
+          (windows : List RiderWindow) → KeptRun tariff counts rider book rides windows → OpenFirst book rides windows
+          → KeptRun tariff counts rider new (ridesWith tariff counts rider parts (cond (belongs book (checkoutOf bytes)) rides []))
+          (windowsWith tariff counts rider bytes parts windows)
+      go [] s (none-open zero is) =
+          let e : not (eqb (tripsOf book) 0) && leb (checkoutOf bytes) (openingOf book + dayMinutes) ≡ false = rw (eq-eqb (tripsOf book) 0 zero) in
+          rw e (opens s (rw e at t))
+      go (latest ∷ earlier) s (one-open some opening is) =
+          let e : not (eqb (tripsOf book) 0) && leb (checkoutOf bytes) (openingOf book + dayMinutes) ≡ leb (checkoutOf bytes) (latest .opening + dayMinutes) =
+          rw (ne-eqb (tripsOf book) 0 (λ zero. omega arith), opening)
+          in
+          rw e (by (leb (checkoutOf bytes) (latest .opening + dayMinutes)) refl (rw e at t))
+        where
+          by :
+              (current : Bool) → leb (checkoutOf bytes) (latest .opening + dayMinutes) ≡ current
+              → Taken tariff counts rider book bytes new parts rides current
+              → KeptRun tariff counts rider new (ridesWith tariff counts rider parts (cond current rides []))
+              (cond current (withTrip tariff counts rider bytes parts latest ∷ earlier)
+              (withTrip tariff counts rider bytes parts (opensAt (checkinOf bytes)) ∷ latest ∷ earlier))
+          by true e t = joins s t some opening is (leb-true (checkoutOf bytes) (latest .opening + dayMinutes) e)
+          by false e t = opens s t
+
 -- ---- The run.
 
--- After every outcome the book is kept with the rider's rides.
-kept-after :
-    {tariff : List ℕ} {counts : Counts} {rider : ℕ} {book : List ℕ} {rides : List ChargedRide} → Read tariff counts → rider < 21
-    → Kept tariff counts rider book rides → (bytes : List ℕ) (room : ℕ) (outcome : Outcome) → settled tariff book bytes room ≡ outcome
-    → Kept tariff counts rider (bookAfter outcome book) (ridesAfter tariff counts rider book bytes outcome rides)
-unfolding ridesAfter
-kept-after read known k bytes room (refused number place) e = k
-kept-after {tariff} {counts} {rider} {book} {rides} read known k bytes room (accepted after parts) e =
+-- where a window is open, an accepted trip's check-in is not before its opening
+not-before :
+    {tariff book bytes : List ℕ} {room : ℕ} {new : List ℕ} {parts : List Part} → AcceptedBy tariff book bytes room new parts
+    → 1 ≤ tripsOf book → openingOf book ≤ checkinOf bytes
+unfolding condition
+not-before {tariff} {book} {bytes} a some =
+    let head = sound-has book (a .counts .areas) (clear a .sound-book) .opened some in
+    elim (decLt (checkinOf bytes) (lastOutOf book)) [
+      | yes early ↦ absurd (a .none why.TooEarly (record { in-use = λ zero. omega arith; early = early }))
+      | no late ↦ omega (arith, head .order)
+    ]
+
+trip-taken :
+    {tariff book bytes : List ℕ} {room : ℕ} {new : List ℕ} {parts : List Part} (a : AcceptedBy tariff book bytes room new parts) {rider : ℕ}
+    {rides : List ChargedRide} → rider < 21 → Kept tariff (a .counts) rider book rides
+    → Taken tariff (a .counts) rider book bytes new parts rides (belongs book (checkoutOf bytes))
+unfolding windowOf
+trip-taken a known k =
+    let fields = good-fields (clear a .good) in
+    record { after = kept-trip a known k; forward = fields .forward; short = fields .short; on-time = not-before a }
+
+-- After every outcome.
+after-outcome :
+    {tariff : List ℕ} {counts : Counts} {rider : ℕ} {book : List ℕ} {rides : List ChargedRide} {windows : List RiderWindow} → Read tariff counts
+    → rider < 21 → KeptRun tariff counts rider book rides windows → (bytes : List ℕ) (room : ℕ) (outcome : Outcome)
+    → settled tariff book bytes room ≡ outcome
+    → KeptRun tariff counts rider (bookAfter outcome book) (ridesAfter tariff counts rider book bytes outcome rides)
+    (windowsAfter tariff counts rider bytes outcome windows)
+unfolding ridesAfter windowsAfter
+after-outcome read known s bytes room (refused number place) e = s
+after-outcome {tariff} {counts} {rider} {book} {rides} {windows} read known s bytes room (accepted after parts) e =
     let a = accepted-is tariff book bytes room e in
     let same = read-one tariff counts (a .counts) read (a .read) in
-    rw same (kept-trip a known (rw same at k) .kept)
+    let s′ : KeptRun tariff (a .counts) rider book rides windows = rw same at s in
+    rw same (after-trip s′ (trip-taken a known (s′ .in-book)))
 
 -- Whatever is settled, one trip after another.
 kept-from :
     {tariff : List ℕ} {counts : Counts} → Read tariff counts → {rider : ℕ} → rider < 21 → (run : List Offer) {book : List ℕ} {rides : List ChargedRide}
-    → Kept tariff counts rider book rides
-    → Kept tariff counts rider (bookFrom tariff book run) (ridesOver tariff counts rider (runFrom tariff book run) rides)
-unfolding bookFrom runFrom ridesOver
-kept-from read known [] k = k
-kept-from {tariff} read known (o ∷ run) {book} k =
-    kept-from read known run (kept-after read known k (o .bytes) (o .room) (settled tariff book (o .bytes) (o .room)) refl)
+    {windows : List RiderWindow} → KeptRun tariff counts rider book rides windows
+    → KeptRun tariff counts rider (bookFrom tariff book run) (ridesOver tariff counts rider (runFrom tariff book run) rides)
+    (windowsOver tariff counts rider (runFrom tariff book run) windows)
+unfolding bookFrom runFrom ridesOver windowsOver
+kept-from read known [] s = s
+kept-from {tariff} read known (o ∷ run) {book} s =
+    kept-from read known run (after-outcome read known s (o .bytes) (o .room) (settled tariff book (o .bytes) (o .room)) refl)
 
 -- From a fresh book.
 pub kept :
     (tariff : List ℕ) (counts : Counts) → Read tariff counts → (rider : ℕ) → rider < 21 → (run : List Offer)
-    → Kept tariff counts rider (bookOf tariff run) (ridesOf tariff counts rider run)
-kept tariff counts read rider known run = kept-from read known run (kept-fresh tariff counts rider)
+    → KeptRun tariff counts rider (bookOf tariff run) (ridesOf tariff counts rider run) (windowsOf tariff counts rider run)
+kept tariff counts read rider known run = kept-from read known run (fresh-run tariff counts rider)
+
+-- ---- Every accepted trip counts in one of the windows.
+
+trips-with :
+    (tariff : List ℕ) (counts : Counts) (rider : ℕ) (bytes : List ℕ) (parts : List Part) (windows : List RiderWindow)
+    → tripsIn (windowsWith tariff counts rider bytes parts windows) ≡ spanOf bytes ∷ tripsIn windows
+unfolding tripsIn windowsWith
+trips-with tariff counts rider bytes parts [] = refl
+trips-with tariff counts rider bytes parts (latest ∷ earlier) = go (leb (checkoutOf bytes) (latest .opening + dayMinutes))
+  where
+    go :
+        (current : Bool)
+        → tripsIn
+        (cond current (withTrip tariff counts rider bytes parts latest ∷ earlier)
+        (withTrip tariff counts rider bytes parts (opensAt (checkinOf bytes)) ∷ latest ∷ earlier))
+        ≡ spanOf bytes ∷ tripsIn (latest ∷ earlier)
+    go true = refl
+    go false = refl
+
+trips-after :
+    (tariff : List ℕ) (counts : Counts) (rider : ℕ) (bytes : List ℕ) (outcome : Outcome) (windows : List RiderWindow)
+    → tripsIn (windowsAfter tariff counts rider bytes outcome windows) ≡ acceptedAfter bytes outcome (tripsIn windows)
+unfolding windowsAfter acceptedAfter
+trips-after tariff counts rider bytes (refused number place) windows = refl
+trips-after tariff counts rider bytes (accepted new parts) windows = trips-with tariff counts rider bytes parts windows
+
+-- The trips of all windows together are those that were accepted, in their order.
+pub trips-over :
+    (tariff : List ℕ) (counts : Counts) (rider : ℕ) (settlements : List Settlement) (windows : List RiderWindow)
+    → tripsIn (windowsOver tariff counts rider settlements windows) ≡ acceptedOver settlements (tripsIn windows)
+unfolding windowsOver acceptedOver
+trips-over tariff counts rider [] windows = refl
+trips-over tariff counts rider (s ∷ more) windows =
+    trips-over tariff counts rider more (windowsAfter tariff counts rider (s .offer .bytes) (s .outcome) windows)
+    ∙ ap (acceptedOver more) (trips-after tariff counts rider (s .offer .bytes) (s .outcome) windows)

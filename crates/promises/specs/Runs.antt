@@ -1,15 +1,17 @@
--- A rider's rides in the window that is open at the end of a run, read off the parts that the trips were charged in. Every window of a
--- longer run is the window open at the end of one of its beginnings.
-use Prim.Native.Nat.{ℕ}
-use mathlib.Core.List.{List, [], _∷_}
+-- The windows of a run: the trips that count in each, and a rider's rides in it, read off the parts that the trips were charged in.
+use Prim.Native.Nat.{ℕ, _+_, _≤_}
+use mathlib.Core.Path.{_≡_}
+use mathlib.Core.List.{List, [], _∷_, _++_}
 use mathlib.Core.Bool.{cond}
 use lib.ListN.{getD}
+use lib.Dec.{leb}
+use Rattle.units.specs.Day.{dayMinutes}
 use Rattle.caps.specs.Rides.{ChargedRide}
 use Rattle.tariff.specs.declared.Counts.{Counts}
 use Rattle.tariff.specs.Areas.{areaAt}
-use Rattle.trip.specs.Moments.{checkoutOf}
+use Rattle.trip.specs.Moments.{checkinOf, checkoutOf}
 use Rattle.fare.specs.Prices.{priceOf}
-use Rattle.book.specs.Words.{freshBook}
+use Rattle.book.specs.Words.{freshBook, tripsOf, openingOf}
 use Rattle.book.specs.Windows.{belongs}
 use Rattle.book.specs.Charging.{isChild, carries, placeOf}
 use Rattle.statement.specs.Record.{Part}
@@ -33,6 +35,8 @@ ridesWith tariff counts rider [] before = before
 ridesWith tariff counts rider (part ∷ parts) before =
     ridesWith tariff counts rider parts (cond (carries (part .ride .party) rider) (entryOf tariff counts rider part ∷ before) before)
 
+-- ---- The window that is open at the end, by the book before each trip.
+
 -- the rider's rides so far, with an outcome: a refusal leaves them, and an accepted trip that opens a window begins anew
 unfoldable pub ridesAfter : List ℕ → Counts → ℕ → List ℕ → List ℕ → Outcome → List ChargedRide → List ChargedRide
 ridesAfter tariff counts rider book bytes (refused number place) before = before
@@ -46,6 +50,81 @@ ridesOver tariff counts rider [] before = before
 ridesOver tariff counts rider (s ∷ more) before =
     ridesOver tariff counts rider more (ridesAfter tariff counts rider (s .book) (s .offer .bytes) (s .outcome) before)
 
+-- ---- All windows, by the trips' own minutes.
+
+-- a trip's check-in and check-out
+pub record Span : Type 0 where
+  pub checkin : ℕ
+  pub checkout : ℕ
+
+abbrev pub spanOf : List ℕ → Span
+spanOf bytes = record { checkin = checkinOf bytes; checkout = checkoutOf bytes }
+
+-- a window: its opening minute, the trips that count in it, and a rider's rides in it, the latest first
+pub record RiderWindow : Type 0 where
+  pub opening : ℕ
+  pub trips : List Span
+  pub rides : List ChargedRide
+
+-- it opens at a check-in
+abbrev pub opensAt : ℕ → RiderWindow
+opensAt checkin = record { opening = checkin; trips = []; rides = [] }
+
+-- with an accepted trip: its opening stays
+abbrev pub withTrip : List ℕ → Counts → ℕ → List ℕ → List Part → RiderWindow → RiderWindow
+withTrip tariff counts rider bytes parts window =
+    record {
+      opening = window .opening;
+      trips = spanOf bytes ∷ window .trips;
+      rides = ridesWith tariff counts rider parts (window .rides);
+    }
+
+-- the windows so far, the open one first, with an accepted trip: it belongs to the open window when its check-out is at most
+-- opening + 1,440; otherwise it opens the next one at its own check-in
+unfoldable pub windowsWith : List ℕ → Counts → ℕ → List ℕ → List Part → List RiderWindow → List RiderWindow
+windowsWith tariff counts rider bytes parts [] = withTrip tariff counts rider bytes parts (opensAt (checkinOf bytes)) ∷ []
+windowsWith tariff counts rider bytes parts (latest ∷ earlier) =
+    cond (leb (checkoutOf bytes) (latest .opening + dayMinutes)) (withTrip tariff counts rider bytes parts latest ∷ earlier)
+    (withTrip tariff counts rider bytes parts (opensAt (checkinOf bytes)) ∷ latest ∷ earlier)
+
+-- the windows so far, with an outcome: a refusal leaves them
+unfoldable pub windowsAfter : List ℕ → Counts → ℕ → List ℕ → Outcome → List RiderWindow → List RiderWindow
+windowsAfter tariff counts rider bytes (refused number place) windows = windows
+windowsAfter tariff counts rider bytes (accepted new parts) windows = windowsWith tariff counts rider bytes parts windows
+
+-- the windows after some settlements; `windows` are those before them
+unfoldable pub windowsOver : List ℕ → Counts → ℕ → List Settlement → List RiderWindow → List RiderWindow
+windowsOver tariff counts rider [] windows = windows
+windowsOver tariff counts rider (s ∷ more) windows =
+    windowsOver tariff counts rider more (windowsAfter tariff counts rider (s .offer .bytes) (s .outcome) windows)
+
+-- a trip lies within the 24 hours from a window's opening on
+pub record WithinDay (opening : ℕ) (trip : Span) : Type 0 where
+  pub since : opening ≤ trip .checkin
+  pub forward : trip .checkin ≤ trip .checkout
+  pub till : trip .checkout ≤ opening + dayMinutes
+
+-- a book has no window open, and there is none; or the first is the one that it has open, since the same minute and with these rides
+pub data OpenFirst (book : List ℕ) (rides : List ChargedRide) : List RiderWindow → Type 0 where
+  none-open : tripsOf book ≡ 0 → rides ≡ [] → OpenFirst book rides []
+  one-open :
+      {latest : RiderWindow} {earlier : List RiderWindow} → 1 ≤ tripsOf book → openingOf book ≡ latest .opening → rides ≡ latest .rides
+      → OpenFirst book rides (latest ∷ earlier)
+
+-- the trips of some windows, all together
+unfoldable pub tripsIn : List RiderWindow → List Span
+tripsIn [] = []
+tripsIn (window ∷ windows) = window .trips ++ tripsIn windows
+
+-- the trips that some settlements accepted, the latest first, before those of `before`
+unfoldable pub acceptedAfter : List ℕ → Outcome → List Span → List Span
+acceptedAfter bytes (refused number place) before = before
+acceptedAfter bytes (accepted new parts) before = spanOf bytes ∷ before
+
+unfoldable pub acceptedOver : List Settlement → List Span → List Span
+acceptedOver [] before = before
+acceptedOver (s ∷ more) before = acceptedOver more (acceptedAfter (s .offer .bytes) (s .outcome) before)
+
 -- ---- A run from a fresh book.
 
 -- the book that it leaves
@@ -55,3 +134,7 @@ bookOf tariff run = bookFrom tariff freshBook run
 -- a rider's rides in the window that is open at its end, the latest first
 abbrev pub ridesOf : List ℕ → Counts → ℕ → List Offer → List ChargedRide
 ridesOf tariff counts rider run = ridesOver tariff counts rider (runFrom tariff freshBook run) []
+
+-- its windows, the latest first, with a rider's rides in each
+abbrev pub windowsOf : List ℕ → Counts → ℕ → List Offer → List RiderWindow
+windowsOf tariff counts rider run = windowsOver tariff counts rider (runFrom tariff freshBook run) []
