@@ -6,10 +6,10 @@ use Prim.Native.Nat.{ℕ, zero, suc, _+_, _≤_, _<_}
 use native.Mathlib.Nat.{le-refl}
 use native.Mathlib.Omega.{arith}
 use native.Mathlib.Decide.{ℕ-discrete}
-use mathlib.Core.Path.{_≡_, refl, sym, subst, _∙_}
+use mathlib.Core.Path.{_≡_, refl, sym, ap, subst, _∙_}
 use mathlib.Core.Logic.{⊎-elim}
 use mathlib.Core.Bool.{Bool, true, false, cond, and-eq-true-iff}
-use mathlib.Core.List.{List, [], _∷_}
+use mathlib.Core.List.{List, [], _∷_, List·Permᴰ, List·Permᴰ·nil, List·Permᴰ·cons, List·Permᴰ·swap, List·Permᴰ·trans}
 use borrow.Author.Tests.{eqb-true, eq-eqb}
 use lib.Dec.{eqb}
 use Rattle.units.specs.Caps.{cappedBy}
@@ -34,6 +34,8 @@ use Rattle.caps.specs.Rides.{
   resultOf,
   totalsAlone,
   oneClass,
+  pricesOf,
+  Reordered,
 }
 use Rattle.caps.proofs.Cut.{stays-full, smaller-full, full-or-not, fits-capped, full-capped, capped-mono}
 use Rattle.caps.proofs.Climb.{top-alone, within-cases, state-level}
@@ -55,6 +57,34 @@ second-is-all t class x [] two one = refl
 second-is-all t class x (e ∷ es) two one =
     let (same, before) = one-class-parts class e es one in
     rw (eq-eqb (e .class) 2 (same ∙ two), second-is-all t class x es two before)
+
+-- ---- The order of rides.
+
+-- a ride's price in its own area, and nothing in any other
+abbrev priceIn : ℕ → (ℕ × ℕ) → ℕ
+priceIn x pair = cond (eqb (pair .0) x) (pair .1) 0
+
+-- the prices of an area, of pairs of area and price
+unfoldable pricesIn : ℕ → List (ℕ × ℕ) → ℕ
+pricesIn x [] = 0
+pricesIn x (pair ∷ pairs) = pricesIn x pairs + priceIn x pair
+
+own-pairs : (x : ℕ) (es : List ChargedRide) → ownPrices x es ≡ pricesIn x (pricesOf es)
+unfolding ownPrices pricesOf pricesIn
+own-pairs x [] = refl
+own-pairs x (e ∷ es) = ap (_+ cond (eqb (e .area) x) (e .price) 0) (own-pairs x es)
+
+-- an order keeps them
+any-order : (x : ℕ) {ps qs : List (ℕ × ℕ)} → List·Permᴰ ps qs → pricesIn x ps ≡ pricesIn x qs
+unfolding pricesIn
+any-order x List·Permᴰ·nil = refl
+any-order x (List·Permᴰ·cons same rest) = omega (arith, ap (priceIn x) same, any-order x rest)
+any-order x (List·Permᴰ·swap one other) = omega (arith, ap (priceIn x) one, ap (priceIn x) other)
+any-order x (List·Permᴰ·trans first second) = any-order x first ∙ any-order x second
+
+-- The prices of each area's own rides are the same in any order.
+pub reordered-prices : (x : ℕ) (es fs : List ChargedRide) → Reordered es fs → ownPrices x es ≡ ownPrices x fs
+reordered-prices x es fs order = own-pairs x es ∙ any-order x order ∙ sym (own-pairs x fs)
 
 module _ {t : Tree} (tree : IsTree t) (class : ℕ) where
   -- ---- The one cap of each area that counts.
@@ -246,3 +276,9 @@ module _ {t : Tree} (tree : IsTree t) (class : ℕ) where
         result-mono es fs (λ x h. omega (arith, same x h)) 2 0 (tree .state),
         result-mono fs es (λ x h. omega (arith, same x h)) 2 0 (tree .state),
       )
+
+  -- So it is with the same rides in another order.
+  pub reordered-same :
+      {es fs : List ChargedRide} → ChargedInTurn t es → ChargedInTurn t fs → oneClass class es ≡ true → oneClass class fs ≡ true
+      → Reordered es fs → charges es ≡ charges fs
+  reordered-same {es} {fs} r s one two order = order-free r s one two (λ x h. reordered-prices x es fs order)

@@ -1,7 +1,7 @@
 -- Rules, sections 10 and 17: a rider's rides in one window, the latest first, whatever their prices are, and what their charges add up to.
 use Prim.Native.Nat.{ℕ, zero, suc, _+_, _≤_, _<_}
 use mathlib.Core.Path.{_≡_}
-use mathlib.Core.List.{List, [], _∷_, _++_, List·Memᴰ}
+use mathlib.Core.List.{List, [], _∷_, _++_, List·Memᴰ, List·Permᴰ}
 use mathlib.Core.Bool.{Bool, true, cond, _&&_}
 use lib.Dec.{eqb, ltb}
 use Rattle.units.specs.Caps.{cappedBy}
@@ -79,6 +79,17 @@ resultOf t class es (suc depth) x =
 -- the whole: the state's result, with regions below it and cities below them
 abbrev pub totalsAlone : Tree → ℕ → List ChargedRide → ℕ
 totalsAlone t class es = resultOf t class es 2 0
+
+-- ---- The order of rides.
+
+-- each ride's area and price, whatever it was charged
+unfoldable pub pricesOf : List ChargedRide → List (ℕ × ℕ)
+pricesOf [] = []
+pricesOf (e ∷ es) = (e .area, e .price) ∷ pricesOf es
+
+-- the same areas and prices in another order: none; one more in front; two exchanged; one change of order after another
+abbrev pub Reordered : List ChargedRide → List ChargedRide → Type 0
+Reordered es fs = List·Permᴰ (pricesOf es) (pricesOf fs)
 
 -- ---- Promise 3.
 

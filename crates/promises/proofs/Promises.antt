@@ -22,11 +22,12 @@ use Rattle.caps.specs.Rides.{
   ownPrices,
   oneClass,
   totalsAlone,
+  Reordered,
   PromiseThree,
 }
 use Rattle.caps.proofs.Promise.{promise-three as of-charged}
 use Rattle.caps.proofs.Window.{state-total}
-use Rattle.caps.proofs.OneClass.{order-free}
+use Rattle.caps.proofs.OneClass.{order-free, reordered-same}
 use Rattle.tariff.specs.declared.Counts.{Counts}
 use Rattle.tariff.specs.Areas.{areaAt, Read}
 use Rattle.tariff.proofs.Faultless.{faultless}
@@ -131,6 +132,10 @@ module _ (tariff : List ℕ) (counts : Counts) (read : Read tariff counts) (ride
         ((x : ℕ) → x < counts .areas → ownPrices x (window .rides) ≡ ownPrices x (window′ .rides)) → charges (window .rides) ≡ charges (window′ .rides)
     order-does-not-matter =
         order-free tree-is class (window-right run window there .charged) (window-right run′ window′ there′ .charged) one other
+
+    -- And so it is where the rides of the one, each with its area and its price, are those of the other in another order.
+    pub any-order : Reordered (window .rides) (window′ .rides) → charges (window .rides) ≡ charges (window′ .rides)
+    any-order = reordered-same tree-is class (window-right run window there .charged) (window-right run′ window′ there′ .charged) one other
 
 -- The book stays sound, whatever is settled on it.
 pub book-stays-sound :
