@@ -1,11 +1,12 @@
--- A roll is a run: the lines that the program prints, however the roll comes to it, are those of a run of the roll's records from a fresh
--- book, each offered with room for the largest record; and of every run, so of every beginning of this one, promise 3 holds.
+-- A roll is a run: its lines, whose text is what the program prints, are those of a run of the roll's records from a fresh book, each
+-- offered with room for the largest record. So promise 3 holds of what is printed, in each window.
 -- Assumes nothing.
-use Prim.Native.Nat.{ℕ, zero, suc, _<_}
-use mathlib.Core.Path.{_≡_, refl, ap}
+use Prim.Native.Nat.{ℕ, zero, suc, _≤_, _<_}
+use mathlib.Core.Path.{_≡_, refl, ap, _∙_}
 use mathlib.Core.Bool.{cond}
 use mathlib.Core.List.{List, [], _∷_, _++_, List·Memᴰ}
-use lib.ListN.{take}
+use lib.ListN.{length, take}
+use lib.Seq.{take-append-le}
 use Rattle.caps.specs.Rides.{PromiseThree}
 use Rattle.tariff.specs.declared.Counts.{Counts}
 use Rattle.tariff.specs.Areas.{Read}
@@ -16,8 +17,6 @@ use Rattle.settle.specs.Outcome.{settled, bookAfter}
 use Rattle.settle.specs.Runs.{Offer, runFrom}
 use Rattle.roll.specs.declared.Line.the-variants.{Refused}
 use Rattle.roll.specs.Lines.{offersOf, brokenIn, lineOf, linesIn, linesOf}
-use Rattle.roll.specs.Pieces.{joined, fedLines}
-use Rattle.roll.proofs.Pieces.{cut-same}
 use Rattle.promises.specs.Runs.{RiderWindow, windowsOf}
 use Rattle.promises.proofs.Promises.{promise-three}
 
@@ -30,26 +29,34 @@ first-lines tariff book [] (suc n) = refl
 first-lines tariff book (o ∷ run) (suc n) =
     let outcome = settled tariff book (o .bytes) (o .room) in ap (lineOf outcome ∷_) (first-lines tariff (bookAfter outcome book) run n)
 
-module _ (tariff : List ℕ) (pieces : List (List ℕ)) (records : ℕ) where
+-- a run has a line for each of its trips
+line-each : (tariff book : List ℕ) (run : List Offer) → length (linesIn (runFrom tariff book run)) ≡ length run
+unfolding runFrom linesIn
+line-each tariff book [] = refl
+line-each tariff book (o ∷ run) = ap suc (line-each tariff (bookAfter (settled tariff book (o .bytes) (o .room)) book) run)
+
+module _ (tariff roll : List ℕ) (records : ℕ) where
   -- the roll's records, in order
   abbrev run : List Offer
-  run = offersOf records (joined pieces)
+  run = offersOf records roll
 
   -- The lines of a roll are those of a run of its records, with one line more for a broken frame at its end.
   pub roll-is-a-run :
-      fedLines records tariff freshBook [] pieces
-      ≡ linesIn (runFrom tariff freshBook run) ++ cond (brokenIn records (joined pieces)) (Refused 5 ∷ []) []
+      linesOf records tariff freshBook roll
+      ≡ linesIn (runFrom tariff freshBook run) ++ cond (brokenIn records roll) (Refused 5 ∷ []) []
   unfolding linesOf
-  roll-is-a-run = cut-same records tariff freshBook pieces
+  roll-is-a-run = refl
 
-  -- So promise 3 holds of what the program prints, line by line: the first n lines are those of the run's first n trips, of which it holds
-  -- for every rider in each window.
+  -- So promise 3 holds of them, line by line: the first n are those of the run's first n trips, of which it holds for every rider in each
+  -- window.
   pub printed-promise-three :
-      (counts : Counts) → Read tariff counts → (n : ℕ)
-      → (take n (linesIn (runFrom tariff freshBook run)) ≡ linesIn (runFrom tariff freshBook (take n run)))
+      (counts : Counts) → Read tariff counts → (n : ℕ) → n ≤ length run
+      → (take n (linesOf records tariff freshBook roll) ≡ linesIn (runFrom tariff freshBook (take n run)))
       × ((rider : ℕ) → rider < 21 → (window : RiderWindow) → List·Memᴰ window (windowsOf tariff counts rider (take n run))
       → PromiseThree (treeOf tariff counts (isChild rider)) (window .rides))
-  printed-promise-three counts read n = (
-    first-lines tariff freshBook run n,
+  printed-promise-three counts read n few = (
+    ap (take n) roll-is-a-run
+        ∙ take-append-le n (linesIn (runFrom tariff freshBook run)) _ (rw (line-each tariff freshBook run) few)
+        ∙ first-lines tariff freshBook run n,
     λ rider known window there. promise-three tariff counts read rider known (take n run) window there,
   )

@@ -1,15 +1,16 @@
--- The lines of a roll do not depend on how it was cut into pieces.
+-- What stands at the start of a piece that tells it stands at the start of every longer one; and the lines of a roll by what stands at its
+-- start.
 -- Assumes nothing.
-use Prim.Native.Nat.{ℕ, zero, suc, _+_, _-_, _≤_, _<_}
+use Prim.Native.Nat.{ℕ, suc, _+_, _-_, _≤_, _<_}
 use native.Mathlib.Omega.{arith}
 use native.Mathlib.Decide.{ℕ-discrete, decLt}
-use mathlib.Core.Path.{_≡_, refl, sym, ap, _∙_}
+use mathlib.Core.Path.{_≡_, refl, sym, _∙_}
 use mathlib.Core.Logic.{_⊎_, inl, inr}
-use mathlib.Core.Bool.{Bool, true, false, not, _&&_, _||_, and-false, or-true, false≢true}
-use mathlib.Core.List.{List, [], _∷_, _++_, append-nil, append-assoc}
+use mathlib.Core.Bool.{Bool, true, false, _&&_, _||_, and-false, or-true, false≢true}
+use mathlib.Core.List.{List, [], _∷_, _++_}
 use borrow.Author.Tests.{lt-ltb, le-ltb, le-leb, lt-leb, ltb-false, eq-eqb, ne-eqb}
 use lib.ListN.{length, take, drop, length-append}
-use lib.Seq.{take-append-le, drop-append-le}
+use lib.Seq.{take-append-le}
 use lib.Dec.{leb, ltb}
 use Rattle.wire.specs.Number.{getLe}
 use Rattle.wire.specs.Frame.{frameAt}
@@ -18,14 +19,14 @@ use Rattle.wire.specs.declared.Frame.the-variants as frame
 use Rattle.wire.proofs.Number.{get-front}
 use Rattle.wire.proofs.Frames.{tested, broken-back, whole, whole-back}
 use Rattle.statement.specs.Record.{largestSize}
-use Rattle.settle.specs.Runs.{Offer, runFrom}
+use Rattle.settle.specs.Runs.{runFrom}
 use Rattle.roll.specs.declared.Line.{Line}
 use Rattle.roll.specs.declared.Line.the-variants.{Refused}
 use Rattle.roll.specs.declared.Step.{Step}
 use Rattle.roll.specs.declared.Step.the-variants.{End, More, Record, Broken}
-use Rattle.roll.specs.Lines.{offersOf, brokenIn, lineOf, linesIn, linesOf}
-use Rattle.roll.specs.Pieces.{unfinished, outcomeAt, stepOf, bookStep, joined, isMore, Come, fetched, fedLines}
-use Rattle.roll.proofs.Starts.{few-unfinished, length-decides, more-way, end-way, broken-way, whole-way, record-within}
+use Rattle.roll.specs.Lines.{offersOf, brokenIn, linesIn, linesOf}
+use Rattle.roll.specs.Pieces.{unfinished, outcomeAt, stepOf, bookStep}
+use Rattle.roll.proofs.Starts.{few-unfinished, length-decides, more-way, end-way, broken-way, whole-way}
 
 -- ---- Where a piece tells what stands at its start: its length is out of range, or its record ends within it.
 
@@ -166,57 +167,7 @@ longer-same tariff book piece rest more other = go (frameAt piece 0) refl
 
 -- ---- A whole roll.
 
--- a step that is not said to be `More` is not
-is-more : (s : Step) → isMore s ≡ false → s ≡ More → ⊥
-is-more End e z = absurd (let z : _≡_ {A = ℕ} 0 1 = cc in omega arith)
-is-more More e z = false≢true (sym e)
-is-more Broken e z = absurd (let z : _≡_ {A = ℕ} 0 1 = cc in omega arith)
-is-more (Record line used) e z = absurd (let z : _≡_ {A = ℕ} 0 1 = cc in omega arith)
-
--- What has come and what has not make up the roll; and the step is not `More`, or nothing can come any more.
-record Right (tariff book roll : List ℕ) (come : Come) : Type 0 where
-  whole-roll : come .kept ++ joined (come .pieces) ≡ roll
-  decides : ((come .more ≡ true) × (stepOf tariff book (come .kept) true ≡ More → ⊥)) ⊎ ((come .more ≡ false) × (come .pieces ≡ []))
-
-right : (tariff book kept : List ℕ) (pieces : List (List ℕ)) → Right tariff book (kept ++ joined pieces) (fetched tariff book kept pieces)
-unfolding fetched joined
-right tariff book kept [] = record { whole-roll = refl; decides = go (isMore (stepOf tariff book kept true)) refl }
-  where
-    go :
-        (t : Bool) → isMore (stepOf tariff book kept true) ≡ t
-        → ((not (isMore (stepOf tariff book kept true)) ≡ true) × (stepOf tariff book kept true ≡ More → ⊥))
-        ⊎ ((not (isMore (stepOf tariff book kept true)) ≡ false) × (_≡_ {A = List (List ℕ)} [] []))
-    go true e = inr (rw e, refl)
-    go false e = inl (rw e, is-more (stepOf tariff book kept true) e)
-right tariff book kept (piece ∷ pieces) =
-    go (right tariff book (kept ++ piece) pieces) (isMore (stepOf tariff book kept true)) refl
-  where
-    go :
-        Right tariff book ((kept ++ piece) ++ joined pieces) (fetched tariff book (kept ++ piece) pieces)
-        → (t : Bool) → isMore (stepOf tariff book kept true) ≡ t
-        → Right tariff book (kept ++ (piece ++ joined pieces)) (fetched tariff book kept (piece ∷ pieces))
-    go on true e = rw e (rw append-assoc at on)
-    go on false e =
-        rw e (record { whole-roll = refl; decides = inl (refl, is-more (stepOf tariff book kept true) e) })
-
--- What stands at the start of what has come stands at the start of the roll.
-record SameStart (tariff book roll : List ℕ) (come : Come) : Type 0 where
-  step : stepOf tariff book roll false ≡ stepOf tariff book (come .kept) (come .more)
-  book-after : bookStep tariff book roll false ≡ bookStep tariff book (come .kept) (come .more)
-
-same-start : (tariff book roll : List ℕ) (come : Come) → Right tariff book roll come → SameStart tariff book roll come
-unfolding joined
-same-start tariff book roll come r = go (r .decides)
-  where
-    go :
-        ((come .more ≡ true) × (stepOf tariff book (come .kept) true ≡ More → ⊥)) ⊎ ((come .more ≡ false) × (come .pieces ≡ []))
-        → SameStart tariff book roll come
-    go (inl now) =
-        let same = longer-same tariff book (come .kept) (joined (come .pieces)) false (now .1) in
-        rw (← r .whole-roll, now .0) (record { step = same .0; book-after = same .1 })
-    go (inr over) = rw (← r .whole-roll, over .1, over .0) (rw (append-nil (come .kept)) (record { step = refl; book-after = refl }))
-
--- the lines of a roll, and of one that comes in pieces, by what stands at its start
+-- the lines of a roll by what stands at its start
 unfoldable pub afterStep : Step → (Line → ℕ → List Line) → List Line
 afterStep End on = []
 afterStep More on = []
@@ -254,54 +205,3 @@ lines-step records tariff book roll = go (frameAt roll 0) refl
         let way = whole-way tariff book roll false refl kind body e in
         let facts = whole roll 0 kind body e in
         rw (way .0, way .1, first-offer records roll kind body e, e, ne-eqb (length roll) 0 (λ none. omega arith))
-
-fed-step :
-    (records : ℕ) (tariff book kept : List ℕ) (pieces : List (List ℕ)) (s : Step)
-    → stepOf tariff book (fetched tariff book kept pieces .kept) (fetched tariff book kept pieces .more) ≡ s
-    → fedLines (suc records) tariff book kept pieces
-    ≡ afterStep s
-    (λ line used.
-    let come = fetched tariff book kept pieces in
-    fedLines records tariff (bookStep tariff book (come .kept) (come .more)) (drop used (come .kept)) (come .pieces))
-unfolding fedLines afterStep
-fed-step records tariff book kept pieces End e = rw (e, fedLines)
-fed-step records tariff book kept pieces More e = rw (e, fedLines)
-fed-step records tariff book kept pieces Broken e = rw (e, fedLines)
-fed-step records tariff book kept pieces (Record line used) e = rw (e, fedLines)
-
--- the lines behind a record are those of the rest of the roll, of which less is kept
-behind :
-    (records : ℕ) (tariff book roll : List ℕ) (come : Come) → Right tariff book roll come → SameStart tariff book roll come
-    → ((book′ kept : List ℕ) (pieces : List (List ℕ)) → fedLines records tariff book′ kept pieces ≡ linesOf records tariff book′ (kept ++ joined pieces))
-    → (s : Step) → stepOf tariff book (come .kept) (come .more) ≡ s
-    → afterStep s (λ line used. fedLines records tariff (bookStep tariff book (come .kept) (come .more)) (drop used (come .kept)) (come .pieces))
-    ≡ afterStep s (λ line used. linesOf records tariff (bookStep tariff book roll false) (drop used roll))
-unfolding afterStep
-behind records tariff book roll come all start on End e = refl
-behind records tariff book roll come all start on More e = refl
-behind records tariff book roll come all start on Broken e = refl
-behind records tariff book roll come all start on (Record line used) e =
-    let fits = record-within tariff book (come .kept) (come .more) line used e in
-    ap (line ∷_)
-    (on (bookStep tariff book (come .kept) (come .more)) (drop used (come .kept)) (come .pieces)
-    ∙ rw (start .book-after, ← all .whole-roll, drop-append-le used (come .kept) (joined (come .pieces)) (fits .1)))
-
--- The lines of a roll are the same however it comes.
-pub fed-same :
-    (records : ℕ) (tariff book kept : List ℕ) (pieces : List (List ℕ))
-    → fedLines records tariff book kept pieces ≡ linesOf records tariff book (kept ++ joined pieces)
-unfolding fedLines linesOf linesIn runFrom offersOf brokenIn
-fed-same zero tariff book kept pieces = refl
-fed-same (suc records) tariff book kept pieces =
-    let come = fetched tariff book kept pieces in
-    let all = right tariff book kept pieces in
-    let start = same-start tariff book (kept ++ joined pieces) come all in
-    fed-step records tariff book kept pieces (stepOf tariff book (come .kept) (come .more)) refl
-    ∙ behind records tariff book (kept ++ joined pieces) come all start (fed-same records tariff) (stepOf tariff book (come .kept) (come .more)) refl
-    ∙ sym (rw (start .step) at (lines-step records tariff book (kept ++ joined pieces)))
-
--- A roll cut into pieces anywhere, from a book on with nothing kept.
-pub cut-same :
-    (records : ℕ) (tariff book : List ℕ) (pieces : List (List ℕ))
-    → fedLines records tariff book [] pieces ≡ linesOf records tariff book (joined pieces)
-cut-same records tariff book pieces = fed-same records tariff book [] pieces
