@@ -35,6 +35,7 @@ use Rattle.tariff.specs.Scan.{
 use Rattle.tariff.specs.declared.scan.Entry.{Entry}
 use Rattle.tariff.specs.declared.scan.Entry.the-variants.{End, Area, Stop, Faulty}
 use Rattle.wire.proofs.Tests.{told}
+use Rattle.tariff.proofs.WrongValues.{area-wrong, stop-wrong}
 
 -- A faultless area record: its kind and body length, its order and number, its values, and that it ends within the bytes.
 pub record AreaEntry (b : List ℕ) (at : ℕ) (soFar : Counts) : Type 0 where
@@ -184,7 +185,8 @@ module _ (b : List ℕ) (at : ℕ) (soFar : Counts) where
       let here = area-in b at soFar body frame due in
       let facts = whole b at 1 areaBody (here .frame) in
       area (record { frame = here .frame; none = here .none; few = here .few; right = right; fits = omega arith }))
-      (λ due false-value. fault (three refl (area-value (area-in b at soFar body frame due) false-value)))
+      (λ due false-value.
+      fault (three refl (area-value (area-in b at soFar body frame due) (area-wrong b soFar (areaFields b at) .0 false-value))))
       (λ not-due.
       fault (two refl (wrong 1 body frame (area-out b at soFar body frame not-due) (other-stop b at soFar 1 body frame (λ e. omega arith)))))
 
@@ -196,7 +198,8 @@ module _ (b : List ℕ) (at : ℕ) (soFar : Counts) where
       let here = stop-in b at soFar body frame due in
       let facts = whole b at 2 stopBody (here .frame) in
       stop (record { frame = here .frame; some = here .some; few = here .few; right = right; fits = omega arith }))
-      (λ due false-value. fault (three refl (stop-value (stop-in b at soFar body frame due) false-value)))
+      (λ due false-value.
+      fault (three refl (stop-value (stop-in b at soFar body frame due) (stop-wrong (stopFields b at) (soFar .areas) .0 false-value))))
       (λ not-due.
       fault (two refl (wrong 2 body frame (other-area b at soFar 2 body frame (λ e. omega arith)) (stop-out b at soFar body frame not-due))))
 
@@ -277,6 +280,10 @@ module _ (b : List ℕ) (at : ℕ) (soFar : Counts) where
             ]
       ])
   fault-given (three e (area-value here value)) =
-      rw e (area-frame b at soFar areaBody (here .frame) ∙ area-due b at soFar areaBody (area-holds b at soFar here) value)
+      rw e
+      (area-frame b at soFar areaBody (here .frame)
+      ∙ area-due b at soFar areaBody (area-holds b at soFar here) (area-wrong b soFar (areaFields b at) .1 value))
   fault-given (three e (stop-value here value)) =
-      rw e (stop-frame b at soFar stopBody (here .frame) ∙ stop-due b at soFar stopBody (stop-holds b at soFar here) value)
+      rw e
+      (stop-frame b at soFar stopBody (here .frame)
+      ∙ stop-due b at soFar stopBody (stop-holds b at soFar here) (stop-wrong (stopFields b at) (soFar .areas) .1 value))

@@ -1,3 +1,4 @@
+pub mod WrongValues
 pub mod Entries
 pub mod Values
 pub mod Turns

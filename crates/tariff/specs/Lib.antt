@@ -1,6 +1,7 @@
 pub mod Layout
 pub mod Fields
 pub mod Rules
+pub mod WrongValues
 pub mod Scan
 pub mod Areas
 pub mod Levels

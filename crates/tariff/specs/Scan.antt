@@ -3,7 +3,7 @@
 use Prim.Native.Nat.{ℕ, zero, suc, _+_, _≤_, _<_}
 use mathlib.Core.Path.{_≡_}
 use mathlib.Core.List.{List}
-use mathlib.Core.Bool.{false, cond, _&&_}
+use mathlib.Core.Bool.{cond, _&&_}
 use lib.ListN.{length}
 use lib.Dec.{leb, ltb, eqb}
 use Rattle.wire.specs.Frame.{frameAt}
@@ -16,6 +16,7 @@ use Rattle.tariff.specs.declared.Reading.the-variants.{Fault, Faultless}
 use Rattle.tariff.specs.Layout.{areaBody, areaSize, stopBody, stopSize, mostAreas, mostStops, areaPlace, stopPlace, areasBefore, stopsBefore, moreAreas, moreStops}
 use Rattle.tariff.specs.Fields.{areaFields, stopFields}
 use Rattle.tariff.specs.Rules.{areaRight, stopRight}
+use Rattle.tariff.specs.WrongValues.{WrongArea, WrongStop}
 
 -- a place that so many areas and stops reach
 pub record Reached (b : List ℕ) (at : ℕ) (soFar : Counts) : Type 0 where
@@ -100,8 +101,8 @@ pub data OutOfPlace (b : List ℕ) (at : ℕ) (soFar : Counts) : Type 0 where
 
 -- fault 3: the frame is whole, kind, body length, order and number are right, and a value breaks a rule
 pub data WrongValue (b : List ℕ) (at : ℕ) (soFar : Counts) : Type 0 where
-  area-value : AreaInPlace b at soFar → areaRight b soFar (areaFields b at) ≡ false → WrongValue b at soFar
-  stop-value : StopInPlace b at soFar → stopRight (stopFields b at) (soFar .areas) ≡ false → WrongValue b at soFar
+  area-value : AreaInPlace b at soFar → WrongArea b soFar (areaFields b at) → WrongValue b at soFar
+  stop-value : StopInPlace b at soFar → WrongStop (stopFields b at) (soFar .areas) → WrongValue b at soFar
 
 -- what the number of a fault says; there is no other number
 pub data FaultSays (b : List ℕ) (at : ℕ) (soFar : Counts) (number : ℕ) : Type 0 where

@@ -1,0 +1,376 @@
+-- Fault 3 in the rules' words: the test of a record's values fails exactly when one of them is outside its range or breaks a rule.
+-- Assumes nothing.
+use Prim.Native.Nat.{ℕ, _≤_, _<_}
+use native.Mathlib.Omega.{arith}
+use native.Mathlib.Decide.{ℕ-discrete, decLt}
+use mathlib.Core.Path.{_≡_, refl, sym}
+use mathlib.Core.Logic.{_↔_, _⊎_, inl, inr, ⊎-elim}
+use mathlib.Core.Bool.{Bool, true, false, _&&_, _||_, false≢true}
+use mathlib.Core.List.{List, [], _∷_}
+use borrow.Author.Tests.{leb-false, lt-leb, ltb-false, le-ltb, eqb-false, ne-eqb, eq-eqb}
+use lib.Dec.{leb, ltb, eqb}
+use Rattle.tariff.specs.declared.Counts.{Counts}
+use Rattle.tariff.specs.declared.fields.AreaFields.{AreaFields}
+use Rattle.tariff.specs.declared.fields.StopFields.{StopFields}
+use Rattle.tariff.specs.Rules.{
+  mostBasePrice,
+  mostPricePerKm,
+  leastMinutes,
+  mostMinutes,
+  mostPercent,
+  mostMoney,
+  noDayCap,
+  mostMetres,
+  pricesRight,
+  unused,
+  tripCapRight,
+  capsRight,
+  levelOf,
+  flatOf,
+  placeRight,
+  areaRight,
+  stopRight,
+}
+use Rattle.tariff.specs.WrongValues.{
+  OneOf,
+  here,
+  later,
+  NotZero,
+  TooMuch,
+  WrongTripCap,
+  no-sort,
+  no-cap-zeros,
+  flat-amount,
+  flat-short,
+  flat-long,
+  flat-zeros,
+  level-amount,
+  WrongPlace,
+  state-level,
+  state-parent,
+  second-state,
+  high-level,
+  region-parent,
+  city-parent,
+  flat-above,
+  WrongArea,
+  high-base,
+  high-rate,
+  short-validity,
+  long-validity,
+  high-surcharge,
+  high-reduction,
+  wrong-trip-cap,
+  high-day-cap,
+  high-flat,
+  wrong-place,
+  WrongStop,
+  lacking-area,
+  far-x,
+  far-y,
+}
+
+-- ---- Tests that fail.
+
+-- a test fails exactly when something is wrong
+abbrev Fails : Bool → Type 0 → Type 0
+Fails test wrong = test ≡ false ↔ wrong
+
+-- two tests fail together when the one or the other is wrong, and one of two when both are
+both : {P Q : Type 0} (s t : Bool) → Fails s P → Fails t Q → Fails (s && t) (P ⊎ Q)
+both true t p q = (λ e. inr (q .0 e), ⊎-elim (λ w. absurd (false≢true (sym (p .1 w)))) (q .1))
+both false t p q = (λ e. inl (p .0 refl), λ w. refl)
+
+either : {P Q : Type 0} (s t : Bool) → Fails s P → Fails t Q → Fails (s || t) (P × Q)
+either true t p q = (λ e. absurd (false≢true (sym e)), λ w. p .1 (w .0))
+either false t p q = (λ e. (p .0 refl, q .0 e), λ w. q .1 (w .1))
+
+-- tests of two numbers
+above : (n most : ℕ) → Fails (leb n most) (most < n)
+above n most = (leb-false n most, lt-leb n most)
+
+not-below : (m n : ℕ) → Fails (ltb m n) (n ≤ m)
+not-below m n = (ltb-false m n, le-ltb m n)
+
+other : (m n : ℕ) → Fails (eqb m n) (m ≡ n → ⊥)
+other m n = (eqb-false m n, ne-eqb m n)
+
+-- ---- The trip cap.
+
+module _ (f : AreaFields) where
+  -- what the test of the last three fields fails for
+  abbrev LastWrong : Type 0
+  LastWrong = ((f .cap3 ≡ 0 → ⊥) ⊎ (f .cap4 ≡ 0 → ⊥)) ⊎ (f .cap5 ≡ 0 → ⊥)
+
+  unused-fails : Fails (unused f) LastWrong
+  unused-fails = both _ _ (both _ _ (other (f .cap3) 0) (other (f .cap4) 0)) (other (f .cap5) 0)
+
+  last-zeros : LastWrong → OneOf NotZero (f .cap3 ∷ f .cap4 ∷ f .cap5 ∷ [])
+  last-zeros (inl (inl w)) = here w
+  last-zeros (inl (inr w)) = later (here w)
+  last-zeros (inr w) = later (later (here w))
+
+  zeros-last : OneOf NotZero (f .cap3 ∷ f .cap4 ∷ f .cap5 ∷ []) → LastWrong
+  zeros-last (here w) = inl (inl w)
+  zeros-last (later (here w)) = inl (inr w)
+  zeros-last (later (later (here w))) = inr w
+
+  -- what the test of each sort fails for: another sort, or one of its fields
+  abbrev NoneWrong : Type 0
+  NoneWrong = (((f .sort ≡ 0 → ⊥) ⊎ (f .cap1 ≡ 0 → ⊥)) ⊎ (f .cap2 ≡ 0 → ⊥)) ⊎ LastWrong
+
+  abbrev FlatWrong : Type 0
+  FlatWrong = ((((f .sort ≡ 1 → ⊥) ⊎ TooMuch (f .cap1)) ⊎ (f .cap2 < leastMinutes)) ⊎ (mostMinutes < f .cap2)) ⊎ LastWrong
+
+  abbrev LevelsWrong : Type 0
+  LevelsWrong =
+      (((((f .sort ≡ 2 → ⊥) ⊎ TooMuch (f .cap1)) ⊎ TooMuch (f .cap2)) ⊎ TooMuch (f .cap3)) ⊎ TooMuch (f .cap4)) ⊎ TooMuch (f .cap5)
+
+  sorts-fail : Fails (tripCapRight f) ((NoneWrong × FlatWrong) × LevelsWrong)
+  sorts-fail =
+      either _ _
+      (either _ _ (both _ _ (both _ _ (both _ _ (other (f .sort) 0) (other (f .cap1) 0)) (other (f .cap2) 0)) unused-fails)
+      (both _ _
+      (both _ _ (both _ _ (both _ _ (other (f .sort) 1) (above (f .cap1) mostMoney)) (above leastMinutes (f .cap2))) (above (f .cap2) mostMinutes))
+      unused-fails))
+      (both _ _
+      (both _ _
+      (both _ _ (both _ _ (both _ _ (other (f .sort) 2) (above (f .cap1) mostMoney)) (above (f .cap2) mostMoney)) (above (f .cap3) mostMoney))
+      (above (f .cap4) mostMoney))
+      (above (f .cap5) mostMoney))
+
+  none-wrong : f .sort ≡ 0 → NoneWrong → WrongTripCap f
+  none-wrong is (inl (inl (inl never))) = absurd (never is)
+  none-wrong is (inl (inl (inr w))) = no-cap-zeros is (here w)
+  none-wrong is (inl (inr w)) = no-cap-zeros is (later (here w))
+  none-wrong is (inr w) = no-cap-zeros is (later (later (last-zeros w)))
+
+  flat-wrong : f .sort ≡ 1 → FlatWrong → WrongTripCap f
+  flat-wrong is (inl (inl (inl (inl never)))) = absurd (never is)
+  flat-wrong is (inl (inl (inl (inr w)))) = flat-amount is w
+  flat-wrong is (inl (inl (inr w))) = flat-short is w
+  flat-wrong is (inl (inr w)) = flat-long is w
+  flat-wrong is (inr w) = flat-zeros is (last-zeros w)
+
+  levels-wrong : f .sort ≡ 2 → LevelsWrong → WrongTripCap f
+  levels-wrong is (inl (inl (inl (inl (inl never))))) = absurd (never is)
+  levels-wrong is (inl (inl (inl (inl (inr w))))) = level-amount is (here w)
+  levels-wrong is (inl (inl (inl (inr w)))) = level-amount is (later (here w))
+  levels-wrong is (inl (inl (inr w))) = level-amount is (later (later (here w)))
+  levels-wrong is (inl (inr w)) = level-amount is (later (later (later (here w))))
+  levels-wrong is (inr w) = level-amount is (later (later (later (later (here w)))))
+
+  -- a sort is one of three, or above 2
+  cap-words : (NoneWrong × FlatWrong) × LevelsWrong → WrongTripCap f
+  cap-words w =
+      elim (ℕ-discrete (f .sort) 0) [
+        | yes is ↦ none-wrong is (w .0 .0)
+        | no not-none ↦
+            elim (ℕ-discrete (f .sort) 1) [
+              | yes is ↦ flat-wrong is (w .0 .1)
+              | no not-flat ↦
+                  elim (ℕ-discrete (f .sort) 2) [ yes is ↦ levels-wrong is (w .1) | no not-levels ↦ no-sort (omega arith) ]
+            ]
+      ]
+
+  -- the tests of other sorts fail for the sort
+  abbrev NotSort : ℕ → Type 0
+  NotSort n = f .sort ≡ n → ⊥
+
+  not-none : NotSort 0 → NoneWrong
+  not-none never = inl (inl (inl never))
+
+  not-flat : NotSort 1 → FlatWrong
+  not-flat never = inl (inl (inl (inl never)))
+
+  not-levels : NotSort 2 → LevelsWrong
+  not-levels never = inl (inl (inl (inl (inl never))))
+
+  zeros-none : OneOf NotZero (f .cap1 ∷ f .cap2 ∷ f .cap3 ∷ f .cap4 ∷ f .cap5 ∷ []) → NoneWrong
+  zeros-none (here w) = inl (inl (inr w))
+  zeros-none (later (here w)) = inl (inr w)
+  zeros-none (later (later w)) = inr (zeros-last w)
+
+  amounts-levels : OneOf TooMuch (f .cap1 ∷ f .cap2 ∷ f .cap3 ∷ f .cap4 ∷ f .cap5 ∷ []) → LevelsWrong
+  amounts-levels (here w) = inl (inl (inl (inl (inr w))))
+  amounts-levels (later (here w)) = inl (inl (inl (inr w)))
+  amounts-levels (later (later (here w))) = inl (inl (inr w))
+  amounts-levels (later (later (later (here w)))) = inl (inr w)
+  amounts-levels (later (later (later (later (here w))))) = inr w
+
+  words-cap : WrongTripCap f → (NoneWrong × FlatWrong) × LevelsWrong
+  words-cap (no-sort w) = ((not-none (λ e. omega arith), not-flat (λ e. omega arith)), not-levels (λ e. omega arith))
+  words-cap (no-cap-zeros is w) = ((zeros-none w, not-flat (λ e. omega arith)), not-levels (λ e. omega arith))
+  words-cap (flat-amount is w) = ((not-none (λ e. omega arith), inl (inl (inl (inr w)))), not-levels (λ e. omega arith))
+  words-cap (flat-short is w) = ((not-none (λ e. omega arith), inl (inl (inr w))), not-levels (λ e. omega arith))
+  words-cap (flat-long is w) = ((not-none (λ e. omega arith), inl (inr w)), not-levels (λ e. omega arith))
+  words-cap (flat-zeros is w) = ((not-none (λ e. omega arith), inr (zeros-last w)), not-levels (λ e. omega arith))
+  words-cap (level-amount is w) = ((not-none (λ e. omega arith), not-flat (λ e. omega arith)), amounts-levels w)
+
+  pub cap-wrong : tripCapRight f ≡ false ↔ WrongTripCap f
+  cap-wrong = (λ e. cap-words (sorts-fail .0 e), λ w. sorts-fail .1 (words-cap w))
+
+-- ---- The place.
+
+module _ (b : List ℕ) (soFar : Counts) (f : AreaFields) where
+  -- what the test of an area that is not the first fails for
+  abbrev LaterWrong : Type 0
+  LaterWrong =
+      ((soFar .areas ≤ f .parent)
+      ⊎ (((f .level ≡ 1 → ⊥) ⊎ (f .parent ≡ 0 → ⊥)) × ((f .level ≡ 2 → ⊥) ⊎ (levelOf b soFar (f .parent) ≡ 1 → ⊥))))
+      ⊎ (flatOf b soFar (f .parent) < f .«bicycle_flat»)
+
+  first-fails : Fails (eqb (f .level) 0 && eqb (f .parent) 0) ((f .level ≡ 0 → ⊥) ⊎ (f .parent ≡ 0 → ⊥))
+  first-fails = both _ _ (other (f .level) 0) (other (f .parent) 0)
+
+  later-fails :
+      Fails
+      (ltb (f .parent) (soFar .areas)
+      && (eqb (f .level) 1 && eqb (f .parent) 0 || eqb (f .level) 2 && eqb (levelOf b soFar (f .parent)) 1)
+      && leb (f .«bicycle_flat») (flatOf b soFar (f .parent)))
+      LaterWrong
+  later-fails =
+      both _ _
+      (both _ _ (not-below (f .parent) (soFar .areas))
+      (either _ _ (both _ _ (other (f .level) 1) (other (f .parent) 0)) (both _ _ (other (f .level) 2) (other (levelOf b soFar (f .parent)) 1))))
+      (above (f .«bicycle_flat») (flatOf b soFar (f .parent)))
+
+  -- by the level, where a region's parent is wrong and a city's is
+  by-level :
+      0 < soFar .areas → (f .level ≡ 1 → f .parent ≡ 0 → ⊥) → (f .level ≡ 2 → f .parent < soFar .areas → levelOf b soFar (f .parent) ≡ 1 → ⊥)
+      → WrongPlace b soFar f
+  by-level some region city =
+      elim (ℕ-discrete (f .level) 0) [
+        | yes is ↦ second-state some is
+        | no not-state ↦
+            elim (ℕ-discrete (f .level) 1) [
+              | yes is ↦ region-parent some is (region is)
+              | no not-region ↦
+                  elim (ℕ-discrete (f .level) 2) [ yes is ↦ city-parent some is (city is) | no not-city ↦ high-level (omega arith) ]
+            ]
+      ]
+
+  later-words : 0 < soFar .areas → LaterWrong → WrongPlace b soFar f
+  later-words some (inl (inl lacking)) = by-level some (λ _ e. omega arith) (λ _ earlier _. omega arith)
+  later-words some (inl (inr (region, city))) =
+      by-level some (λ is zero-parent. ⊎-elim (λ never. never is) (λ never. never zero-parent) region)
+      (λ is _ parent. ⊎-elim (λ never. never is) (λ never. never parent) city)
+  later-words some (inr high) =
+      elim (decLt (f .parent) (soFar .areas)) [
+        | yes earlier ↦ flat-above some earlier high
+        | no lacking ↦ by-level some (λ _ e. omega arith) (λ _ earlier _. omega arith)
+      ]
+
+  words-later : 0 < soFar .areas → WrongPlace b soFar f → LaterWrong
+  words-later some (state-level none never) = absurd (omega arith)
+  words-later some (state-parent none never) = absurd (omega arith)
+  words-later some (second-state _ is) = inl (inr (inl (λ e. omega arith), inl (λ e. omega arith)))
+  words-later some (high-level w) = inl (inr (inl (λ e. omega arith), inl (λ e. omega arith)))
+  words-later some (region-parent _ is never) = inl (inr (inr never, inl (λ e. omega arith)))
+  words-later some (city-parent _ is never) =
+      elim (decLt (f .parent) (soFar .areas)) [
+        | yes earlier ↦ inl (inr (inl (λ e. omega arith), inr (never earlier)))
+        | no lacking ↦ inl (inl (omega arith))
+      ]
+  words-later some (flat-above _ earlier high) = inr high
+
+  first-words : soFar .areas ≡ 0 → (f .level ≡ 0 → ⊥) ⊎ (f .parent ≡ 0 → ⊥) → WrongPlace b soFar f
+  first-words none (inl never) = state-level none never
+  first-words none (inr never) = state-parent none never
+
+  words-first : soFar .areas ≡ 0 → WrongPlace b soFar f → (f .level ≡ 0 → ⊥) ⊎ (f .parent ≡ 0 → ⊥)
+  words-first none (state-level _ never) = inl never
+  words-first none (state-parent _ never) = inr never
+  words-first none (second-state some is) = absurd (omega arith)
+  words-first none (high-level w) = inl (λ e. omega arith)
+  words-first none (region-parent some is never) = absurd (omega arith)
+  words-first none (city-parent some is never) = absurd (omega arith)
+  words-first none (flat-above some earlier high) = absurd (omega arith)
+
+  pub place-fails : placeRight b soFar f ≡ false ↔ WrongPlace b soFar f
+  unfolding placeRight
+  place-fails =
+      elim (ℕ-discrete (soFar .areas) 0) [
+        | yes none ↦
+            rw (eq-eqb (soFar .areas) 0 none) (λ e. first-words none (first-fails .0 e), λ w. first-fails .1 (words-first none w))
+        | no some ↦
+            rw (ne-eqb (soFar .areas) 0 some)
+            (λ e. later-words (omega arith) (later-fails .0 e), λ w. later-fails .1 (words-later (omega arith) w))
+      ]
+
+  -- ---- The whole area.
+
+  abbrev PricesWrong : Type 0
+  PricesWrong =
+      (((((mostBasePrice < f .«base_price») ⊎ (mostPricePerKm < f .«price_per_km»)) ⊎ (f .validity < leastMinutes)) ⊎ (mostMinutes < f .validity))
+      ⊎ (mostPercent < f .surcharge))
+      ⊎ (mostPercent < f .reduction)
+
+  prices-fail : Fails (pricesRight f) PricesWrong
+  prices-fail =
+      both _ _
+      (both _ _
+      (both _ _
+      (both _ _ (both _ _ (above (f .«base_price») mostBasePrice) (above (f .«price_per_km») mostPricePerKm)) (above leastMinutes (f .validity)))
+      (above (f .validity) mostMinutes))
+      (above (f .surcharge) mostPercent))
+      (above (f .reduction) mostPercent)
+
+  abbrev CapsWrong : Type 0
+  CapsWrong = (WrongTripCap f ⊎ (TooMuch (f .«day_cap») × (f .«day_cap» ≡ noDayCap → ⊥))) ⊎ TooMuch (f .«bicycle_flat»)
+
+  caps-fail : Fails (capsRight f) CapsWrong
+  unfolding capsRight
+  caps-fail =
+      both _ _
+      (both _ _ (cap-wrong f) (either _ _ (above (f .«day_cap») mostMoney) (other (f .«day_cap») noDayCap)))
+      (above (f .«bicycle_flat») mostMoney)
+
+  area-fails : Fails (areaRight b soFar f) ((PricesWrong ⊎ CapsWrong) ⊎ WrongPlace b soFar f)
+  area-fails = both _ _ (both _ _ prices-fail caps-fail) place-fails
+
+  prices-words : PricesWrong → WrongArea b soFar f
+  prices-words (inl (inl (inl (inl (inl w))))) = high-base w
+  prices-words (inl (inl (inl (inl (inr w))))) = high-rate w
+  prices-words (inl (inl (inl (inr w)))) = short-validity w
+  prices-words (inl (inl (inr w))) = long-validity w
+  prices-words (inl (inr w)) = high-surcharge w
+  prices-words (inr w) = high-reduction w
+
+  caps-words : CapsWrong → WrongArea b soFar f
+  caps-words (inl (inl w)) = wrong-trip-cap w
+  caps-words (inl (inr (much, some))) = high-day-cap much some
+  caps-words (inr w) = high-flat w
+
+  words-area : WrongArea b soFar f → (PricesWrong ⊎ CapsWrong) ⊎ WrongPlace b soFar f
+  words-area (high-base w) = inl (inl (inl (inl (inl (inl (inl w))))))
+  words-area (high-rate w) = inl (inl (inl (inl (inl (inl (inr w))))))
+  words-area (short-validity w) = inl (inl (inl (inl (inl (inr w)))))
+  words-area (long-validity w) = inl (inl (inl (inl (inr w))))
+  words-area (high-surcharge w) = inl (inl (inl (inr w)))
+  words-area (high-reduction w) = inl (inl (inr w))
+  words-area (wrong-trip-cap w) = inl (inr (inl (inl w)))
+  words-area (high-day-cap much some) = inl (inr (inl (inr (much, some))))
+  words-area (high-flat w) = inl (inr (inr w))
+  words-area (wrong-place w) = inr w
+
+  -- An area's values are refused exactly when one is wrong.
+  pub area-wrong : areaRight b soFar f ≡ false ↔ WrongArea b soFar f
+  area-wrong = (λ e. ⊎-elim (⊎-elim prices-words caps-words) wrong-place (area-fails .0 e), λ w. area-fails .1 (words-area w))
+
+-- And so are a stop's.
+pub stop-wrong : (f : StopFields) (areas : ℕ) → stopRight f areas ≡ false ↔ WrongStop f areas
+stop-wrong f areas = (λ e. to (fails .0 e), λ w. fails .1 (back w))
+  where
+    fails : Fails (stopRight f areas) (((areas ≤ f .area) ⊎ (mostMetres < f .x)) ⊎ (mostMetres < f .y))
+    fails = both _ _ (both _ _ (not-below (f .area) areas) (above (f .x) mostMetres)) (above (f .y) mostMetres)
+
+    to : ((areas ≤ f .area) ⊎ (mostMetres < f .x)) ⊎ (mostMetres < f .y) → WrongStop f areas
+    to (inl (inl w)) = lacking-area w
+    to (inl (inr w)) = far-x w
+    to (inr w) = far-y w
+
+    back : WrongStop f areas → ((areas ≤ f .area) ⊎ (mostMetres < f .x)) ⊎ (mostMetres < f .y)
+    back (lacking-area w) = inl (inl w)
+    back (far-x w) = inl (inr w)
+    back (far-y w) = inr w

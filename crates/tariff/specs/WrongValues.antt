@@ -1,0 +1,74 @@
+-- Rules, section 4: the ways in which a record's value is outside its range or breaks a rule, each in the rules' words.
+use Prim.Native.Nat.{ℕ, _≤_, _<_}
+use mathlib.Core.Path.{_≡_}
+use mathlib.Core.List.{List, [], _∷_}
+use Rattle.tariff.specs.declared.Counts.{Counts}
+use Rattle.tariff.specs.declared.fields.AreaFields.{AreaFields}
+use Rattle.tariff.specs.declared.fields.StopFields.{StopFields}
+use Rattle.tariff.specs.Rules.{
+  mostBasePrice,
+  mostPricePerKm,
+  leastMinutes,
+  mostMinutes,
+  mostPercent,
+  mostMoney,
+  noDayCap,
+  mostMetres,
+  levelOf,
+  flatOf,
+}
+
+-- one of some numbers is such
+pub data OneOf (Such : ℕ → Type 0) : List ℕ → Type 0 where
+  here : {n : ℕ} {more : List ℕ} → Such n → OneOf Such (n ∷ more)
+  later : {n : ℕ} {more : List ℕ} → OneOf Such more → OneOf Such (n ∷ more)
+
+abbrev pub NotZero : ℕ → Type 0
+NotZero n = n ≡ 0 → ⊥
+
+-- money is 0..60,000
+abbrev pub TooMuch : ℕ → Type 0
+TooMuch n = mostMoney < n
+
+-- trip-cap sort 0..2. Sort 0: five zeros. Sort 1: amount, minutes 30..1,440, three zeros. Sort 2: amounts for levels K, A, B, C, D
+pub data WrongTripCap (f : AreaFields) : Type 0 where
+  no-sort : 2 < f .sort → WrongTripCap f
+  no-cap-zeros : f .sort ≡ 0 → OneOf NotZero (f .cap1 ∷ f .cap2 ∷ f .cap3 ∷ f .cap4 ∷ f .cap5 ∷ []) → WrongTripCap f
+  flat-amount : f .sort ≡ 1 → TooMuch (f .cap1) → WrongTripCap f
+  flat-short : f .sort ≡ 1 → f .cap2 < leastMinutes → WrongTripCap f
+  flat-long : f .sort ≡ 1 → mostMinutes < f .cap2 → WrongTripCap f
+  flat-zeros : f .sort ≡ 1 → OneOf NotZero (f .cap3 ∷ f .cap4 ∷ f .cap5 ∷ []) → WrongTripCap f
+  level-amount : f .sort ≡ 2 → OneOf TooMuch (f .cap1 ∷ f .cap2 ∷ f .cap3 ∷ f .cap4 ∷ f .cap5 ∷ []) → WrongTripCap f
+
+-- the next area after those so far. Area 0 alone has level 0, parent 0; level 0..2; a region's parent is 0; a city's is an earlier region;
+-- no area's bicycle flat exceeds its parent's
+pub data WrongPlace (b : List ℕ) (soFar : Counts) (f : AreaFields) : Type 0 where
+  state-level : soFar .areas ≡ 0 → (f .level ≡ 0 → ⊥) → WrongPlace b soFar f
+  state-parent : soFar .areas ≡ 0 → (f .parent ≡ 0 → ⊥) → WrongPlace b soFar f
+  second-state : 0 < soFar .areas → f .level ≡ 0 → WrongPlace b soFar f
+  high-level : 2 < f .level → WrongPlace b soFar f
+  region-parent : 0 < soFar .areas → f .level ≡ 1 → (f .parent ≡ 0 → ⊥) → WrongPlace b soFar f
+  city-parent :
+      0 < soFar .areas → f .level ≡ 2 → (f .parent < soFar .areas → levelOf b soFar (f .parent) ≡ 1 → ⊥) → WrongPlace b soFar f
+  flat-above :
+      0 < soFar .areas → f .parent < soFar .areas → flatOf b soFar (f .parent) < f .«bicycle_flat» → WrongPlace b soFar f
+
+-- an area: base 0..10,000; km price 0..1,000; validity 30..1,440; percentages 0..100; its trip cap; day cap 0..60,000, or 65,535, which
+-- means none; bicycle flat 0..60,000; its place among the areas
+pub data WrongArea (b : List ℕ) (soFar : Counts) (f : AreaFields) : Type 0 where
+  high-base : mostBasePrice < f .«base_price» → WrongArea b soFar f
+  high-rate : mostPricePerKm < f .«price_per_km» → WrongArea b soFar f
+  short-validity : f .validity < leastMinutes → WrongArea b soFar f
+  long-validity : mostMinutes < f .validity → WrongArea b soFar f
+  high-surcharge : mostPercent < f .surcharge → WrongArea b soFar f
+  high-reduction : mostPercent < f .reduction → WrongArea b soFar f
+  wrong-trip-cap : WrongTripCap f → WrongArea b soFar f
+  high-day-cap : TooMuch (f .«day_cap») → (f .«day_cap» ≡ noDayCap → ⊥) → WrongArea b soFar f
+  high-flat : TooMuch (f .«bicycle_flat») → WrongArea b soFar f
+  wrong-place : WrongPlace b soFar f → WrongArea b soFar f
+
+-- a stop's area exists; x and y are 0..1,000,000
+pub data WrongStop (f : StopFields) (areas : ℕ) : Type 0 where
+  lacking-area : areas ≤ f .area → WrongStop f areas
+  far-x : mostMetres < f .x → WrongStop f areas
+  far-y : mostMetres < f .y → WrongStop f areas
