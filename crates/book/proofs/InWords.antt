@@ -1,7 +1,7 @@
 -- The charge and a bicycle's new covering area in the rules' words: what settling computes is what the words say, whatever the sums are;
 -- and the words say one charge and one area alone.
 -- Assumes nothing.
-use Prim.Native.Nat.{ℕ, _+_, _-_, _≤_, _<_}
+use Prim.Native.Nat.{ℕ, _-_, _≤_, _<_}
 use native.Mathlib.Nat.{le-antisymm}
 use native.Mathlib.Omega.{arith}
 use native.Mathlib.Decide.{ℕ-discrete, decLt}
@@ -28,7 +28,7 @@ use Rattle.book.specs.Words.{secondSum, allSum}
 use Rattle.book.specs.Caps.{capsHere, treeOf}
 use Rattle.book.specs.Charging.{isChild, riderCharge, newCover, bicycleCharge}
 use Rattle.book.specs.Contracts.{chargeBy}
-use Rattle.book.specs.InWords.{priceFor, LeftByCap, second-class, all-classes, ChargeSays, ContainsBoth, CoverSays, BicycleSays}
+use Rattle.book.specs.InWords.{priceFor, LeftByCap, second-class, all-classes, ChargeSays, CoverSays, BicycleSays}
 use Rattle.book.proofs.Trees.{is-tree, lies-within}
 use Rattle.book.proofs.ChargeLaws.{charge-by}
 

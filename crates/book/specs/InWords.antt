@@ -35,7 +35,7 @@ pub data LeftByCap (tariff : List ℕ) (counts : Counts) (w : List ℕ) (ride : 
       → allCap (areaAt tariff counts area) (isChild rider) ≡ UpTo cap → left ≡ cap .0 - allSum w rider area
       → LeftByCap tariff counts w ride rider left
 
--- the charge is the smallest of the price and what each of these caps has left: it is none more than any of them, and it is one of them
+-- the charge is the smallest of the price and what each of these caps has left: it is no more than any of them, and it is one of them
 pub record ChargeSays (tariff : List ℕ) (counts : Counts) (w : List ℕ) (ride : Ride) (rider charge : ℕ) : Type 0 where
   pub at-most-price : charge ≤ priceFor tariff counts ride rider
   pub at-most-left : (left : ℕ) → LeftByCap tariff counts w ride rider left → charge ≤ left

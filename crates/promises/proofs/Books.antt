@@ -9,7 +9,7 @@ use mathlib.Core.Path.{_≡_, refl, sym, ap, subst, _∙_}
 use mathlib.Core.Bool.{Bool, true, false, cond, _&&_, false≢true}
 use mathlib.Core.List.{List, [], _∷_}
 use borrow.Author.Tests.{eqb-true, eq-eqb}
-use lib.ListN.{length, getD}
+use lib.ListN.{length}
 use lib.Dec.{eqb}
 use Rattle.wire.specs.Number.{Bytes}
 use Rattle.wire.proofs.Tests.{both-left, both-right}
@@ -22,18 +22,17 @@ use Rattle.trip.specs.Trips.{tripOf}
 use Rattle.trip.proofs.Clear.{good-fields}
 use Rattle.fare.specs.declared.Ride.{Ride}
 use Rattle.book.specs.declared.Window.{Window}
-use Rattle.book.specs.Words.{bookWords, word, tripsOf, secondSum, allSum, coverWord}
+use Rattle.book.specs.Words.{word, secondSum, allSum, coverWord}
 use Rattle.book.specs.Sound.{sound}
 use Rattle.book.specs.Windows.{inWindow}
 use Rattle.book.specs.Caps.{treeOf}
-use Rattle.book.specs.Charging.{isChild, carries, placeOf, newCover, chargesOf}
+use Rattle.book.specs.Charging.{carries, newCover, chargesOf}
 use Rattle.book.specs.Contracts.{Rideable}
 use Rattle.book.specs.Posting.{posted}
-use Rattle.book.specs.InWords.{ChargeSays, CoverSays}
+use Rattle.book.specs.InWords.{ChargeSays}
 use Rattle.book.proofs.Trees.{lies-within}
 use Rattle.book.proofs.SoundLaws.{sound-has}
 use Rattle.book.proofs.ChargeLaws.{cover-known}
-use Rattle.book.proofs.SumLaws.{sumOf}
 use Rattle.book.proofs.PostedLaws.{posted-size, posted-trips, posted-opening, posted-out, posted-sum, posted-cover, posted-uncovered, rider-stands}
 use Rattle.book.proofs.SoundAgain.{WindowRight, window-right, window-room, posted-sound}
 use Rattle.book.proofs.InWords.{charge-says, charge-one, cover-says, cover-one}
