@@ -1,15 +1,18 @@
 /*
- * milecopper.h: prices one trip, charges it against an account's book and writes a charge record.
+ * milecopper.h: prices one trip, charges it against an account's book and writes its charge records: one, or two where
+ * the trip went out and back.
  *
  * For C99 and later and C++11 and later. Link with the static library `milecopper` (libmilecopper.a).
  *
  *     static uint8_t book[MILECOPPER_BOOK_BYTES];            // all zero: a fresh book, one for each account
- *     uint8_t statement[MILECOPPER_LARGEST_RECORD_BYTES];
+ *     uint8_t statement[MILECOPPER_LARGEST_STATEMENT_BYTES];
  *     uint64_t answer = milecopper_settle(tariff, tariff_len, book, sizeof book,
  *                                         trip, trip_len, statement, sizeof statement);
- *     if (milecopper_accepted(answer))
- *         printf("%lu cents\n", (unsigned long)milecopper_record_total(statement));
- *     else
+ *     const uint8_t *end = statement + milecopper_bytes_written(answer);
+ *     const uint8_t *record;
+ *     for (record = statement; record < end; record += milecopper_record_bytes(record))
+ *         printf("%lu cents\n", (unsigned long)milecopper_record_total(record));
+ *     if (!milecopper_accepted(answer))
  *         puts(milecopper_refusal_text(milecopper_refusal_of(answer)));
  *
  * All numbers in a tariff, a book, a trip and a charge record are little-endian on every machine, so these bytes can
@@ -32,7 +35,8 @@
  *   - It allocates nothing and keeps nothing: no memory, no pointer, no state from one call to the next. All four
  *     slices belong to the caller before, during and after the call. It reads no clock and no file and prints nothing.
  *   - A trip that is refused changes no byte of the book or the statement. One that is accepted replaces the book and
- *     writes the charge record at the start of the statement; the statement's further bytes stay as they were.
+ *     writes its charge records one after another at the start of the statement; the statement's further bytes stay as
+ *     they were. The parts of a broken trip are accepted together or refused together.
  */
 #ifndef MILECOPPER_H
 #define MILECOPPER_H
@@ -48,6 +52,10 @@
 #define MILECOPPER_LARGEST_RECORD_BYTES 137
 #define MILECOPPER_MOST_CHARGES 31
 
+/* A trip is charged in one part or, where it is broken, in two, each with a charge record of its own. */
+#define MILECOPPER_MOST_PARTS 2
+#define MILECOPPER_LARGEST_STATEMENT_BYTES 274
+
 /* Whom and what an account holder may take along on one trip. */
 #define MILECOPPER_MOST_ADULTS 10
 #define MILECOPPER_MOST_CHILDREN 10
@@ -58,12 +66,17 @@
 #define MILECOPPER_MOST_STOPS_IN_A_TRIP 32
 #define MILECOPPER_LARGEST_TRIP_BYTES 86
 
-/* What a tariff may hold, and its length with the most of both. */
+/* What a tariff may hold, and its length with the most of each: a factor record for each area, where none is a city. */
 #define MILECOPPER_MOST_AREAS 32
 #define MILECOPPER_MOST_STOPS 1000
-#define MILECOPPER_LARGEST_TARIFF_BYTES 13928
+#define MILECOPPER_LARGEST_TARIFF_BYTES 14120
 
-/* A window is open for so many minutes, and takes so many trips. No trip may last longer than a window. */
+/* The factor of a factor record. */
+#define MILECOPPER_SMALLEST_FACTOR 1
+#define MILECOPPER_LARGEST_FACTOR 9
+
+/* A window is open for so many minutes, and takes so many trips; a broken one counts as two. No trip may last longer
+ * than a window. */
 #define MILECOPPER_WINDOW_MINUTES 1440
 #define MILECOPPER_MOST_TRIPS_IN_A_WINDOW 256
 
@@ -71,7 +84,7 @@
 enum milecopper_refusal {
     MILECOPPER_NOT_REFUSED = 0,
     MILECOPPER_TARIFF_BROKEN = 1,     /* tariff: a record's frame is broken */
-    MILECOPPER_TARIFF_MISSHAPEN = 2,  /* tariff: kind, length, order or number of records wrong; no area at all */
+    MILECOPPER_TARIFF_MISSHAPEN = 2,  /* tariff: kind, length, order or number of records wrong, or one is missing */
     MILECOPPER_TARIFF_VALUE = 3,      /* tariff: a value outside its range */
     MILECOPPER_BOOK_UNSOUND = 4,      /* book: wrong length, or words that cannot stand together */
     MILECOPPER_TRIP_MISSHAPEN = 5,    /* trip: frame, kind or length wrong, or bytes after the record */
@@ -80,8 +93,8 @@ enum milecopper_refusal {
     MILECOPPER_NO_SUCH_TIME = 8,      /* trip: no date of 2000 to 2099, or no clock time */
     MILECOPPER_TRIP_BACKWARD = 9,     /* trip: check-out before check-in, or over 1,440 minutes after it */
     MILECOPPER_BEFORE_LAST_TRIP = 10, /* trip: check-in before the book's last check-out */
-    MILECOPPER_WINDOW_FULL = 11,      /* trip: would be the 257th of its window */
-    MILECOPPER_NO_ROOM = 12           /* statement shorter than the charge record */
+    MILECOPPER_WINDOW_FULL = 11,      /* trip: it, or its second part, would be the 257th of its window */
+    MILECOPPER_NO_ROOM = 12           /* statement shorter than the charge records */
 };
 
 #ifdef __cplusplus
@@ -92,8 +105,8 @@ extern "C" {
  * Settles one trip. The duties of the caller stand at the top of this file.
  *
  * Accepted: the number of bytes written to the statement, MILECOPPER_SMALLEST_RECORD_BYTES to
- * MILECOPPER_LARGEST_RECORD_BYTES. Refused: the refusal's number times 2^32, plus the place. The functions below take
- * the answer apart.
+ * MILECOPPER_LARGEST_STATEMENT_BYTES: those of one charge record, or of two. Refused: the refusal's number times 2^32,
+ * plus the place. The functions below take the answer apart.
  */
 uint64_t milecopper_settle(const uint8_t *tariff, size_t tariff_len,
                            uint8_t *book, size_t book_len,
@@ -115,7 +128,7 @@ static inline int milecopper_accepted(uint64_t answer)
     return (answer >> 32) == 0;
 }
 
-/* The length of the charge record at the start of the statement; 0 if the trip was refused. */
+/* The length of the charge records at the start of the statement; 0 if the trip was refused. */
 static inline size_t milecopper_bytes_written(uint64_t answer)
 {
     return milecopper_accepted(answer) ? (size_t)answer : 0;
@@ -163,7 +176,7 @@ static inline const char *milecopper_refusal_text(enum milecopper_refusal refusa
     case MILECOPPER_BEFORE_LAST_TRIP:
         return "The trip starts before this account's last trip ended.";
     case MILECOPPER_WINDOW_FULL:
-        return "This account already has 256 trips within the same 24 hours.";
+        return "With this trip the account would have more than 256 trips within the same 24 hours.";
     case MILECOPPER_NO_ROOM:
         return "There is not enough room to write down what the trip costs.";
     }
@@ -172,8 +185,10 @@ static inline const char *milecopper_refusal_text(enum milecopper_refusal refusa
 
 /* ---- The charge record ----
  *
- * `record` is the start of a statement into which an accepted trip was settled. The charges stand in this order: the
- * account holder, the adults, the children, the bicycles, each as many as the trip carried. Money is in cents.
+ * `record` is the start of a statement into which an accepted trip was settled. Where the trip was broken, the record
+ * of its second part stands right behind that of the first, at `record + milecopper_record_bytes(record)`; the answer
+ * says how many bytes there are in all. The charges stand in this order: the account holder, the adults, the children,
+ * the bicycles, each as many as the trip carried. Money is in cents.
  */
 
 /* The little-endian number of `width` bytes, at most 4, that starts at `bytes`. */
@@ -187,7 +202,8 @@ static inline uint32_t milecopper_number(const uint8_t *bytes, size_t width)
     return number;
 }
 
-/* The length of the record of a trip that carries so many; the statement needs as many bytes. */
+/* The length of each record of a trip that carries so many. The statement needs as many bytes, and twice as many where
+ * the trip is broken, which cannot be with two stops. */
 static inline size_t milecopper_record_bytes_for(unsigned adults, unsigned children, unsigned bicycles)
 {
     return 17 + 4 * ((size_t)adults + children + bicycles);
@@ -199,25 +215,25 @@ static inline size_t milecopper_record_bytes(const uint8_t *record)
     return 2 + (size_t)milecopper_number(record, 2);
 }
 
-/* The minute at which the trip's window opened. Minute 0 is 2000-01-01 00:00; every day has 1,440 minutes. */
+/* The minute at which the trip's window opened, the same for both parts. Minute 0 is 2000-01-01 00:00; every day has 1,440 minutes. */
 static inline uint32_t milecopper_record_opening(const uint8_t *record)
 {
     return milecopper_number(record + 4, 4);
 }
 
-/* The number of the trip's area in the tariff. */
+/* The number of the part's area in the tariff. */
 static inline unsigned milecopper_record_area(const uint8_t *record)
 {
     return record[8];
 }
 
-/* The started kilometres between the first stop and the last. */
+/* The started kilometres between the part's first stop and its last. */
 static inline unsigned milecopper_record_km(const uint8_t *record)
 {
     return (unsigned)milecopper_number(record + 9, 2);
 }
 
-/* The minutes from check-in to check-out. */
+/* The minutes from check-in to check-out; 0 for a second part. */
 static inline unsigned milecopper_record_minutes(const uint8_t *record)
 {
     return (unsigned)milecopper_number(record + 11, 2);
@@ -235,7 +251,7 @@ static inline uint32_t milecopper_record_charge(const uint8_t *record, unsigned 
     return milecopper_number(record + 13 + 4 * (size_t)i, 4);
 }
 
-/* The sum of all charges in cents. */
+/* The sum of the record's charges in cents. */
 static inline uint32_t milecopper_record_total(const uint8_t *record)
 {
     uint32_t total = 0;
@@ -243,6 +259,17 @@ static inline uint32_t milecopper_record_total(const uint8_t *record)
     unsigned i;
     for (i = 0; i < charges; i += 1)
         total += milecopper_record_charge(record, i);
+    return total;
+}
+
+/* The sum of all charges of the trip in cents: of one record, or of two. `answer` is what settling it gave. */
+static inline uint32_t milecopper_statement_total(const uint8_t *statement, uint64_t answer)
+{
+    const uint8_t *end = statement + milecopper_bytes_written(answer);
+    const uint8_t *record;
+    uint32_t total = 0;
+    for (record = statement; record < end; record += milecopper_record_bytes(record))
+        total += milecopper_record_total(record);
     return total;
 }
 

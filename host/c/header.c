@@ -22,7 +22,10 @@ static void sizes(void)
     check(milecopper_record_bytes_for(0, 0, 0) == MILECOPPER_SMALLEST_RECORD_BYTES, "the smallest record");
     check(milecopper_record_bytes_for(10, 10, 10) == MILECOPPER_LARGEST_RECORD_BYTES, "the largest record");
     check(MILECOPPER_LARGEST_TRIP_BYTES == 4 + 18 + 2 * MILECOPPER_MOST_STOPS_IN_A_TRIP, "the largest trip");
-    check(MILECOPPER_LARGEST_TARIFF_BYTES == 29 * MILECOPPER_MOST_AREAS + 13 * MILECOPPER_MOST_STOPS, "the largest tariff");
+    check(MILECOPPER_LARGEST_STATEMENT_BYTES == MILECOPPER_MOST_PARTS * MILECOPPER_LARGEST_RECORD_BYTES,
+          "the largest statement");
+    check(MILECOPPER_LARGEST_TARIFF_BYTES == (29 + 6) * MILECOPPER_MOST_AREAS + 13 * MILECOPPER_MOST_STOPS,
+          "the largest tariff");
 }
 
 static void answers(void)
@@ -58,7 +61,28 @@ static void records(void)
     check(milecopper_record_charges(record) == 2, "the number of charges");
     check(milecopper_record_charge(record, 0) == 258 && milecopper_record_charge(record, 1) == 70000, "the charges");
     check(milecopper_record_total(record) == 70258, "their sum");
+    check(milecopper_statement_total(record, sizeof record) == 70258, "the sum of a statement with one record");
     check(milecopper_number((const uint8_t *)"\xff\xff\xff\xff", 4) == 0xFFFFFFFFu, "the largest number");
+}
+
+/* Two records behind each other, walked as the header's example does. */
+static void two_records(void)
+{
+    static const uint8_t statement[] = {15, 0, 4, 0, 0, 0, 0, 0, 6, 21, 0, 70, 0, 14, 3, 0, 0,
+                                        15, 0, 4, 0, 0, 0, 0, 0, 6, 20, 0, 0, 0, 1, 3, 0, 0};
+    uint64_t answer = sizeof statement;
+    const uint8_t *end = statement + milecopper_bytes_written(answer);
+    const uint8_t *record;
+    int seen = 0;
+    for (record = statement; record < end; record += milecopper_record_bytes(record)) {
+        seen += 1;
+        check(milecopper_record_charges(record) == 1, "a record's charges among two");
+        check(milecopper_record_minutes(record) == (seen == 1 ? 70u : 0u), "a part's minutes");
+        check(milecopper_record_total(record) == (seen == 1 ? 782u : 769u), "a part's sum");
+    }
+    check(seen == MILECOPPER_MOST_PARTS && record == end, "two records");
+    check(milecopper_statement_total(statement, answer) == 1551, "the sum of both");
+    check(milecopper_statement_total(statement, (uint64_t)12 << 32) == 0, "the sum of a refusal");
 }
 
 int main(void)
@@ -67,5 +91,6 @@ int main(void)
     answers();
     texts();
     records();
+    two_records();
     return faults == 0 ? 0 : 1;
 }

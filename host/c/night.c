@@ -76,19 +76,19 @@ static void print_charges(const uint8_t *record, unsigned from, unsigned many, c
     }
 }
 
-static void print_accepted(struct night *night, unsigned number, const uint8_t *trip, const uint8_t *record)
+/* What a part of a trip cost; `part` is 0 where the trip is in one. */
+static void print_part(unsigned number, unsigned part, const uint8_t *trip, const uint8_t *record)
 {
     unsigned adults = trip[TRIP_ADULTS];
     unsigned children = trip[TRIP_CHILDREN];
     unsigned bicycles = trip[TRIP_BICYCLES];
-    uint32_t total = milecopper_record_total(record);
-    uint32_t opening = milecopper_record_opening(record);
 
-    if (night->accepted == 0 || opening != night->opening)
-        printf("A window opens at minute %lu.\n", (unsigned long)opening);
-    printf("Trip %u, %u km and %u minutes in area %u, costs ", number, milecopper_record_km(record),
-           milecopper_record_minutes(record), milecopper_record_area(record));
-    print_money(total);
+    printf("Trip %u, ", number);
+    if (part > 0)
+        printf("part %u, ", part);
+    printf("%u km and %u minutes in area %u, costs ", milecopper_record_km(record), milecopper_record_minutes(record),
+           milecopper_record_area(record));
+    print_money(milecopper_record_total(record));
     if (milecopper_record_charges(record) > 1) {
         printf(": ");
         print_money(milecopper_record_charge(record, 0));
@@ -98,9 +98,24 @@ static void print_accepted(struct night *night, unsigned number, const uint8_t *
         print_charges(record, 1 + adults + children, bicycles, "bicycle");
     }
     printf(".\n");
+}
+
+static void print_accepted(struct night *night, unsigned number, const uint8_t *trip, uint64_t answer)
+{
+    const uint8_t *record = night->statement.start;
+    const uint8_t *end = record + milecopper_bytes_written(answer);
+    uint32_t opening = milecopper_record_opening(record);
+    unsigned part = record + milecopper_record_bytes(record) < end ? 1 : 0;
+
+    if (night->accepted == 0 || opening != night->opening)
+        printf("A window opens at minute %lu.\n", (unsigned long)opening);
+    for (; record < end; record += milecopper_record_bytes(record)) {
+        print_part(number, part, trip, record);
+        part += 1;
+    }
     night->opening = opening;
     night->accepted += 1;
-    night->cents += total;
+    night->cents += milecopper_statement_total(night->statement.start, answer);
 }
 
 static void print_refused(struct night *night, unsigned number, uint64_t answer)
@@ -121,7 +136,7 @@ static void settle(struct night *night, unsigned number, const uint8_t *trip, si
                                         trip, length,
                                         night->statement.start, night->statement.length);
     if (milecopper_accepted(answer))
-        print_accepted(night, number, trip, night->statement.start);
+        print_accepted(night, number, trip, answer);
     else
         print_refused(night, number, answer);
 }
@@ -159,7 +174,7 @@ int main(int argc, char **argv)
     }
     night.tariff = bytes_of(argv[1]);
     night.book = zeros(MILECOPPER_BOOK_BYTES); /* a fresh book */
-    night.statement = zeros(MILECOPPER_LARGEST_RECORD_BYTES);
+    night.statement = zeros(MILECOPPER_LARGEST_STATEMENT_BYTES);
     roll = bytes_of(argv[2]);
     settle_roll(&night, roll);
     free(night.tariff.start);

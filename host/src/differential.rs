@@ -1,10 +1,10 @@
 //! The differential test: the library and the model settle the same cases, and must agree in the answer, in every byte
 //! of the book and in every byte of the statement.
 //!
-//! A run has parts, which can be repeated one by one. Part 0 of a seed is a sweep ([`sweeps`]): a good case and all that
-//! lie one step away from it. Every other part is a chain ([`chains`]): trips settled one after another on one book, with
-//! damaged cases in between ([`damage`]). What settles on the library's side gets slices beside protected pages
-//! ([`guarded`]), so that a byte touched outside them is seen.
+//! A run has parts, which can be repeated one by one. Part 0 of a seed is a sweep ([`sweeps`]): two good cases, one with a
+//! broken trip, and all that lie one step away from them. Every other part is a chain ([`chains`]): trips settled one
+//! after another on one book, with damaged cases in between ([`damage`]). What settles on the library's side gets slices
+//! beside protected pages ([`guarded`]), so that a byte touched outside them is seen.
 
 pub mod books;
 mod cases;

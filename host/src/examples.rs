@@ -1,6 +1,6 @@
 //! Examples, run on anything that settles: samples/vectors.txt and samples/examples.txt, whose form
 //! [`crate::maker::cases`] tells. What is printed comes of settling alone, and each settling is looked at besides: a
-//! refusal leaves book and statement as they are, and no byte behind a charge record is written.
+//! refusal leaves book and statement as they are, and no byte behind the charge records is written.
 
 use crate::answer::Answer;
 use crate::differential::Settle;
@@ -8,6 +8,7 @@ use crate::maker::bytes_of;
 use crate::maker::cases::{sections_of, Content, Section, Sort};
 use crate::model::book::BOOK_BYTES;
 use crate::model::charge::ChargeRecord;
+use crate::model::roll::LARGEST_STATEMENT;
 use crate::numbers::number;
 
 /// The files, by name.
@@ -18,9 +19,6 @@ pub const FILES: [(&str, &str); 2] = [
 
 /// What settles a roll: tariff, roll, and the text that is printed.
 pub type SettleRoll = fn(&[u8], &[u8]) -> String;
-
-/// Room for the largest charge record.
-const LARGEST_RECORD: usize = 137;
 
 /// Runs a file, its rolls only where something settles them. The answer is how many were offered; an error tells the
 /// first of which something else came than was expected.
@@ -58,7 +56,7 @@ impl Desk {
             }
             self.line = variant.line;
             let printed = self.offer(section.sort, &variant.content);
-            if !ends(printed.trim_end(), &variant.end) {
+            if !ends(&printed.trim_end().replace('\n', " / "), &variant.end) {
                 return Err(format!("line {}: printed was\n{printed}\nand not .. {}", variant.line, variant.end));
             }
             if !variant.leaves_a_trace {
@@ -79,13 +77,10 @@ impl Desk {
             Sort::Price => self.price_line(bytes),
             Sort::Settle => {
                 let mut book = self.book.clone();
-                let settled = self.settled(&self.tariff, &mut book, bytes, content.room.unwrap_or(LARGEST_RECORD));
+                let settled = self.settled(&self.tariff, &mut book, bytes, content.room.unwrap_or(LARGEST_STATEMENT));
                 self.book = book;
                 match settled {
-                    Ok(ChargeRecord { opening, area, km, minutes, charges }) => {
-                        let cents: Vec<String> = charges.iter().map(u64::to_string).collect();
-                        format!("open {opening} area {area} km {km} min {minutes} cents {}", cents.join(" "))
-                    }
+                    Ok(records) => records.iter().map(record_line).collect::<Vec<String>>().join("\n"),
                     Err((number, place)) => format!("refused {number} at {place}"),
                 }
             }
@@ -109,17 +104,23 @@ impl Desk {
         }
     }
 
-    /// The charge record, or the refusal's number and place. What has to stay is looked at.
-    fn settled(&self, tariff: &[u8], book: &mut [u8], trip: &[u8], room: usize) -> Result<ChargeRecord, (u32, u32)> {
+    /// The charge records, or the refusal's number and place. What has to stay is looked at.
+    fn settled(
+        &self,
+        tariff: &[u8],
+        book: &mut [u8],
+        trip: &[u8],
+        room: usize,
+    ) -> Result<Vec<ChargeRecord>, (u32, u32)> {
         let blank: Vec<u8> = (0..room).map(|place| 0x5b ^ place as u8).collect();
         let (before, mut statement) = (book.to_vec(), blank.clone());
         let number = (self.settle)(tariff, book, trip, &mut statement);
         let line = self.line;
         match Answer::of(number).unwrap_or_else(|| panic!("line {line}: {number} was answered, which is no answer")) {
             Answer::Accepted { bytes } => {
-                let (record, behind) = statement.split_at(bytes as usize);
-                assert_eq!(behind, &blank[bytes as usize..], "line {line}: a byte behind the record was written");
-                Ok(ChargeRecord::read(record).expect("a charge record was written"))
+                let (records, behind) = statement.split_at(bytes as usize);
+                assert_eq!(behind, &blank[bytes as usize..], "line {line}: a byte behind the records was written");
+                Ok(ChargeRecord::read_all(records).expect("charge records were written"))
             }
             Answer::Refused { refusal, place } => {
                 assert!(book == before, "line {line}: refusal {} changed the book", refusal as u32);
@@ -148,7 +149,7 @@ impl Desk {
         }
     }
 
-    /// The price is what is charged on a fresh book where no area has a day cap.
+    /// The price is what is charged on a fresh book where no area has a day cap; a line for each part.
     fn price_line(&self, trip: &[u8]) -> String {
         match self.fault_of(&[0; BOOK_BYTES], trip) {
             1..=3 => return "no tariff".to_string(),
@@ -161,10 +162,18 @@ impl Desk {
         }
         let mut with_a_child = trip.to_vec();
         with_a_child[18..21].copy_from_slice(&[0, 1, 0]);
-        let settled = self.settled(&tariff, &mut [0; BOOK_BYTES], &with_a_child, LARGEST_RECORD);
-        let ChargeRecord { area, km, minutes, charges, .. } = settled.expect("the trip is no refusal");
-        format!("area {area} km {km} min {minutes} price {} child {}", charges[0], charges[1])
+        let settled = self.settled(&tariff, &mut [0; BOOK_BYTES], &with_a_child, LARGEST_STATEMENT);
+        let lines = settled.expect("the trip is no refusal").into_iter().map(|record| {
+            let ChargeRecord { area, km, minutes, charges, .. } = record;
+            format!("area {area} km {km} min {minutes} price {} child {}", charges[0], charges[1])
+        });
+        lines.collect::<Vec<String>>().join("\n")
     }
+}
+
+fn record_line(ChargeRecord { opening, area, km, minutes, charges }: &ChargeRecord) -> String {
+    let cents: Vec<String> = charges.iter().map(u64::to_string).collect();
+    format!("open {opening} area {area} km {km} min {minutes} cents {}", cents.join(" "))
 }
 
 /// A book of one trip whose first bicycle's covering area is this one, counted from 1.
@@ -184,6 +193,6 @@ fn trip_between(stop: usize) -> Vec<u8> {
 fn ends(printed: &str, end: &str) -> bool {
     match end {
         "accepted" => !printed.contains("refused"),
-        _ => printed.strip_suffix(end).is_some_and(|before| before.is_empty() || before.ends_with([' ', '\n'])),
+        _ => printed.strip_suffix(end).is_some_and(|before| before.is_empty() || before.ends_with(' ')),
     }
 }

@@ -6,6 +6,7 @@
 //! area state parent 0 base 140 km 27 valid 90 first 50 child 50 cap none day 3000 bike 400
 //! area city parent 1 base 140 km 27 valid 90 first 50 child 50 cap flat 230 90 day none bike 300
 //! area region parent 0 base 173 km 29 valid 240 first 50 child 50 cap levels 1 2 3 4 5 day 2890 bike 350
+//! factor 3 mark 0
 //! stop 2 300000 200000
 //! trip 2000-12-31 22:00 to 2000-12-31 22:08 class 2 level K adults 0 children 0 bikes 0 stops 0 1
 //! record 9 0a0b 0c
@@ -14,7 +15,7 @@
 //! stop 2 300000 200000
 //! ```
 //!
-//! `area` and `trip` take their fields in this order. A level may also be a number. Numbers are checked only for their
+//! `area`, `factor` and `trip` take their fields in this order. A level may also be a number. Numbers are checked only for their
 //! width in bytes, so that bad records can be written. `record` gives a kind and a body in hexadecimal, `bytes` anything
 //! at all. `repeat` stands on its own line and writes the next record that many times.
 //!

@@ -1,10 +1,11 @@
 //! The rules of docs/RULES.md in the plainest Rust. One file a subject:
 //!
 //! - [`record`]: the frame of a record, and its fields one after another;
-//! - [`tariff`]: areas and stops, refusals 1 to 3, the smallest area containing some;
+//! - [`tariff`]: areas, factors and stops, refusals 1 to 3, the smallest area containing some;
 //! - [`book`]: the book's words, and when a book is sound;
 //! - [`clock`]: stamps and minute numbers;
 //! - [`trip`]: the trip record;
+//! - [`parts`]: changes, and the parts in which a trip is charged;
 //! - [`fare`]: kilometres and the four price steps;
 //! - [`charge`]: windows, caps, charges, bicycles and the charge record;
 //! - [`roll`]: what the program prints.
@@ -15,6 +16,7 @@ pub mod book;
 pub mod charge;
 pub mod clock;
 pub mod fare;
+pub mod parts;
 pub mod record;
 pub mod roll;
 pub mod tariff;
@@ -24,6 +26,7 @@ use book::{Book, TRIPS_IN_A_WINDOW};
 use charge::{charges_of, window_for, ChargeRecord};
 use clock::MINUTES_IN_A_DAY;
 use fare::Ride;
+use parts::parts_of;
 pub use roll::settle_roll;
 pub use tariff::{read_tariff, Tariff};
 use trip::Trip;
@@ -44,18 +47,18 @@ pub struct Refusal {
     pub place: u32,
 }
 
-/// Settles one trip. Accepted: the bytes written; the book is replaced, and the charge record stands at the start of
-/// the statement. Refused: book and statement stay.
+/// Settles one trip. Accepted: the bytes written; the book is replaced, and the charge records of the trip's parts stand
+/// one after another at the start of the statement. Refused: book and statement stay.
 pub fn settle(tariff: &[u8], book: &mut [u8], trip: &[u8], statement: &mut [u8]) -> Result<usize, Refusal> {
-    let (new_book, charge_record) = outcome(tariff, book, trip, statement.len())?;
+    let (new_book, charge_records) = outcome(tariff, book, trip, statement.len())?;
     book.copy_from_slice(&new_book.bytes());
-    let written = charge_record.bytes();
+    let written: Vec<u8> = charge_records.iter().flat_map(ChargeRecord::bytes).collect();
     statement[..written.len()].copy_from_slice(&written);
     Ok(written.len())
 }
 
-/// The refusals in the table's order; if none is given, the new book and the charge record. Only reads.
-fn outcome(tariff: &[u8], book: &[u8], trip: &[u8], room: usize) -> Result<(Book, ChargeRecord), Refusal> {
+/// The refusals in the table's order; if none is given, the new book and the charge records. Only reads.
+fn outcome(tariff: &[u8], book: &[u8], trip: &[u8], room: usize) -> Result<(Book, Vec<ChargeRecord>), Refusal> {
     // 1, 2, 3
     let tariff = read_tariff(tariff)?;
     // 4: book not sound
@@ -73,19 +76,24 @@ fn outcome(tariff: &[u8], book: &[u8], trip: &[u8], room: usize) -> Result<(Book
     unless(check_in <= check_out && check_out <= check_in + MINUTES_IN_A_DAY, 9)?;
     // 10: check-in before the book's last check-out
     unless(book.trips() == 0 || book.last_check_out() <= check_in, 10)?;
-    // 11: the trip would be the 257th of its window
+    // 11: the trip, or its second part, would be the 257th of its window
     let window = window_for(book, check_in, check_out);
-    unless(window.trips() < TRIPS_IN_A_WINDOW, 11)?;
-    // 12: statement slice shorter than the charge record
-    unless(ChargeRecord::size(&trip) <= room, 12)?;
+    let parts = parts_of(&tariff, &trip.stops, check_out - check_in);
+    unless(window.trips() + parts.len() as u64 <= TRIPS_IN_A_WINDOW, 11)?;
+    // 12: statement slice shorter than the charge records
+    unless(parts.len() * ChargeRecord::size(&trip) <= room, 12)?;
 
-    let ride = Ride::of(&tariff, &trip, check_out - check_in);
+    // Each part is charged on the sums that the one before left.
     let mut new_book = window;
-    let charges = charges_of(&tariff, &trip, &ride, &mut new_book);
-    new_book.count_trip(check_out);
-    let charge_record =
-        ChargeRecord { opening: new_book.opening(), area: ride.area, km: ride.km, minutes: ride.minutes, charges };
-    Ok((new_book, charge_record))
+    let mut charge_records = Vec::new();
+    for part in &parts {
+        let ride = Ride::of(&tariff, &trip, part);
+        let charges = charges_of(&tariff, &trip, &ride, &mut new_book);
+        new_book.count_trip(check_out);
+        let Ride { area, km, minutes, .. } = ride;
+        charge_records.push(ChargeRecord { opening: new_book.opening(), area, km, minutes, charges });
+    }
+    Ok((new_book, charge_records))
 }
 
 /// A refusal that has no place.

@@ -4,6 +4,7 @@ use milecopper_host::maker::bytes_of;
 use milecopper_host::model::book::BOOK_BYTES;
 use milecopper_host::model::charge::ChargeRecord;
 use milecopper_host::model::record::record_at;
+use milecopper_host::model::roll::LARGEST_STATEMENT;
 use milecopper_host::model::settle;
 use milecopper_host::model::trip::Trip;
 
@@ -11,11 +12,10 @@ fn euro(cents: u64) -> String {
     format!("{}.{:02} euro", cents / 100, cents % 100)
 }
 
-/// The sentence about an accepted trip.
-fn accepted(number: usize, trip: &Trip, record: &ChargeRecord) -> String {
+/// The sentence about an accepted trip or one of its parts; `which` says whose.
+fn accepted(which: &str, trip: &Trip, record: &ChargeRecord) -> String {
     let ChargeRecord { area, km, minutes, charges, .. } = record;
-    let mut text =
-        format!("Trip {number}, {km} km and {minutes} minutes in area {area}, costs {}", euro(record.total()));
+    let mut text = format!("{which}, {km} km and {minutes} minutes in area {area}, costs {}", euro(record.total()));
     let adults = (1..=trip.adults).map(|i| format!("adult {i}"));
     let children = (1..=trip.children).map(|i| format!("child {i}"));
     let bicycles = (1..=trip.bicycles).map(|i| format!("bicycle {i}"));
@@ -42,17 +42,20 @@ fn the_night_of_the_sample() {
         let trip = &roll[place..place + record_at(&roll, place).expect("a whole record").size()];
         place += trip.len();
         number += 1;
-        let mut statement = [0; 137];
+        let mut statement = [0; LARGEST_STATEMENT];
         match settle(&tariff, &mut book, trip, &mut statement) {
             Ok(written) => {
-                let record = ChargeRecord::read(&statement[..written]).expect("a charge record");
-                if opening != Some(record.opening) {
-                    text += &format!("A window opens at minute {}.\n", record.opening);
+                let records = ChargeRecord::read_all(&statement[..written]).expect("charge records");
+                if opening != Some(records[0].opening) {
+                    text += &format!("A window opens at minute {}.\n", records[0].opening);
                 }
-                text += &accepted(number, &Trip::read(trip).expect("a trip"), &record);
-                opening = Some(record.opening);
+                for (part, record) in (1..).zip(&records) {
+                    let part = if records.len() > 1 { format!(", part {part}") } else { String::new() };
+                    text += &accepted(&format!("Trip {number}{part}"), &Trip::read(trip).expect("a trip"), record);
+                    cents += record.total();
+                }
+                opening = Some(records[0].opening);
                 yes += 1;
-                cents += record.total();
             }
             Err(refusal) => {
                 assert_eq!(refusal.number, 10, "the sample has no other refusal");

@@ -1,4 +1,4 @@
-//! What the pages show is what comes of it: the worked example of docs/FORMAT.md, by the model and by the library, and
+//! What the pages show is what comes of it: the worked examples of docs/FORMAT.md, by the model and by the library, and
 //! the sample that README.md prints.
 
 use milecopper_host::differential::{settle_by_the_model, Settle};
@@ -14,23 +14,28 @@ fn block(name: &str) -> Vec<u8> {
     text.split_whitespace().map(|byte| u8::from_str_radix(byte, 16).expect("two hexadecimal digits")).collect()
 }
 
-/// The trip, settled on a fresh book, gives the record.
-fn gives_the_record(settle: Settle) {
-    let (mut book, mut statement) = ([0; 5_428], [0xaa; 137]);
-    assert_eq!(settle(&block("tariff"), &mut book, &block("trip"), &mut statement), 25);
-    assert_eq!(statement[..25], block("record"));
-    assert!(statement[25..].iter().all(|&byte| byte == 0xaa));
+/// The trip, settled on a fresh book, gives the record; the ride out and back gives two, and is two trips of its window.
+fn gives_the_records(settle: Settle) {
+    for (trip, records, trips) in [("trip", "record", 1), ("ride-out-and-back", "two-records", 2)] {
+        let (mut book, mut statement) = ([0; 5_428], [0xaa; 274]);
+        let records = block(records);
+        let written = records.len();
+        assert_eq!(settle(&block("tariff"), &mut book, &block(trip), &mut statement), written as u64);
+        assert_eq!(statement[..written], records);
+        assert!(statement[written..].iter().all(|&byte| byte == 0xaa));
+        assert_eq!(book[0], trips);
+    }
 }
 
 #[test]
 fn the_worked_example_by_the_model() {
-    gives_the_record(settle_by_the_model);
+    gives_the_records(settle_by_the_model);
 }
 
 #[cfg(feature = "library")]
 #[test]
 fn the_worked_example_by_the_library() {
-    gives_the_record(milecopper_host::library::settle_to_number);
+    gives_the_records(milecopper_host::library::settle_to_number);
 }
 
 #[test]

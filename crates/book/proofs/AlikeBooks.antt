@@ -19,7 +19,7 @@ use Rattle.book.specs.declared.Window.{Window}
 use Rattle.book.specs.Words.{word, putWord, pairPlace, secondSum, allSum, firstChild, coverPlace, coverWord}
 use Rattle.book.specs.Windows.{inWindow}
 use Rattle.book.specs.Charging.{riderCharge, riderCharges, newCover, bicycleCharges, chargesOf}
-use Rattle.book.specs.Posting.{addHere, addUp, addList, coverBicycles, opened, posted}
+use Rattle.book.specs.Posting.{addHere, addUp, addList, coverBicycles, opened, withCharges, posted}
 use Rattle.book.proofs.Trees.{is-tree}
 
 -- alike books have the same known words, and stay alike with a word put in both
@@ -119,6 +119,16 @@ module _ {R : List ℕ → List ℕ → Type 0} {Known : ℕ → Type 0} (alike 
           rw (alike .same c c′ s (coverPlace count) (known count (omega arith)))
           (alike .put c c′ s (coverPlace count) (1 + newCover tariff counts (ride .area) (coverWord c count)))
 
+  -- The same charges on alike books give alike books.
+  pub with-alike :
+      Touches Known counts ride → (charges b b′ : List ℕ) → R b b′
+      → R (withCharges tariff counts ride charges b) (withCharges tariff counts ride charges b′)
+  with-alike touches charges b b′ r =
+      cover-alike (ride .party .bicycles) _ _
+      (list-alike firstChild (ride .party .children) charges _ _ _
+      (list-alike 0 (1 + ride .party .adults) charges _ b b′ r (touches .adults)) (touches .children))
+      (touches .bicycles)
+
   -- Posting on alike books gives alike books, where opening their windows leaves them alike.
   pub posted-alike :
       Touches Known counts ride → (window window′ : Window) (checkout checkout′ : ℕ) (book book′ : List ℕ)
@@ -127,8 +137,4 @@ module _ {R : List ℕ → List ℕ → Type 0} {Known : ℕ → Type 0} (alike 
       → R (posted tariff counts book window checkout ride) (posted tariff counts book′ window′ checkout′ ride)
   unfolding posted
   posted-alike touches window window′ checkout checkout′ book book′ words opens =
-      rw (charges-alike touches (inWindow (window .current) book) (inWindow (window′ .current) book′) words)
-      (cover-alike (ride .party .bicycles) _ _
-      (list-alike firstChild (ride .party .children) _ _ _ _
-      (list-alike 0 (1 + ride .party .adults) _ _ _ _ opens (touches .adults)) (touches .children))
-      (touches .bicycles))
+      rw (charges-alike touches (inWindow (window .current) book) (inWindow (window′ .current) book′) words) (with-alike touches _ _ _ opens)

@@ -15,34 +15,37 @@ use borrow.Author.Tests.{eq-eqb, ne-eqb}
 use Rattle.wire.proofs.Number.{sets-more}
 use Rattle.caps.specs.Tree.{foldUp, chargeIn}
 use Rattle.caps.proofs.Charge.{charge-smallest, charge-past}
-use Rattle.tariff.specs.declared.Area.{Area}
 use Rattle.tariff.specs.declared.Counts.{Counts}
 use Rattle.tariff.specs.Areas.{areaAt, Read, Smallest, FaultlessTariff}
 use Rattle.tariff.specs.Contracts.{FlatOf}
 use Rattle.tariff.proofs.Faultless.{faultless}
 use Rattle.tariff.proofs.Within.{area-flat, above-of, parent-there, parent-top, flat-within, smallest}
 use Rattle.fare.specs.declared.Ride.{Ride}
-use Rattle.fare.specs.Prices.{mostPrice, priceOf}
+use Rattle.fare.specs.Prices.{mostPrice}
 use Rattle.fare.specs.Contracts.{Priceable}
 use Rattle.fare.proofs.Steps.{price-most}
-use Rattle.book.specs.declared.limits.Chain.{Chain}
+use Rattle.book.specs.declared.Earlier.{Earlier}
 use Rattle.book.specs.Words.{secondSum, allSum, firstChild, coverPlace, coverWord}
 use Rattle.book.specs.Windows.{inWindow}
 use Rattle.book.specs.Caps.{treeOf}
 use Rattle.book.specs.Charging.{riderCharge, riderCharges, newCover, bicycleCharge, bicycleCharges, chargesOf}
-use Rattle.book.specs.Contracts.{Rideable, chainOf, chargeBy, NewCover, BicycleCharge, PartyAmounts}
+use Rattle.book.specs.Contracts.{Rideable, pendingIn, chainOf, chargeBy, NewCover, BicycleCharge, PartyAmounts}
 use Rattle.book.proofs.Trees.{is-tree}
 use Rattle.book.proofs.WordLaws.{word-fresh}
 use Rattle.book.proofs.SoundLaws.{SoundBook, sound-has}
 
--- A charge by the chain of an area is the charge in the tree: in a region's chain the state stands twice, and in its own three times.
+-- A charge by the chain of an area is the charge in the tree, over the rider's sums with what they lack: in a region's chain the state stands
+-- twice, and in its own three times.
 pub charge-by :
-    {t : List ℕ} {counts : Counts} → FaultlessTariff t counts → (w : List ℕ) (rider : ℕ) (child : Bool) (class a : ℕ) → a < counts .areas → (amount : ℕ)
-    → chargeBy (chainOf t counts a child) w rider class amount ≡ chargeIn (treeOf t counts child) (secondSum w rider) (allSum w rider) class a amount
+    {t : List ℕ} {counts : Counts} → FaultlessTariff t counts → (w : List ℕ) (rider : ℕ) (child : Bool) (class a : ℕ) → a < counts .areas
+    → (earlier : Earlier) (paid amount : ℕ)
+    → chargeBy (chainOf t counts a child earlier) w rider class paid amount
+    ≡ chargeIn (treeOf t counts child) (λ x. secondSum w rider x + cond (pendingIn t counts earlier x) paid 0)
+    (λ x. allSum w rider x + cond (pendingIn t counts earlier x) paid 0) class a amount
 unfolding chargeBy foldUp
-charge-by f w rider child class a there amount =
+charge-by f w rider child class a there earlier paid amount =
     let tree = is-tree f child in
-    charge-past tree (secondSum w rider) (allSum w rider) class a there 2 (tree .few-levels a there) amount
+    charge-past tree _ _ class a there 2 (tree .few-levels a there) amount
 
 -- A bicycle's new covering area is one of the tariff's.
 pub cover-there :
@@ -165,16 +168,6 @@ module _ (t : List ℕ) (counts : Counts) (w : List ℕ) (ride : Ride) where
   unfolding listed riderCharges
   riders-listed child first zero = refl
   riders-listed child first (suc n) = rw (riders-listed child first n)
-
-  -- and so are those by the chain of the ride's area
-  pub riders-by-chain :
-      FaultlessTariff t counts → ride .area < counts .areas → (child : Bool) (first : ℕ) {area : Area} {chain : Chain} {fare : ℕ}
-      → area ≡ areaAt t counts (ride .area) → chain ≡ chainOf t counts (ride .area) child → fare ≡ priceOf area ride child → (n : ℕ)
-      → listed (λ i. chargeBy chain w (first + i) (ride .class) fare) n ≡ riderCharges t counts w ride child first n
-  unfolding listed riderCharge riderCharges
-  riders-by-chain f there child first e e′ e″ zero = refl
-  riders-by-chain f there child first e e′ e″ (suc n) =
-      rw (riders-by-chain f there child first e e′ e″ n, e″, e, e′, charge-by f w (first + n) child _ (ride .area) there)
 
   pub bicycles-listed : (n : ℕ) → listed (λ i. bicycleCharge t counts (ride .area) (coverWord w i)) n ≡ bicycleCharges t counts w ride n
   unfolding listed bicycleCharges

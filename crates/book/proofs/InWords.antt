@@ -17,8 +17,8 @@ use Rattle.units.specs.declared.Cap.{Cap}
 use Rattle.units.specs.declared.Cap.the-variants.{NoCap, UpTo}
 use Rattle.caps.specs.declared.Caps.{Caps}
 use Rattle.caps.specs.Limits.{leftOf, cappedHere, AtMost}
-use Rattle.caps.specs.Tree.{SmallestLeft}
-use Rattle.caps.proofs.Charge.{charge-smallest}
+use Rattle.caps.specs.Tree.{foldUp, SmallestLeft}
+use Rattle.caps.proofs.Charge.{charge-smallest, charge-past}
 use Rattle.tariff.specs.declared.Counts.{Counts}
 use Rattle.tariff.specs.Rules.{flatOf}
 use Rattle.tariff.specs.Areas.{areaAt, parentOf, liesWithin, smallestOf, FaultlessTariff}
@@ -27,10 +27,8 @@ use Rattle.fare.specs.declared.Ride.{Ride}
 use Rattle.book.specs.Words.{secondSum, allSum}
 use Rattle.book.specs.Caps.{capsHere, treeOf}
 use Rattle.book.specs.Charging.{isChild, riderCharge, newCover, bicycleCharge}
-use Rattle.book.specs.Contracts.{chargeBy}
 use Rattle.book.specs.InWords.{priceFor, LeftByCap, second-class, all-classes, ChargeSays, CoverSays, BicycleSays}
 use Rattle.book.proofs.Trees.{is-tree, lies-within}
-use Rattle.book.proofs.ChargeLaws.{charge-by}
 
 -- ---- What one area's caps leave of an amount.
 
@@ -98,12 +96,14 @@ module _ {tariff : List ℕ} {counts : Counts} (t : FaultlessTariff tariff count
 
   -- so is what the area, the one above it and the one above that make of the price
   found : OneOfThem (riderCharge tariff counts w ride (isChild rider) rider)
-  unfolding riderCharge chargeBy
+  unfolding riderCharge foldUp
   found =
       let own = ride .area in
       let above = parentOf tariff counts own in
       let top = parentOf tariff counts above in
-      subst OneOfThem (charge-by t w rider (isChild rider) (ride .class) own here (priceFor tariff counts ride rider))
+      let tree = is-tree t (isChild rider) in
+      subst OneOfThem
+      (charge-past tree (secondSum w rider) (allSum w rider) (ride .class) own here 2 (tree .few-levels own here) (priceFor tariff counts ride rider))
       (next top _ (within-top tariff counts own top refl)
       (next above _ (within-parent tariff counts own above refl) (next own _ (within-self tariff counts own own refl) (inl refl))))
 

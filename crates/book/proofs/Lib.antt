@@ -13,3 +13,4 @@ pub mod AlikeBooks
 pub mod GoodRides
 pub mod InWords
 pub mod BookWords
+pub mod EarlierLaws

@@ -93,7 +93,7 @@ added-less : (s v : Bool) (c : ℕ) → cond (s && v) c 0 ≤ cond v c 0
 added-less true v c = le-refl _
 added-less false v c = omega arith
 
-added-most : (v : Bool) (c : ℕ) → cond v c 0 ≤ c
+pub added-most : (v : Bool) (c : ℕ) → cond v c 0 ≤ c
 added-most true c = le-refl c
 added-most false c = omega arith
 

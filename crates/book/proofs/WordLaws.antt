@@ -3,14 +3,14 @@
 use Prim.Native.Nat.{ℕ, zero, suc, _+_, _*_, _/_, _%_, _^_, _<_}
 use native.Mathlib.Nat.{add-zero}
 use native.Mathlib.Omega.{arith}
-use native.Mathlib.Decide.{decLt}
+use native.Mathlib.Decide.{ℕ-discrete, decLt}
 use mathlib.Core.Path.{_≡_, refl, sym, _∙_}
 use mathlib.Core.Logic.{inl, inr}
 use mathlib.Core.List.{List}
 use lib.ListN.{length, getD, replicate, length-replicate}
 use lib.Seq.{ext-getD}
 use Rattle.wire.specs.Number.{getLe, Bytes}
-use Rattle.wire.proofs.Number.{length-put, read-back, read-other, get-range}
+use Rattle.wire.proofs.Number.{length-put, read-back, read-other, put-reads, get-range}
 use Rattle.book.specs.Words.{bookSize, bookWords, freshBook, word, putWord}
 
 -- A word put leaves the book as long as it was.
@@ -25,6 +25,15 @@ word-put-same b i v size there small = read-back 4 b (4 * i) v (omega arith) sma
 pub word-put-other : (b : List ℕ) (i j v : ℕ) → (i ≡ j → ⊥) → word (putWord b i v) j ≡ word b j
 word-put-other b i j v ne =
     read-other 4 b (4 * i) v 4 (4 * j) (elim (decLt i j) [ yes before ↦ inr (omega arith) | no after ↦ inl (omega arith) ])
+
+-- A word put in two books of one length leaves the words the same that were.
+pub put-same :
+    (b b′ : List ℕ) → length b′ ≡ length b → (p v i : ℕ) → word b′ i ≡ word b i → word (putWord b′ p v) i ≡ word (putWord b p v) i
+put-same b b′ size p v i same =
+    elim (ℕ-discrete p i) [
+      | yes e ↦ rw e (put-reads 4 b b′ (4 * i) v size)
+      | no ne ↦ word-put-other b′ p i v ne ∙ same ∙ sym (word-put-other b p i v ne)
+    ]
 
 -- a list of zeros has 0 at each place, also past its end
 zero-at : (n i : ℕ) → getD {A = ℕ} (replicate n 0) i 0 ≡ 0

@@ -2,25 +2,27 @@
 use Prim.Native.Nat.{ℕ, _+_, _*_, _^_, _≤_, _<_}
 use mathlib.Core.Path.{_≡_}
 use mathlib.Core.List.{List}
-use mathlib.Core.Bool.{Bool, true, cond}
+use mathlib.Core.Bool.{Bool, true, false, cond}
 use lib.ListN.{length, getD, take}
 use lib.Seq.{sets}
 use Rattle.units.specs.Day.{dayMinutes}
 use Rattle.caps.specs.Limits.{cappedHere}
 use Rattle.tariff.specs.declared.Counts.{Counts}
-use Rattle.tariff.specs.Areas.{Read, areaAt, parentOf}
+use Rattle.tariff.specs.Areas.{Read, areaAt, parentOf, liesWithin}
 use Rattle.fare.specs.declared.Ride.{Ride}
 use Rattle.fare.specs.Distance.{mostKm}
 use Rattle.fare.specs.Prices.{mostPrice}
 use Rattle.book.specs.declared.Riders.{Riders}
 use Rattle.book.specs.declared.Window.{Window}
+use Rattle.book.specs.declared.Earlier.{Earlier}
+use Rattle.book.specs.declared.Earlier.the-variants.{Nothing, Part}
 use Rattle.book.specs.declared.limits.Link.{Link}
 use Rattle.book.specs.declared.limits.Chain.{Chain}
 use Rattle.book.specs.Words.{bookSize, freshBook, word, tripsOf, secondSum, allSum, coverWord}
 use Rattle.book.specs.Sound.{sound}
 use Rattle.book.specs.Windows.{inWindow}
 use Rattle.book.specs.Caps.{capsHere}
-use Rattle.book.specs.Charging.{riderCharges, newCover, bicycleCharge, bicycleCharges, chargesOf}
+use Rattle.book.specs.Charging.{carries, placeOf, riderCharges, newCover, bicycleCharge, bicycleCharges, chargesOf}
 use Rattle.book.specs.Posting.{addList}
 
 -- a word of the book
@@ -41,60 +43,133 @@ pub record Rideable (tariff : List ℕ) (counts : Counts) (book : List ℕ) (rid
   pub children : ride .party .children ≤ 10
   pub bicycles : ride .party .bicycles ≤ 10
 
+-- a list that starts with a party's charges
+pub record PartyAmounts (tariff : List ℕ) (counts : Counts) (w : List ℕ) (ride : Ride) (amounts : List ℕ) : Type 0 where
+  pub size : length amounts ≡ 31
+  pub value : take (length (chargesOf tariff counts w ride)) amounts ≡ chargesOf tariff counts w ride
+
+-- a part that goes before a ride of the same trip, in its class and for its party; the window has room for it
+pub record PartBefore (tariff : List ℕ) (counts : Counts) (book : List ℕ) (current : Bool) (ride before : Ride) : Type 0 where
+  pub rideable : Rideable tariff counts book before
+  pub room : current ≡ true → tripsOf book ≤ 255
+  pub class : before .class ≡ ride .class
+  pub party : before .party ≡ ride .party
+
+-- what is asked of what goes before a ride
+abbrev pub EarlierRight : List ℕ → Counts → List ℕ → Bool → Ride → Earlier → Type 0
+EarlierRight tariff counts book current ride Nothing = Unit
+EarlierRight tariff counts book current ride (Part before) = PartBefore tariff counts book current ride before
+
+-- a ride with what goes before it
+pub record Ridden (tariff : List ℕ) (counts : Counts) (book : List ℕ) (current : Bool) (ride : Ride) (earlier : Earlier) : Type 0 where
+  pub rideable : Rideable tariff counts book ride
+  pub before : EarlierRight tariff counts book current ride earlier
+
+-- what the party paid for an earlier part
+abbrev pub EarlierPaid : List ℕ → Counts → List ℕ → Earlier → List ℕ → Type 0
+EarlierPaid tariff counts w Nothing paid = Unit
+EarlierPaid tariff counts w (Part before) paid = PartyAmounts tariff counts w before paid
+
+-- amounts that start with it
+pub record Paid (tariff : List ℕ) (counts : Counts) (w : List ℕ) (earlier : Earlier) (paid : List ℕ) : Type 0 where
+  pub size : length paid ≡ 31
+  pub amounts : EarlierPaid tariff counts w earlier paid
+
+-- the area of an earlier part is one of the tariff's
+abbrev pub EarlierThere : Counts → Earlier → Type 0
+EarlierThere counts Nothing = Unit
+EarlierThere counts (Part before) = before .area < counts .areas
+
+-- an area's sums lack an earlier part's charges where the part's area lies within it
+unfoldable pub pendingIn : List ℕ → Counts → Earlier → ℕ → Bool
+pendingIn tariff counts Nothing area = false
+pendingIn tariff counts (Part before) area = liesWithin tariff counts (before .area) area
+
+-- an area of a chain, with its caps
+abbrev pub linkOf : List ℕ → Counts → ℕ → Bool → Earlier → Link
+linkOf tariff counts area child earlier =
+    record { area = area; caps = capsHere (areaAt tariff counts area) child; pending = pendingIn tariff counts earlier area }
+
+-- an area, the one above it and the one above that; the state is its own parent
+abbrev pub chainOf : List ℕ → Counts → ℕ → Bool → Earlier → Chain
+chainOf tariff counts area child earlier = record {
+  own = linkOf tariff counts area child earlier;
+  above = linkOf tariff counts (parentOf tariff counts area) child earlier;
+  top = linkOf tariff counts (parentOf tariff counts (parentOf tariff counts area)) child earlier;
+}
+
 -- each area of a chain has its words in the book
 pub record Places (chain : Chain) : Type 0 where
   pub own : chain .own .area < 32
   pub above : chain .above .area < 32
   pub top : chain .top .area < 32
 
--- an area of a chain, with its caps
-abbrev pub linkOf : List ℕ → Counts → ℕ → Bool → Link
-linkOf tariff counts area child = record { area = area; caps = capsHere (areaAt tariff counts area) child }
-
--- an area, the one above it and the one above that; the state is its own parent
-abbrev pub chainOf : List ℕ → Counts → ℕ → Bool → Chain
-chainOf tariff counts area child = record {
-  own = linkOf tariff counts area child;
-  above = linkOf tariff counts (parentOf tariff counts area) child;
-  top = linkOf tariff counts (parentOf tariff counts (parentOf tariff counts area)) child;
-}
-
-pub record ChainOf (tariff : List ℕ) (counts : Counts) (area : ℕ) (child : Bool) (r : Chain) : Type 0 where
-  pub value : r ≡ chainOf tariff counts area child
+pub record ChainOf (tariff : List ℕ) (counts : Counts) (area : ℕ) (child : Bool) (earlier : Earlier) (r : Chain) : Type 0 where
+  pub value : r ≡ chainOf tariff counts area child earlier
   pub places : Places r
 
--- the smallest of an amount and what the caps of one area of a chain have left for a rider
-abbrev pub cappedAtLink : Link → List ℕ → ℕ → ℕ → ℕ → ℕ
-cappedAtLink link w rider class amount =
-    cappedHere (link .caps) class (secondSum w rider (link .area)) (allSum w rider (link .area)) amount
+-- what a rider's sums in an area of a chain lack, of what the rider paid for an earlier part
+abbrev pub lackingAt : Link → ℕ → ℕ
+lackingAt link paid = cond (link .pending) paid 0
+
+-- a rider's sums with what they lack fit their words, in an area of a chain and in all three
+pub record FitsAt (link : Link) (w : List ℕ) (rider paid : ℕ) : Type 0 where
+  pub place : link .area < 32
+  pub second : secondSum w rider (link .area) + lackingAt link paid < 2 ^ 32
+  pub all : allSum w rider (link .area) + lackingAt link paid < 2 ^ 32
+
+pub record FitsAlong (chain : Chain) (w : List ℕ) (rider paid : ℕ) : Type 0 where
+  pub own : FitsAt (chain .own) w rider paid
+  pub above : FitsAt (chain .above) w rider paid
+  pub top : FitsAt (chain .top) w rider paid
+
+-- the smallest of an amount and what the caps of one area of a chain have left for a rider. What the sums lack is added to both: class 1 does
+-- not look at second-class sums
+abbrev pub cappedAtLink : Link → List ℕ → ℕ → ℕ → ℕ → ℕ → ℕ
+cappedAtLink link w rider class paid amount =
+    cappedHere (link .caps) class (secondSum w rider (link .area) + lackingAt link paid) (allSum w rider (link .area) + lackingAt link paid) amount
 
 -- the same of all three. For the chain of an area this is the charge in the tree (ChargeLaws: charge-by)
-unfoldable pub chargeBy : Chain → List ℕ → ℕ → ℕ → ℕ → ℕ
-chargeBy chain w rider class amount =
-    cappedAtLink (chain .top) w rider class (cappedAtLink (chain .above) w rider class (cappedAtLink (chain .own) w rider class amount))
+unfoldable pub chargeBy : Chain → List ℕ → ℕ → ℕ → ℕ → ℕ → ℕ
+chargeBy chain w rider class paid amount =
+    cappedAtLink (chain .top) w rider class paid
+    (cappedAtLink (chain .above) w rider class paid (cappedAtLink (chain .own) w rider class paid amount))
 
-pub record ChargeBy (chain : Chain) (w : List ℕ) (rider class price r : ℕ) : Type 0 where
-  pub value : r ≡ chargeBy chain w rider class price
+pub record ChargeBy (chain : Chain) (w : List ℕ) (rider class paid price r : ℕ) : Type 0 where
+  pub value : r ≡ chargeBy chain w rider class paid price
   pub range : r ≤ price
 
--- what charging riders asks: they are riders of the book, and their amounts have places
-pub record Chargeable (tariff : List ℕ) (counts : Counts) (book : List ℕ) (ride : Ride) (riders : Riders) (amounts : List ℕ) : Type 0 where
-  pub rideable : Rideable tariff counts book ride
+-- what charging riders asks: they are carried, and the amount of each has its place among the party's
+pub record Chargeable (tariff : List ℕ) (counts : Counts) (book : List ℕ) (current : Bool) (ride : Ride) (riders : Riders) (earlier : Earlier) (paid amounts : List ℕ) : Type 0 where
+  pub ridden : Ridden tariff counts book current ride earlier
+  pub paid-before : Paid tariff counts (inWindow current book) earlier paid
   pub known : riders .first + riders .count ≤ 21
+  pub few : riders .from + riders .count ≤ 31
   pub places : riders .from + riders .count ≤ length amounts
+  pub carried : (i : ℕ) → i < riders .count → carries (ride .party) (riders .first + i) ≡ true
+  pub placed : (i : ℕ) → i < riders .count → placeOf (ride .party) (riders .first + i) ≡ riders .from + i
 
 -- the party's amounts with riders' charges, or bicycles', stored among them
 abbrev pub withRiders : List ℕ → Counts → List ℕ → Ride → Riders → List ℕ → List ℕ
 withRiders tariff counts w ride riders amounts =
     sets amounts (riders .from) (riderCharges tariff counts w ride (riders .child) (riders .first) (riders .count))
 
-abbrev pub withBicycles : List ℕ → Counts → List ℕ → Ride → ℕ → ℕ → List ℕ → List ℕ
-withBicycles tariff counts w ride count from amounts = sets amounts from (bicycleCharges tariff counts w ride count)
+abbrev pub withBicycles : List ℕ → Counts → List ℕ → Ride → ℕ → List ℕ → List ℕ
+withBicycles tariff counts w ride from amounts = sets amounts from (bicycleCharges tariff counts w ride (ride .party .bicycles))
 
 -- a party's charges stand at the start of the amounts, and this is how many they are
 abbrev pub AllCharged : List ℕ → Counts → List ℕ → Ride → List ℕ → List ℕ → ℕ → Type 0
 AllCharged tariff counts w ride before after r =
     (r ≡ length (chargesOf tariff counts w ride)) × (after ≡ sets before 0 (chargesOf tariff counts w ride))
+
+-- a bicycle's word after an earlier part, by its word before
+unfoldable pub coverAfter : List ℕ → Counts → Earlier → ℕ → ℕ
+coverAfter tariff counts Nothing old = old
+coverAfter tariff counts (Part before) old = 1 + newCover tariff counts (before .area) old
+
+pub record CoverAfter (tariff : List ℕ) (counts : Counts) (earlier : Earlier) (old r : ℕ) : Type 0 where
+  pub value : r ≡ coverAfter tariff counts earlier old
+  pub known : r ≤ counts .areas
 
 pub record NewCover (tariff : List ℕ) (counts : Counts) (area old r : ℕ) : Type 0 where
   pub value : r ≡ newCover tariff counts area old
@@ -103,11 +178,6 @@ pub record NewCover (tariff : List ℕ) (counts : Counts) (area old r : ℕ) : T
 pub record BicycleCharge (tariff : List ℕ) (counts : Counts) (area old r : ℕ) : Type 0 where
   pub value : r ≡ bicycleCharge tariff counts area old
   pub range : r ≤ 60000
-
--- a list that starts with a party's charges
-pub record PartyAmounts (tariff : List ℕ) (counts : Counts) (w : List ℕ) (ride : Ride) (amounts : List ℕ) : Type 0 where
-  pub size : length amounts ≡ 31
-  pub value : take (length (chargesOf tariff counts w ride)) amounts ≡ chargesOf tariff counts w ride
 
 -- ---- Posting.
 

@@ -1,4 +1,4 @@
--- Rules, sections 9 to 11: what a ride leaves in the book.
+-- Rules, sections 9 to 11: what a ride leaves in the book, and to the part of its trip that comes after it.
 use Prim.Native.Nat.{ℕ, zero, suc, _+_}
 use mathlib.Core.List.{List}
 use mathlib.Core.Bool.{false, cond}
@@ -8,6 +8,8 @@ use Rattle.caps.specs.Tree.{climb}
 use Rattle.tariff.specs.declared.Counts.{Counts}
 use Rattle.fare.specs.declared.Ride.{Ride}
 use Rattle.book.specs.declared.Window.{Window}
+use Rattle.book.specs.declared.Earlier.{Earlier}
+use Rattle.book.specs.declared.Earlier.the-variants.{Nothing, Part}
 use Rattle.book.specs.Words.{putWord, pairPlace, secondSum, allSum, firstChild, coverPlace, coverWord}
 use Rattle.book.specs.Windows.{inWindow}
 use Rattle.book.specs.Caps.{treeOf}
@@ -42,12 +44,24 @@ coverBicycles tariff counts ride (suc count) book =
 unfoldable pub opened : Window → ℕ → List ℕ → List ℕ
 opened window checkout book = putWord (putWord (putWord book 0 (window .trips + 1)) 1 (window .opening .0)) 2 checkout
 
--- the book after a ride in a window: the window's words, the riders' sums with their charges, and the bicycles' covering areas
+-- the riders' sums with their charges, and the bicycles' covering areas
+abbrev pub withCharges : List ℕ → Counts → Ride → List ℕ → List ℕ → List ℕ
+withCharges tariff counts ride charges w =
+    let adults = 1 + ride .party .adults in
+    coverBicycles tariff counts ride (ride .party .bicycles)
+    (addList tariff counts ride firstChild (ride .party .children) charges adults (addList tariff counts ride 0 adults charges 0 w))
+
+-- the book after a ride in a window: the window's words, and the charges on the words that count in it
 unfoldable pub posted : List ℕ → Counts → List ℕ → Window → ℕ → Ride → List ℕ
 posted tariff counts book window checkout ride =
     let w = inWindow (window .current) book in
-    let charges = chargesOf tariff counts w ride in
-    let adults = 1 + ride .party .adults in
-    coverBicycles tariff counts ride (ride .party .bicycles)
-    (addList tariff counts ride firstChild (ride .party .children) charges adults
-    (addList tariff counts ride 0 adults charges 0 (opened window checkout w)))
+    withCharges tariff counts ride (chargesOf tariff counts w ride) (opened window checkout w)
+
+-- the words that count, with a ride's charges on them
+unfoldable pub withRide : List ℕ → Counts → List ℕ → Ride → List ℕ
+withRide tariff counts w ride = withCharges tariff counts ride (chargesOf tariff counts w ride) w
+
+-- the words that a ride is charged on: where an earlier part of its trip goes before it, those that the part leaves
+abbrev pub wordsAfter : List ℕ → Counts → List ℕ → Earlier → List ℕ
+wordsAfter tariff counts w Nothing = w
+wordsAfter tariff counts w (Part before) = withRide tariff counts w before

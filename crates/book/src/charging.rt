@@ -1,5 +1,8 @@
-// What each of a party is charged. Nothing here writes to a book; in a new window the sums and bicycles count as none.
+// What each of a party is charged. Nothing here writes to a book; in a new window the sums and bicycles count as none. Where an earlier part
+// of the trip goes before a ride, the ride is charged on what that part leaves, though the book does not have it yet: its charges are added
+// to the sums as they are read.
 use crate::Charge;
+use crate::Earlier;
 use crate::Riders;
 use crate::limits::Chain;
 use crate::limits::Link;
@@ -23,7 +26,8 @@ ghost use lib.ListN.{length};
 ghost use Rattle.tariff.specs.Areas.{Read};
 ghost use Rattle.book.specs.Words.{bookSize, bookWords};
 ghost use Rattle.book.specs.Windows.{inWindow};
-ghost use Rattle.book.specs.Contracts.{Word, Rideable, Places, cappedAtLink, ChargeBy, Chargeable, withRiders, withBicycles, AllCharged, NewCover, BicycleCharge};
+ghost use Rattle.book.specs.Posting.{wordsAfter};
+ghost use Rattle.book.specs.Contracts.{Word, lackingAt, FitsAt, FitsAlong, cappedAtLink, ChargeBy, Ridden, Paid, Chargeable, withRiders, withBicycles, AllCharged, EarlierThere, CoverAfter, NewCover, BicycleCharge};
 
 // A word of the book, which is 0 in a new window.
 fn get_in(book: &[u8], current: bool, place: usize) -> u32
@@ -33,23 +37,33 @@ fn get_in(book: &[u8], current: bool, place: usize) -> u32
     if current { get(book, place) } else { 0 }
 }
 
-// The smallest of an amount and what the caps of one area of a chain have left for a rider.
+// What a rider's sums in an area of a chain lack, of what the rider paid for an earlier part.
+fn lacking(link: Link, paid: Cents) -> Cents
+    ensures { λ r. ⌜ r .0 ≡ lackingAt link (paid .0) ⌝ }
+{
+    if link.pending { paid } else { Cents(0) }
+}
+
+// The smallest of an amount and what the caps of one area of a chain have left for a rider. What the sums lack is added to both: class 1
+// does not look at second-class sums.
 fn capped_at(
     book: &[u8],
     current: bool,
     rider: usize,
     link: Link,
     class: u8,
+    paid: Cents,
     amount: Cents,
 ) -> Cents
-    requires { ⌜ (length (now book) ≡ bookSize) × ((rider < 21) × (link .area < 32)) ⌝ }
-    ensures { λ r. ⌜ (r .0 ≡ cappedAtLink link (inWindow current (now (book .entry))) rider class (amount .0)) × (r .0 ≤ amount .0) ⌝ }
+    requires { ⌜ (length (now book) ≡ bookSize) × ((rider < 21) × FitsAt link (inWindow current (now book)) rider (paid .0)) ⌝ }
+    ensures { λ r. ⌜ (r .0 ≡ cappedAtLink link (inWindow current (now (book .entry))) rider class (paid .0) (amount .0)) × (r .0 ≤ amount .0) ⌝ }
 {
     let place = pair(rider, link.area);
-    let second = Cents(get_in(book, current, place));
-    let all = Cents(get_in(book, current, place + 1));
+    let more = lacking(link, paid);
+    let second = get_in(book, current, place) + more.0;
+    let all = get_in(book, current, place + 1) + more.0;
     let caps = link.caps;
-    capped_here(caps, class, second, all, amount)
+    capped_here(caps, class, Cents(second), Cents(all), amount)
 }
 
 // The smallest of a price and what the caps of its area and of every area above have left.
@@ -59,22 +73,24 @@ pub fn charge(
     rider: usize,
     chain: Chain,
     class: u8,
+    paid: Cents,
     price: Cents,
 ) -> Charge
-    requires { ⌜ (length (now book) ≡ bookSize) × ((rider < 21) × Places chain) ⌝ }
-    ensures { λ r. ⌜ ChargeBy chain (inWindow current (now (book .entry))) rider class (price .0) (r .amount .0) ⌝ }
+    requires { ⌜ (length (now book) ≡ bookSize) × ((rider < 21) × FitsAlong chain (inWindow current (now book)) rider (paid .0)) ⌝ }
+    ensures { λ r. ⌜ ChargeBy chain (inWindow current (now (book .entry))) rider class (paid .0) (price .0) (r .amount .0) ⌝ }
 {
     let own = chain.own;
     let above = chain.above;
     let top = chain.top;
-    let low = capped_at(book, current, rider, own, class, price);
-    let middle = capped_at(book, current, rider, above, class, low);
+    let low = capped_at(book, current, rider, own, class, paid, price);
+    let middle = capped_at(book, current, rider, above, class, paid, low);
     Charge {
-        amount: capped_at(book, current, rider, top, class, middle),
+        amount: capped_at(book, current, rider, top, class, paid, middle),
     }
 }
 
-// The charges of riders, into the party's amounts.
+// The charges of riders, into the party's amounts. What each paid for an earlier part stands at the same place; where nothing is earlier, no
+// area's sums lack it.
 fn charge_riders(
     tariff: &[u8],
     counts: Counts,
@@ -82,10 +98,12 @@ fn charge_riders(
     current: bool,
     ride: Ride,
     riders: Riders,
+    earlier: Earlier,
+    paid: &[u32],
     amounts: &mut [u32],
 )
-    requires { ⌜ Chargeable (now tariff) counts (now book) ride riders (now amounts) ⌝ }
-    ensures { λ _. ⌜ now (amounts .exit) ≡ withRiders (now (tariff .entry)) counts (inWindow current (now (book .entry))) ride riders (now (amounts .entry)) ⌝ }
+    requires { ⌜ Chargeable (now tariff) counts (now book) current ride riders earlier (now paid) (now amounts) ⌝ }
+    ensures { λ _. ⌜ now (amounts .exit) ≡ withRiders (now (tariff .entry)) counts (wordsAfter (now (tariff .entry)) counts (inWindow current (now (book .entry))) earlier) ride riders (now (amounts .entry)) ⌝ }
 {
     let count = riders.count;
     if count == 0 {
@@ -97,9 +115,10 @@ fn charge_riders(
     let class = ride.class;
     let at = ride.area;
     let fare = price(area(tariff, counts, at), ride, child);
-    let chain = chain_of(tariff, counts, at, child);
+    let chain = chain_of(tariff, counts, at, child, earlier);
     for i in 0..count {
-        let one = charge(book, current, first + i, chain, class, fare);
+        let before = paid[from + i];
+        let one = charge(book, current, first + i, chain, class, Cents(before), fare);
         let amount = one.amount;
         amounts[from + i] = amount.0;
     }
@@ -133,40 +152,57 @@ pub fn charge_bicycle(tariff: &[u8], counts: Counts, at: usize, old: usize) -> C
     }
 }
 
-// The charges of `count` bicycles, into the party's amounts from `from` on.
+// A bicycle's word after an earlier part, by its word in the book.
+fn cover_after(tariff: &[u8], counts: Counts, earlier: Earlier, old: usize) -> usize
+    requires { ⌜ Read (now tariff) counts × (EarlierThere counts earlier × (old ≤ counts .areas)) ⌝ }
+    ensures { λ r. ⌜ CoverAfter (now (tariff .entry)) counts earlier old r ⌝ }
+{
+    match earlier {
+        Earlier::Nothing => old,
+        Earlier::Part(before) => 1 + new_cover(tariff, counts, before.area, old),
+    }
+}
+
+// The charges of the party's bicycles, into its amounts from `from` on.
 fn charge_bicycles(
     tariff: &[u8],
     counts: Counts,
     book: &[u8],
     current: bool,
     ride: Ride,
-    count: usize,
+    earlier: Earlier,
     amounts: &mut [u32],
     from: usize,
 )
-    requires { ⌜ Rideable (now tariff) counts (now book) ride × ((count ≤ 10) × (from + count ≤ length (now amounts))) ⌝ }
-    ensures { λ _. ⌜ now (amounts .exit) ≡ withBicycles (now (tariff .entry)) counts (inWindow current (now (book .entry))) ride count from (now (amounts .entry)) ⌝ }
+    requires { ⌜ Ridden (now tariff) counts (now book) current ride earlier × (from + ride .party .bicycles ≤ length (now amounts)) ⌝ }
+    ensures { λ _. ⌜ now (amounts .exit) ≡ withBicycles (now (tariff .entry)) counts (wordsAfter (now (tariff .entry)) counts (inWindow current (now (book .entry))) earlier) ride from (now (amounts .entry)) ⌝ }
 {
     let at = ride.area;
+    let party = ride.party;
+    let count = party.bicycles as usize;
     for i in 0..count {
-        let old = get_in(book, current, cover(i)) as usize;
+        let found = get_in(book, current, cover(i)) as usize;
+        let old = cover_after(tariff, counts, earlier, found);
         let one = charge_bicycle(tariff, counts, at, old);
         let amount = one.amount;
         amounts[from + i] = amount.0;
     }
 }
 
-// The charges of a ride's whole party, in the record's order, at the start of the amounts. The answer is how many they are.
+// The charges of a ride's whole party, in the record's order, at the start of the amounts. The answer is how many they are. Where a part of
+// the trip is earlier, `paid` starts with that part's charges.
 pub fn charges_of(
     tariff: &[u8],
     counts: Counts,
     book: &[u8],
     current: bool,
     ride: Ride,
+    earlier: Earlier,
+    paid: &[u32],
     amounts: &mut [u32],
 ) -> usize
-    requires { ⌜ Rideable (now tariff) counts (now book) ride × (length (now amounts) ≡ 31) ⌝ }
-    ensures { λ r. ⌜ AllCharged (now (tariff .entry)) counts (inWindow current (now (book .entry))) ride (now (amounts .entry)) (now (amounts .exit)) r ⌝ }
+    requires { ⌜ Ridden (now tariff) counts (now book) current ride earlier × (Paid (now tariff) counts (inWindow current (now book)) earlier (now paid) × (length (now amounts) ≡ 31)) ⌝ }
+    ensures { λ r. ⌜ AllCharged (now (tariff .entry)) counts (wordsAfter (now (tariff .entry)) counts (inWindow current (now (book .entry))) earlier) ride (now (amounts .entry)) (now (amounts .exit)) r ⌝ }
 {
     let party = ride.party;
     let adults = 1 + party.adults as usize;
@@ -184,15 +220,35 @@ pub fn charges_of(
         count: children,
         from: adults,
     };
-    charge_riders(tariff, counts, book, current, ride, older, amounts);
-    charge_riders(tariff, counts, book, current, ride, younger, amounts);
+    charge_riders(
+        tariff,
+        counts,
+        book,
+        current,
+        ride,
+        older,
+        earlier,
+        paid,
+        amounts,
+    );
+    charge_riders(
+        tariff,
+        counts,
+        book,
+        current,
+        ride,
+        younger,
+        earlier,
+        paid,
+        amounts,
+    );
     charge_bicycles(
         tariff,
         counts,
         book,
         current,
         ride,
-        bicycles,
+        earlier,
         amounts,
         adults + children,
     );

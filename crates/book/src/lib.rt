@@ -6,6 +6,7 @@
 // limits.rt    an area's caps, and the areas whose caps a ride has
 // charging.rt  what each of a party is charged: only reads
 // posting.rt   the window opened and the charges added: only writes
+use fare::Ride;
 use units::Cents;
 use units::Minutes;
 
@@ -31,6 +32,12 @@ pub struct Riders {
     pub first: usize,
     pub count: usize,
     pub from: usize,
+}
+
+// What goes before a ride in its trip without being in the book yet: nothing, or a part of the trip, of the same class and party.
+pub enum Earlier {
+    Nothing,
+    Part(Ride),
 }
 
 // One person's charge.

@@ -1,4 +1,8 @@
 pub mod Distance
 pub mod Steps
 pub mod Stops
+pub mod Changes
+pub mod Breaks
+pub mod PartLaws
+pub mod SameStops
 pub mod GoodTrips

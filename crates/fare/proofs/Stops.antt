@@ -1,7 +1,7 @@
 -- The smallest area of a range of stops: it contains each, and lies within every area that contains them all; there is no other.
 -- Assumes nothing.
-use Prim.Native.Nat.{ℕ, zero, suc, _+_, _-_, _≤_, _<_}
-use native.Mathlib.Nat.{add-zero, sub-zero}
+use Prim.Native.Nat.{ℕ, zero, suc, _+_, _-_, _*_, _≤_, _<_}
+use native.Mathlib.Nat.{add-zero}
 use native.Mathlib.Omega.{arith}
 use native.Mathlib.Decide.{ℕ-discrete}
 use mathlib.Core.Path.{_≡_, refl}
@@ -13,15 +13,22 @@ use Rattle.units.specs.Day.{dayMinutes}
 use Rattle.wire.proofs.Each.{each-at}
 use Rattle.tariff.specs.declared.Counts.{Counts}
 use Rattle.tariff.specs.declared.Stop.{Stop}
-use Rattle.tariff.specs.Areas.{liesWithin, Smallest, FaultlessTariff}
+use Rattle.tariff.specs.Areas.{liesWithin, Smallest, StopRanges, FaultlessTariff}
 use Rattle.tariff.proofs.Faultless.{faultless}
 use Rattle.tariff.proofs.Within.{within-refl, within-trans, within-there, within-antisym, smallest}
 use Rattle.trip.specs.declared.Trip.{Trip}
 use Rattle.trip.specs.Record.{stopNumber}
 use Rattle.trip.specs.Trips.{stopsKnown}
-use Rattle.fare.specs.Distance.{apart, LeastKm}
-use Rattle.fare.specs.Rides.{stopOf, areaOfStops, AreaOfStops, rideOf}
-use Rattle.fare.specs.Contracts.{Riding, InOrder, StopOf, RideOf}
+use Rattle.fare.specs.Distance.{square, gap, apart, mostKm, kmOf, LeastKm}
+use Rattle.fare.specs.Rides.{stopOf, areaOfStops, AreaOfStops, rideBetween}
+use Rattle.fare.specs.Contracts.{Riding, InOrder, StopOf, RideIs}
+use Rattle.fare.proofs.Distance.{across, km-holds, km-least, km-range}
+
+-- two stops of the plane are no farther apart than 1,415 kilometres reach
+pub apart-most : {areas : ℕ} (from to : Stop) → StopRanges areas from → StopRanges areas to → apart from to ≤ square (1000 * mostKm)
+unfolding apart
+apart-most from to one other =
+    omega (arith, across (gap (from .x .0) (to .x .0)) (gap (from .y .0) (to .y .0)) (omega arith) (omega arith))
 
 -- Of a trip with n stops, each of which the faultless tariff has:
 module _ {tariff : List ℕ} {counts : Counts} {trip : List ℕ} {n : ℕ} (riding : Riding tariff counts trip n) where
@@ -100,31 +107,51 @@ module _ {tariff : List ℕ} {counts : Counts} {trip : List ℕ} {n : ℕ} (ridi
       (within-there right _ r (stop-there first (omega arith) .ranges .area) (contains first (omega arith) order)) (s .there)
       (least _ (s .contains)) (s .least r contains)
 
+  -- The kilometres between two stops are enough, and no fewer are.
+  pub least-between :
+      (first last : ℕ) → first < n → last < n
+      → LeastKm (apart (stopOf tariff counts trip first) (stopOf tariff counts trip last))
+      (kmOf (apart (stopOf tariff counts trip first) (stopOf tariff counts trip last)))
+  least-between first last h h′ =
+      let near = apart-most _ _ (stop-there first h .ranges) (stop-there last h′ .ranges) in
+      record { value = refl; holds = km-holds _ near; least = km-least _ near; range = km-range _ near }
+
 -- Check-out is not before check-in, and at most a day after it.
 pub times : (trip : Trip) → InOrder trip → (trip .checkin .0 ≤ trip .checkout .0) × (trip .checkout .0 ≤ trip .checkin .0 + dayMinutes)
 times trip order =
     let both = and-eq-true-iff (leb (trip .checkin .0) (trip .checkout .0)) _ .0 (order .times) in
     (leb-true _ _ (both .0), leb-true _ _ (both .1))
 
--- the contract of `ride_of`, from its area, its first and last stop and their kilometres
+-- the contract of `ride_between`, from its area, its first and last stop and their kilometres
 pub ride :
-    (tariff : List ℕ) (counts : Counts) (bytes : List ℕ) (trip : Trip) (area km : ℕ) (from to : Stop) → InOrder trip
-    → AreaOfStops tariff counts bytes 0 (trip .stops - 1) area → StopOf tariff counts bytes 0 from
-    → StopOf tariff counts bytes (trip .stops - 1) to → LeastKm (apart from to) km
-    → RideOf tariff counts bytes trip
+    (tariff : List ℕ) (counts : Counts) (bytes : List ℕ) (trip : Trip) (first last minutes area km : ℕ) (from to : Stop)
+    → minutes ≤ dayMinutes → AreaOfStops tariff counts bytes first last area → StopOf tariff counts bytes first from
+    → StopOf tariff counts bytes last to → LeastKm (apart from to) km
+    → RideIs counts (rideBetween tariff counts bytes trip first last minutes)
     (record {
       area = area;
       km = record { 0 = km };
-      minutes = record { 0 = trip .checkout .0 - trip .checkin .0 };
+      minutes = record { 0 = minutes };
       class = trip .class;
       level = trip .level;
       party = trip .party;
     })
-unfolding rideOf
-ride tariff counts bytes trip area km from to order smallest-area first last far =
+unfolding rideBetween
+ride tariff counts bytes trip first last minutes area km from to short smallest-area one other far =
     record {
-      value = rw (smallest-area .value, sub-zero, far .value, first .value, last .value);
+      value = rw (smallest-area .value, far .value, one .value, other .value);
       there = smallest-area .there;
       km = far .range;
-      minutes = omega (arith, times trip order .1);
+      minutes = short;
     }
+
+-- so the definition's ride has its ranges
+pub ride-there :
+    {tariff : List ℕ} {counts : Counts} {bytes : List ℕ} (trip : Trip) {n : ℕ} → Riding tariff counts bytes n
+    → (first last minutes : ℕ) → first ≤ last → last < n → minutes ≤ dayMinutes
+    → RideIs counts (rideBetween tariff counts bytes trip first last minutes) (rideBetween tariff counts bytes trip first last minutes)
+unfolding rideBetween
+ride-there trip riding first last minutes order inside short =
+    let place : first + (last - first) ≡ last = omega arith in
+    ride _ _ _ trip first last minutes _ _ _ _ short (rw place at (area-of-stops riding first (last - first) (omega arith)))
+    (stop-there riding first (omega arith)) (stop-there riding last inside) (least-between riding first last (omega arith) inside)

@@ -1,7 +1,7 @@
 -- What serves contracts alone: what finding a ride and its price asks, and each answer with its range.
-use Prim.Native.Nat.{ℕ, _*_, _≤_, _<_}
+use Prim.Native.Nat.{ℕ, _+_, _*_, _≤_, _<_}
 use mathlib.Core.Path.{_≡_}
-use mathlib.Core.List.{List}
+use mathlib.Core.List.{List, [], _∷_}
 use mathlib.Core.Bool.{Bool, true}
 use lib.ListN.{length}
 use Rattle.units.specs.Day.{dayMinutes}
@@ -14,8 +14,11 @@ use Rattle.trip.specs.declared.Trip.{Trip}
 use Rattle.trip.specs.Record.{tripSize}
 use Rattle.trip.specs.Trips.{stopsKnown, inOrder}
 use Rattle.fare.specs.declared.Ride.{Ride}
-use Rattle.fare.specs.Distance.{mostKm}
-use Rattle.fare.specs.Rides.{stopOf, rideOf}
+use Rattle.fare.specs.declared.Breaking.{Breaking}
+use Rattle.fare.specs.declared.Breaking.the-variants.{At}
+use Rattle.fare.specs.Distance.{square, apart, mostKm}
+use Rattle.fare.specs.Rides.{stopOf, durationOf, rideOf}
+use Rattle.fare.specs.Parts.{breakOf}
 use Rattle.fare.specs.Prices.{mostFar, mostPrice, step1, step2, step3, priceOf}
 
 -- a trip's bytes with n stops, each of which the faultless tariff has
@@ -35,15 +38,43 @@ pub record OnPlane (stop : Stop) : Type 0 where
   pub x : stop .x .0 ≤ mostMetres
   pub y : stop .y .0 ≤ mostMetres
 
+pub record SquaredBetween (a b : Stop) (r : ℕ) : Type 0 where
+  pub value : r ≡ apart a b
+  pub range : r ≤ 2 * square mostMetres
+
 pub record StopOf (tariff : List ℕ) (counts : Counts) (trip : List ℕ) (i : ℕ) (r : Stop) : Type 0 where
   pub value : r ≡ stopOf tariff counts trip i
   pub ranges : StopRanges (counts .areas) r
 
-pub record RideOf (tariff : List ℕ) (counts : Counts) (bytes : List ℕ) (trip : Trip) (r : Ride) : Type 0 where
-  pub value : r ≡ rideOf tariff counts bytes trip
+pub record DurationOf (trip : Trip) (r : ℕ) : Type 0 where
+  pub value : r ≡ durationOf trip
+  pub range : r ≤ dayMinutes
+
+-- a ride by its definition, in one of the tariff's areas, no farther than across the plane and no longer than a day
+pub record RideIs (counts : Counts) (ride r : Ride) : Type 0 where
+  pub value : r ≡ ride
   pub there : r .area < counts .areas
   pub km : r .km .0 ≤ mostKm
   pub minutes : r .minutes .0 ≤ dayMinutes
+
+abbrev pub RideOf : List ℕ → Counts → List ℕ → Trip → Ride → Type 0
+RideOf tariff counts bytes trip r = RideIs counts (rideOf tariff counts bytes trip) r
+
+-- where a trip is broken, if anywhere: at a stop between the first and the last
+pub record BreakOf (tariff : List ℕ) (counts : Counts) (bytes : List ℕ) (stops : ℕ) (r : Breaking) : Type 0 where
+  pub value : r ≡ breakOf tariff counts bytes stops
+  pub change : (c : ℕ) → r ≡ At c → (1 ≤ c) × (c + 1 < stops)
+
+-- each ride of a list
+pub data EachRide (P : Ride → Type 0) : List Ride → Type 0 where
+  none : EachRide P []
+  more : {ride : Ride} {rest : List Ride} → P ride → EachRide P rest → EachRide P (ride ∷ rest)
+
+-- a ride of the trip's class, level and party
+pub record OfTrip (trip : Trip) (ride : Ride) : Type 0 where
+  pub class : ride .class ≡ trip .class
+  pub level : ride .level ≡ trip .level
+  pub party : ride .party ≡ trip .party
 
 pub record Step1 (area : Area) (minutes km r : ℕ) : Type 0 where
   pub value : r ≡ step1 area minutes km

@@ -1,4 +1,5 @@
 pub mod Distance
 pub mod Rides
+pub mod Parts
 pub mod Prices
 pub mod Contracts

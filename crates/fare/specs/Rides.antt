@@ -1,5 +1,5 @@
--- Rules, section 7: the trip's area is the smallest containing all its stops; kilometres lie between its first and last stop;
--- duration is check-out minus check-in.
+-- Rules, section 7: the area of a trip, or of a part, is the smallest containing all its stops; kilometres lie between its first and last stop;
+-- a trip's duration is check-out minus check-in.
 use Prim.Native.Nat.{ℕ, zero, suc, _+_, _-_, _≤_, _<_}
 use mathlib.Core.Path.{_≡_}
 use mathlib.Core.List.{List}
@@ -31,14 +31,27 @@ pub record AreaOfStops (tariff : List ℕ) (counts : Counts) (trip : List ℕ) (
       (d : ℕ) → ((i : ℕ) → first ≤ i → i ≤ last → liesWithin tariff counts (stopOf tariff counts trip i .area) d ≡ true)
       → liesWithin tariff counts r d ≡ true
 
--- the ride that a trip is
-unfoldable pub rideOf : List ℕ → Counts → List ℕ → Trip → Ride
-rideOf tariff counts bytes trip =
+-- the ride from one stop of a trip to another, in so many minutes: the smallest area containing the stops from the one to the other, the
+-- kilometres between these two, and the trip's class, level and party
+unfoldable pub rideBetween : List ℕ → Counts → List ℕ → Trip → ℕ → ℕ → ℕ → Ride
+rideBetween tariff counts bytes trip first last minutes =
     record {
-      area = areaOfStops tariff counts bytes 0 (trip .stops - 1);
-      km = record { 0 = kmOf (apart (stopOf tariff counts bytes 0) (stopOf tariff counts bytes (trip .stops - 1))) };
-      minutes = record { 0 = trip .checkout .0 - trip .checkin .0 };
+      area = areaOfStops tariff counts bytes first (last - first);
+      km = record { 0 = kmOf (apart (stopOf tariff counts bytes first) (stopOf tariff counts bytes last)) };
+      minutes = record { 0 = minutes };
       class = trip .class;
       level = trip .level;
       party = trip .party;
     }
+
+-- check-out minus check-in
+abbrev pub durationOf : Trip → ℕ
+durationOf trip = trip .checkout .0 - trip .checkin .0
+
+-- a trip's last stop
+abbrev pub lastOf : Trip → ℕ
+lastOf trip = trip .stops - 1
+
+-- the ride that a whole trip is
+unfoldable pub rideOf : List ℕ → Counts → List ℕ → Trip → Ride
+rideOf tariff counts bytes trip = rideBetween tariff counts bytes trip 0 (lastOf trip) (durationOf trip)

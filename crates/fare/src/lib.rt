@@ -1,11 +1,13 @@
-// From a trip's bytes to its ride, and from the ride to its price.
+// From a trip's bytes to its ride, or the two rides that it is broken into, and from a ride to its price.
 //
-// rides.rt    the smallest area that contains a trip's stops, and its started kilometres
+// rides.rt    the smallest area that contains some stops of a trip, the started kilometres between two, the ride from one to another
+// parts.rt    where a trip that comes back is broken, and the rides that its two parts are
 // prices.rt   the four steps of the price, in their order
 use trip::Party;
 use units::Km;
 use units::Minutes;
 
+pub mod parts;
 pub mod prices;
 pub mod rides;
 
@@ -17,4 +19,10 @@ pub struct Ride {
     pub class: u8,
     pub level: u8,
     pub party: Party,
+}
+
+// Where a trip is broken: at a change, which is a stop between the first and the last, by its place in the trip; or nowhere.
+pub enum Breaking {
+    Unbroken,
+    At(usize),
 }

@@ -1,4 +1,5 @@
-// The ride that a trip is: its area contains all its stops, its kilometres lie between the first and the last.
+// The ride from one stop of a trip to another: its area contains the stops from the one to the other, its kilometres lie between these two.
+// The ride that a whole trip is goes from its first stop to its last.
 use crate::Ride;
 use tariff::Counts;
 use tariff::Stop;
@@ -11,10 +12,11 @@ use units::Metres;
 use units::Minutes;
 ghost use mathlib.Core.Path.{_≡_};
 ghost use Prim.Native.Nat.{_+_, _≤_, _<_};
+ghost use Rattle.units.specs.Day.{dayMinutes};
 ghost use Rattle.tariff.specs.Rules.{mostMetres};
 ghost use Rattle.fare.specs.Distance.{square, gap, apart, LeastKm};
-ghost use Rattle.fare.specs.Rides.{AreaOfStops};
-ghost use Rattle.fare.specs.Contracts.{Riding, InOrder, OnPlane, StopOf, RideOf};
+ghost use Rattle.fare.specs.Rides.{AreaOfStops, rideBetween};
+ghost use Rattle.fare.specs.Contracts.{Riding, InOrder, OnPlane, SquaredBetween, StopOf, DurationOf, RideIs, RideOf};
 
 fn gap_between(a: Metres, b: Metres) -> u64
     ensures { λ r. ⌜ r ≡ gap (a .0) (b .0) ⌝ }
@@ -47,6 +49,16 @@ fn least_km(longer: u64, shorter: u64) -> u32
     high as u32
 }
 
+// dx² + dy² between two stops.
+pub fn squared_between(a: Stop, b: Stop) -> u64
+    requires { ⌜ OnPlane a × OnPlane b ⌝ }
+    ensures { λ r. ⌜ SquaredBetween a b r ⌝ }
+{
+    let east = gap_between(a.x, b.x);
+    let north = gap_between(a.y, b.y);
+    east * east + north * north
+}
+
 // Started kilometres between two stops.
 pub fn kilometres(a: Stop, b: Stop) -> Km
     requires { ⌜ OnPlane a × OnPlane b ⌝ }
@@ -62,7 +74,7 @@ pub fn kilometres(a: Stop, b: Stop) -> Km
 }
 
 // A stop of the trip, counted from 0, in the tariff.
-fn stop_of(tariff: &[u8], counts: Counts, trip: &[u8], stops: usize, i: usize) -> Stop
+pub fn stop_of(tariff: &[u8], counts: Counts, trip: &[u8], stops: usize, i: usize) -> Stop
     requires { ⌜ Riding (now tariff) counts (now trip) stops × (i < stops) ⌝ }
     ensures { λ r. ⌜ StopOf (now (tariff .entry)) counts (now (trip .entry)) i r ⌝ }
 {
@@ -89,26 +101,49 @@ pub fn area_of_stops(
     area
 }
 
-// The ride that a trip is: the area of all its stops, the kilometres from its first to its last, and its minutes.
-pub fn ride_of(tariff: &[u8], counts: Counts, bytes: &[u8], trip: Trip) -> Ride
-    requires { ⌜ Riding (now tariff) counts (now bytes) (trip .stops) × InOrder trip ⌝ }
-    ensures { λ r. ⌜ RideOf (now (tariff .entry)) counts (now (bytes .entry)) trip r ⌝ }
+// The ride from the stop `first` of the trip to the stop `last`, in so many minutes.
+pub fn ride_between(
+    tariff: &[u8],
+    counts: Counts,
+    bytes: &[u8],
+    trip: Trip,
+    first: usize,
+    last: usize,
+    minutes: Minutes,
+) -> Ride
+    requires { ⌜ Riding (now tariff) counts (now bytes) (trip .stops) × ((first ≤ last) × ((last < trip .stops) × (minutes .0 ≤ dayMinutes))) ⌝ }
+    ensures { λ r. ⌜ RideIs counts (rideBetween (now (tariff .entry)) counts (now (bytes .entry)) trip first last (minutes .0)) r ⌝ }
 {
     let stops = trip.stops;
-    let last = stops - 1;
-    let area = area_of_stops(tariff, counts, bytes, stops, 0, last);
-    let from = stop_of(tariff, counts, bytes, stops, 0);
+    let area = area_of_stops(tariff, counts, bytes, stops, first, last);
+    let from = stop_of(tariff, counts, bytes, stops, first);
     let to = stop_of(tariff, counts, bytes, stops, last);
-    let checkin = trip.checkin;
-    let checkout = trip.checkout;
-    let duration = checkout.0 - checkin.0;
     let party = trip.party;
     Ride {
         area,
         km: kilometres(from, to),
-        minutes: Minutes(duration),
+        minutes,
         class: trip.class,
         level: trip.level,
         party,
     }
+}
+
+// Check-out minus check-in.
+pub fn duration(trip: Trip) -> Minutes
+    requires { ⌜ InOrder trip ⌝ }
+    ensures { λ r. ⌜ DurationOf trip (r .0) ⌝ }
+{
+    let checkin = trip.checkin;
+    let checkout = trip.checkout;
+    Minutes(checkout.0 - checkin.0)
+}
+
+// The ride that a whole trip is: from its first stop to its last.
+pub fn ride_of(tariff: &[u8], counts: Counts, bytes: &[u8], trip: Trip) -> Ride
+    requires { ⌜ Riding (now tariff) counts (now bytes) (trip .stops) × InOrder trip ⌝ }
+    ensures { λ r. ⌜ RideOf (now (tariff .entry)) counts (now (bytes .entry)) trip r ⌝ }
+{
+    let last = trip.stops - 1;
+    ride_between(tariff, counts, bytes, trip, 0, last, duration(trip))
 }

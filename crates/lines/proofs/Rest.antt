@@ -5,7 +5,7 @@ use native.Mathlib.Omega.{arith}
 use mathlib.Core.Path.{_≡_, refl, sym, ap, _∙_}
 use mathlib.Core.List.{List, [], _∷_, _++_, append-assoc}
 use Rattle.roll.specs.declared.Line.{Line}
-use Rattle.roll.specs.declared.Line.the-variants.{Charged, Refused}
+use Rattle.roll.specs.declared.Line.the-variants.{Charged, Both, Refused}
 use Rattle.lines.specs.declared.turns.Tally.{Tally}
 use Rattle.lines.specs.Text.{header, lineText, tailText, linesText, acceptedOf, refusedOf, centsOf, textOf}
 use Rattle.lines.specs.Turns.{records, counted, tailOf}
@@ -32,7 +32,8 @@ line-tail : (tally : Tally) (line : Line) (lines : List Line)
     ≡ tailText (counted tally line .accepted + acceptedOf lines) (counted tally line .refused + refusedOf lines)
     (counted tally line .cents + centsOf lines)
 unfolding counted acceptedOf refusedOf centsOf
-line-tail tally (Charged area km minutes opening cents) lines = same-tail (omega arith) (omega arith) (omega arith)
+line-tail tally (Charged entry) lines = same-tail (omega arith) (omega arith) (omega arith)
+line-tail tally (Both one other) lines = same-tail (omega arith) (omega arith) (omega arith)
 line-tail tally (Refused refusal) lines = same-tail (omega arith) (omega arith) (omega arith)
 
 -- one line more

@@ -10,13 +10,12 @@ use lib.ListN.{length, take}
 use lib.Dec.{eqb}
 use Rattle.tariff.specs.declared.Counts.{Counts}
 use Rattle.roll.specs.declared.Line.{Line}
-use Rattle.roll.specs.declared.Line.the-variants.{Charged, Refused}
+use Rattle.roll.specs.declared.Line.the-variants.{Charged, Both, Refused}
 use Rattle.roll.specs.declared.Step.{Step}
 use Rattle.roll.specs.declared.Step.the-variants.{End, More, Record, Broken}
-use Rattle.statement.specs.Contracts.{mostCents}
 use Rattle.settle.specs.Contracts.{Ready}
 use Rattle.roll.specs.Pieces.{stepOf}
-use Rattle.roll.specs.Contracts.{lineCents, stepCents, Stepped}
+use Rattle.roll.specs.Contracts.{lineCents, stepCents, mostLineCents, Stepped}
 use Rattle.roll.proofs.Starts.{record-within, more-short}
 use Rattle.lines.specs.declared.turns.Tally.{Tally}
 use Rattle.lines.specs.declared.turns.Turn.{Turn}
@@ -24,7 +23,7 @@ use Rattle.lines.specs.declared.turns.Turn.the-variants as turn
 use Rattle.lines.specs.Text.{lineText}
 use Rattle.roll.specs.Lines.{mostRecords}
 use Rattle.lines.specs.Turns.{records, counted, tailOf, Effect, asks, puts, ends, lineEffect, effectOf}
-use Rattle.lines.specs.Contracts.{mostLine, mostTurn, Behind, CentsFit, Counting, Counted, Did, asked, put, ended, LineTaken, Range, Turned}
+use Rattle.lines.specs.Contracts.{mostLine, mostRecord, mostTurn, Behind, CentsFit, Counting, Counted, Did, asked, put, ended, LineTaken, Range, Turned}
 use Rattle.lines.proofs.Puts.{behind-join, behind-same}
 
 -- A run that goes on has not come to its last record.
@@ -50,7 +49,7 @@ module _ (tally : Tally) (line : Line) (used : ℕ) (last : Bool) where
   module _ (after : Tally) (c : Counted tally line after) where
     pub last-taken :
         {a b d : List ℕ} {place middle end : ℕ} → last || eqb (records after) mostRecords ≡ true
-        → Behind (lineText (records after) line) mostLine a place b middle → Behind (tailOf after) mostLine b middle d end
+        → Behind (lineText (records after) line) mostRecord a place b middle → Behind (tailOf after) mostLine b middle d end
         → LineTaken tally line used last a place d (turn.Over end)
     last-taken e x y =
         let tail = behind-join x y in
@@ -58,7 +57,7 @@ module _ (tally : Tally) (line : Line) (used : ℕ) (last : Bool) where
 
     pub on-taken :
         {a b : List ℕ} {place end : ℕ} → last || eqb (records after) mostRecords ≡ false
-        → Behind (lineText (records after) line) mostLine a place b end → LineTaken tally line used last a place b (turn.On used end after)
+        → Behind (lineText (records after) line) mostRecord a place b end → LineTaken tally line used last a place b (turn.On used end after)
     on-taken e x = record { did = rw (on-effect (rw (c .is) at e)) (rw (c .is) (put (rw (c .is) at x))); cents = rw (c .is) at (c .cents) }
 
 -- ---- What a turn leaves is in range.
@@ -76,7 +75,8 @@ ended-range piece more tally text (ended x) = x .room
 
 pub counted-one : (tally : Tally) (line : Line) → records (counted tally line) ≡ records tally + 1
 unfolding counted
-counted-one tally (Charged area km minutes opening cents) = omega arith
+counted-one tally (Charged entry) = omega arith
+counted-one tally (Both one other) = omega arith
 counted-one tally (Refused refusal) = omega arith
 
 line-range :
@@ -137,8 +137,8 @@ module _ {tariff : List ℕ} {counts : Counts} {book piece : List ℕ} {more : B
         }
 
 -- what a record's line says
-pub record-cents : {s : Step} (line : Line) (used : ℕ) → stepCents s ≤ mostCents → s ≡ Record line used → lineCents line ≤ mostCents
-record-cents line used range is = subst (λ (t : Step). stepCents t ≤ mostCents) is range
+pub record-cents : {s : Step} (line : Line) (used : ℕ) → stepCents s ≤ mostLineCents → s ≡ Record line used → lineCents line ≤ mostLineCents
+record-cents line used range is = subst (λ (t : Step). stepCents t ≤ mostLineCents) is range
 
 -- ---- What was done, by the turn's answer.
 
@@ -148,7 +148,7 @@ module _ {before : List ℕ} {place : ℕ} {after : List ℕ} where
 
   pub put-by :
       {d : Effect} {used end : ℕ} {tally : Tally} → Did before place after d (turn.On used end tally)
-      → (text : List ℕ) × (d ≡ puts used text tally) × Behind text mostLine before place after end
+      → (text : List ℕ) × (d ≡ puts used text tally) × Behind text mostRecord before place after end
   put-by (put x) = (_, refl, x)
 
   pub ended-by : {d : Effect} {end : ℕ} → Did before place after d (turn.Over end) → (text : List ℕ) × (d ≡ ends text) × Behind text mostTurn before place after end

@@ -6,21 +6,25 @@ use mathlib.Core.List.{List, _++_}
 use lib.ListN.{length, take, drop}
 use Rattle.tariff.specs.declared.Counts.{Counts}
 use Rattle.roll.specs.declared.Line.{Line}
-use Rattle.statement.specs.Contracts.{mostCents}
+use Rattle.statement.specs.Record.{mostParts}
 use Rattle.settle.specs.Contracts.{Ready}
 use Rattle.roll.specs.Pieces.{stepOf, bookStep}
+use Rattle.roll.specs.Contracts.{mostLineCents}
 use Rattle.lines.specs.declared.turns.Tally.{Tally}
 use Rattle.lines.specs.declared.turns.Turn.{Turn}
 use Rattle.lines.specs.declared.turns.Turn.the-variants.{More, On, Over}
 use Rattle.roll.specs.Lines.{mostRecords}
 use Rattle.lines.specs.Turns.{records, counted, Effect, asks, puts, ends, lineEffect, effectOf}
 
--- a line, or the tail, takes at most so many bytes, and a turn at most both
+-- a part's line, or the tail, takes at most so many bytes; a record has one for each part; and a turn puts these and the tail
 abbrev pub mostLine : ℕ
 mostLine = 128
 
+abbrev pub mostRecord : ℕ
+mostRecord = mostParts * mostLine
+
 abbrev pub mostTurn : ℕ
-mostTurn = 256
+mostTurn = mostRecord + mostLine
 
 -- from `start` on stand the text, and behind it what stood from `end` on; it took at most so many places
 pub record Before (text : List ℕ) (most : ℕ) (before : List ℕ) (end : ℕ) (after : List ℕ) (start : ℕ) : Type 0 where
@@ -34,9 +38,9 @@ pub record Behind (text : List ℕ) (most : ℕ) (before : List ℕ) (place : �
   pub order : place ≤ end
   pub room : end ≤ place + most
 
--- each record has added what a line can say at most
+-- each record has added what its parts can say at most
 abbrev pub CentsFit : Tally → Type 0
-CentsFit tally = tally .cents ≤ records tally * mostCents
+CentsFit tally = tally .cents ≤ records tally * mostLineCents
 
 -- a record may come
 pub record Counting (tally : Tally) : Type 0 where
@@ -51,7 +55,7 @@ pub record Counted (tally : Tally) (line : Line) (r : Tally) : Type 0 where
 -- what a turn does stands in the output, and in its answer
 pub data Did (before : List ℕ) (place : ℕ) (after : List ℕ) : Effect → Turn → Type 0 where
   asked : take place after ≡ take place before → Did before place after asks More
-  put : {used : ℕ} {text : List ℕ} {tally : Tally} {end : ℕ} → Behind text mostLine before place after end
+  put : {used : ℕ} {text : List ℕ} {tally : Tally} {end : ℕ} → Behind text mostRecord before place after end
       → Did before place after (puts used text tally) (On used end tally)
   ended : {text : List ℕ} {end : ℕ} → Behind text mostTurn before place after end → Did before place after (ends text) (Over end)
 
@@ -64,7 +68,7 @@ pub record LineTaken (tally : Tally) (line : Line) (used : ℕ) (last : Bool) (o
 abbrev pub Range : List ℕ → Bool → Tally → ℕ → Turn → Type 0
 Range piece more tally place More = (more ≡ true) × (length piece < 1026)
 Range piece more tally place (On used end after) =
-    (used ≤ length piece) × ((end ≤ place + mostLine) × (Counting after × (records after ≡ records tally + 1)))
+    (used ≤ length piece) × ((end ≤ place + mostRecord) × (Counting after × (records after ≡ records tally + 1)))
 Range piece more tally place (Over end) = end ≤ place + mostTurn
 
 pub record Turned

@@ -5,8 +5,9 @@ use Prim.Native.String as string
 use mathlib.Core.Bool.{cond}
 use mathlib.Core.List.{List, [], _∷_, _++_}
 use lib.Dec.{eqb}
+use Rattle.roll.specs.declared.Entry.{Entry}
 use Rattle.roll.specs.declared.Line.{Line}
-use Rattle.roll.specs.declared.Line.the-variants.{Charged, Refused}
+use Rattle.roll.specs.declared.Line.the-variants.{Charged, Both, Refused}
 
 -- ---- Words and numbers.
 
@@ -38,9 +39,15 @@ unfoldable pub spaced : List ℕ → List ℕ
 spaced [] = bytes "\n"
 spaced (n ∷ numbers) = (bytes " " ++ decimal n) ++ spaced numbers
 
--- an accepted trip's number, area, kilometres, minutes, opening minute and cents; a refused one's number and refusal
+-- an accepted trip's number, and a part's area, kilometres, minutes, opening minute and cents
+unfoldable pub entryText : ℕ → Entry → List ℕ
+entryText number entry =
+    decimal number ++ spaced (entry .area ∷ entry .km ∷ entry .minutes ∷ entry .opening ∷ entry .cents ∷ [])
+
+-- an accepted trip's one part; or its two, one line behind the other under the one number; a refused one's number and refusal
 unfoldable pub lineText : ℕ → Line → List ℕ
-lineText number (Charged area km minutes opening cents) = decimal number ++ spaced (area ∷ km ∷ minutes ∷ opening ∷ cents ∷ [])
+lineText number (Charged entry) = entryText number entry
+lineText number (Both one other) = entryText number one ++ entryText number other
 lineText number (Refused refusal) = decimal number ++ bytes " refused " ++ decimal refusal ++ bytes "\n"
 
 -- ---- R16.7: the last line.
@@ -49,20 +56,23 @@ unfoldable pub tailText : ℕ → ℕ → ℕ → List ℕ
 tailText accepted refused cents =
     bytes "accepted " ++ decimal accepted ++ bytes " refused " ++ decimal refused ++ bytes " cents " ++ decimal cents ++ bytes "\n"
 
--- how many lines are of accepted trips, how many of refused ones, and all their cents
+-- how many trips are accepted, each as one whether it has one part or two; how many are refused; and all their cents
 unfoldable pub acceptedOf : List Line → ℕ
 acceptedOf [] = 0
-acceptedOf (Charged area km minutes opening cents ∷ lines) = 1 + acceptedOf lines
+acceptedOf (Charged entry ∷ lines) = 1 + acceptedOf lines
+acceptedOf (Both one other ∷ lines) = 1 + acceptedOf lines
 acceptedOf (Refused refusal ∷ lines) = acceptedOf lines
 
 unfoldable pub refusedOf : List Line → ℕ
 refusedOf [] = 0
-refusedOf (Charged area km minutes opening cents ∷ lines) = refusedOf lines
+refusedOf (Charged entry ∷ lines) = refusedOf lines
+refusedOf (Both one other ∷ lines) = refusedOf lines
 refusedOf (Refused refusal ∷ lines) = 1 + refusedOf lines
 
 unfoldable pub centsOf : List Line → ℕ
 centsOf [] = 0
-centsOf (Charged area km minutes opening cents ∷ lines) = cents + centsOf lines
+centsOf (Charged entry ∷ lines) = entry .cents + centsOf lines
+centsOf (Both one other ∷ lines) = one .cents + other .cents + centsOf lines
 centsOf (Refused refusal ∷ lines) = centsOf lines
 
 -- ---- The text of a roll's lines.

@@ -5,7 +5,7 @@ use mathlib.Core.List.{List, _++_}
 use lib.Dec.{eqb}
 use Rattle.roll.specs.Lines.{mostRecords}
 use Rattle.roll.specs.declared.Line.{Line}
-use Rattle.roll.specs.declared.Line.the-variants.{Charged, Refused}
+use Rattle.roll.specs.declared.Line.the-variants.{Charged, Both, Refused}
 use Rattle.roll.specs.declared.Step.{Step}
 use Rattle.roll.specs.declared.Step.the-variants.{End, More, Record, Broken}
 use Rattle.lines.specs.declared.turns.Tally.{Tally}
@@ -15,10 +15,12 @@ use Rattle.lines.specs.Text.{lineText, tailText}
 abbrev pub records : Tally → ℕ
 records tally = tally .accepted + tally .refused
 
--- a tally with a line more
+-- a tally with a record more: two parts are one accepted trip
 unfoldable pub counted : Tally → Line → Tally
-counted tally (Charged area km minutes opening cents) =
-    record { accepted = tally .accepted + 1; refused = tally .refused; cents = tally .cents + cents }
+counted tally (Charged entry) =
+    record { accepted = tally .accepted + 1; refused = tally .refused; cents = tally .cents + entry .cents }
+counted tally (Both one other) =
+    record { accepted = tally .accepted + 1; refused = tally .refused; cents = tally .cents + one .cents + other .cents }
 counted tally (Refused refusal) = record { accepted = tally .accepted; refused = tally .refused + 1; cents = tally .cents }
 
 -- the last line's text, of a tally

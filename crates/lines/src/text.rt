@@ -4,13 +4,14 @@ use crate::digits::put_long_before;
 use crate::digits::put_long_spaced_before;
 use crate::digits::put_spaced_before;
 use crate::turns::Tally;
+use roll::Entry;
 use roll::Line;
 ghost use Prim.Native.Nat.{_+_, _≤_};
 ghost use mathlib.Core.List.{_++_};
 ghost use lib.ListN.{length};
-ghost use Rattle.roll.specs.declared.Line.the-variants.{Charged};
-ghost use Rattle.lines.specs.Text.{decimal, header, lineText, tailText, faultText};
-ghost use Rattle.lines.specs.Contracts.{mostLine, Behind};
+ghost use Rattle.roll.specs.declared.Line.the-variants.{Refused};
+ghost use Rattle.lines.specs.Text.{decimal, header, entryText, lineText, tailText, faultText};
+ghost use Rattle.lines.specs.Contracts.{mostLine, mostRecord, Behind};
 
 fn put_text(out: &mut [u8], place: usize, text: &[u8]) -> usize
     requires { ⌜ place + length (now text) ≤ length (now out) ⌝ }
@@ -49,48 +50,43 @@ pub fn put_header(out: &mut [u8]) -> usize
     put_text(out, 0, b"trip area km min open cents\n")
 }
 
-// The line of an accepted trip, put together from its end on and then copied.
-fn put_charged(
-    out: &mut [u8],
-    place: usize,
-    number: u32,
-    area: u8,
-    km: u16,
-    minutes: u16,
-    opening: u32,
-    cents: u64,
-) -> usize
+// The line of a part, put together from its end on and then copied.
+fn put_charged(out: &mut [u8], place: usize, number: u32, entry: Entry) -> usize
     requires { ⌜ place + mostLine ≤ length (now out) ⌝ }
-    ensures { λ r. ⌜ Behind (lineText number (Charged area km minutes opening cents)) mostLine (now (out .entry)) place (now (out .exit)) r ⌝ }
+    ensures { λ r. ⌜ Behind (entryText number entry) mostLine (now (out .entry)) place (now (out .exit)) r ⌝ }
 {
     let mut text = [b'\n'; 128];
-    let at5 = put_long_spaced_before(&mut text, 127, cents);
-    let at4 = put_spaced_before(&mut text, at5, opening);
-    let at3 = put_spaced_before(&mut text, at4, minutes as u32);
-    let at2 = put_spaced_before(&mut text, at3, km as u32);
-    let at1 = put_spaced_before(&mut text, at2, area as u32);
+    let at5 = put_long_spaced_before(&mut text, 127, entry.cents);
+    let at4 = put_spaced_before(&mut text, at5, entry.opening);
+    let at3 = put_spaced_before(&mut text, at4, entry.minutes as u32);
+    let at2 = put_spaced_before(&mut text, at3, entry.km as u32);
+    let at1 = put_spaced_before(&mut text, at2, entry.area as u32);
     let start = put_before(&mut text, at1, number);
     put_text(out, place, &text[start..])
 }
 
-// The line of a record: its number, and what the library says of it.
-pub fn put_line(out: &mut [u8], place: usize, number: u32, line: Line) -> usize
+// The line of a refused record.
+fn put_refused(out: &mut [u8], place: usize, number: u32, refusal: u64) -> usize
     requires { ⌜ place + mostLine ≤ length (now out) ⌝ }
-    ensures { λ r. ⌜ Behind (lineText number line) mostLine (now (out .entry)) place (now (out .exit)) r ⌝ }
+    ensures { λ r. ⌜ Behind (lineText number (Refused refusal)) mostLine (now (out .entry)) place (now (out .exit)) r ⌝ }
+{
+    let start = put_number(out, place, number as u64);
+    let end = put_named(out, start, b" refused ", refusal);
+    put_text(out, end, b"\n")
+}
+
+// What is printed of a record: its number, and what the library says of it; two parts have a line each under the one number.
+pub fn put_line(out: &mut [u8], place: usize, number: u32, line: Line) -> usize
+    requires { ⌜ place + mostRecord ≤ length (now out) ⌝ }
+    ensures { λ r. ⌜ Behind (lineText number line) mostRecord (now (out .entry)) place (now (out .exit)) r ⌝ }
 {
     match line {
-        Line::Charged {
-            area,
-            km,
-            minutes,
-            opening,
-            cents,
-        } => put_charged(out, place, number, area, km, minutes, opening, cents),
-        Line::Refused(refusal) => {
-            let start = put_number(out, place, number as u64);
-            let end = put_named(out, start, b" refused ", refusal);
-            put_text(out, end, b"\n")
+        Line::Charged(entry) => put_charged(out, place, number, entry),
+        Line::Both(one, other) => {
+            let next = put_charged(out, place, number, one);
+            put_charged(out, next, number, other)
         }
+        Line::Refused(refusal) => put_refused(out, place, number, refusal),
     }
 }
 

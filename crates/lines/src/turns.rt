@@ -8,13 +8,12 @@ use roll::next;
 use tariff::Counts;
 ghost use Prim.Native.Nat.{_+_, _≤_};
 ghost use lib.ListN.{length};
-ghost use Rattle.statement.specs.Contracts.{mostCents};
 ghost use Rattle.settle.specs.Contracts.{Ready};
-ghost use Rattle.roll.specs.Contracts.{lineCents};
+ghost use Rattle.roll.specs.Contracts.{lineCents, mostLineCents};
 ghost use Rattle.lines.specs.Contracts.{mostTurn, Counting, Counted, LineTaken, Turned};
 
-// The room that a turn takes at most: a line, and the tail behind it.
-pub const ROOM: usize = 256;
+// The room that a turn takes at most: the lines of two parts, and the tail behind them.
+pub const ROOM: usize = 384;
 
 // The records so far, and the sum of their charges.
 pub struct Tally {
@@ -27,7 +26,7 @@ pub struct Tally {
 pub enum Turn {
     // the record is not whole yet, and more can come
     More,
-    // a record was settled: the bytes that it used, the place behind its line, and the tally with it
+    // a record was settled: the bytes that it used, the place behind what was put of it, and the tally with it
     On {
         used: usize,
         end: usize,
@@ -39,25 +38,24 @@ pub enum Turn {
     },
 }
 
-// One record more.
+// One record more, of one part or of two.
 fn count(tally: Tally, line: Line) -> Tally
-    requires { ⌜ Counting tally × (lineCents line ≤ mostCents) ⌝ }
+    requires { ⌜ Counting tally × (lineCents line ≤ mostLineCents) ⌝ }
     ensures { λ r. ⌜ Counted tally line r ⌝ }
 {
     let accepted = tally.accepted;
     let refused = tally.refused;
     let cents = tally.cents;
     match line {
-        Line::Charged {
-            area: _,
-            km: _,
-            minutes: _,
-            opening: _,
-            cents: charge,
-        } => Tally {
+        Line::Charged(entry) => Tally {
             accepted: accepted + 1,
             refused,
-            cents: cents + charge,
+            cents: cents + entry.cents,
+        },
+        Line::Both(one, other) => Tally {
+            accepted: accepted + 1,
+            refused,
+            cents: cents + one.cents + other.cents,
         },
         Line::Refused(_) => Tally {
             accepted,
@@ -67,7 +65,7 @@ fn count(tally: Tally, line: Line) -> Tally
     }
 }
 
-// A record's line behind the others'. The run is over with the last record, and the tail then stands behind its line.
+// What is printed of a record, behind the others. The run is over with the last record, and the tail then stands behind it.
 fn take_line(
     out: &mut [u8],
     place: usize,
@@ -76,7 +74,7 @@ fn take_line(
     used: usize,
     last: bool,
 ) -> Turn
-    requires { ⌜ (place + mostTurn ≤ length (now out)) × (Counting tally × (lineCents line ≤ mostCents)) ⌝ }
+    requires { ⌜ (place + mostTurn ≤ length (now out)) × (Counting tally × (lineCents line ≤ mostLineCents)) ⌝ }
     ensures { λ r. ⌜ LineTaken tally line used last (now (out .entry)) place (now (out .exit)) r ⌝ }
 {
     let after = count(tally, line);

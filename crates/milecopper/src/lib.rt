@@ -18,8 +18,8 @@ fn encoded(answer: Answer) -> u64
     }
 }
 
-// Settles a trip: its charge record goes to the start of the statement, and the book is brought up to date.
-// Accepted: the number of bytes written. Refused: the refusal's number × 2^32 + its place, and neither slice is touched.
+// Settles a trip: its charge records, one or two, go to the start of the statement, and the book is brought up to date.
+// Accepted: the number of bytes written, at most 274. Refused: the refusal's number × 2^32 + its place, and neither slice is touched.
 #[no_mangle]
 pub extern "C" fn milecopper_settle(
     tariff: &[u8],

@@ -1,28 +1,34 @@
 -- Refusals and acceptance: what each says, and that each is given exactly then; and that what comes back is determined.
 -- Assumes nothing.
-use Prim.Native.Nat.{ℕ, _+_, _-_, _*_, _/_, _%_, _^_, _≤_, _<_}
-use native.Mathlib.Nat.{zero-add}
+use Prim.Native.Nat.{ℕ, suc, _+_, _-_, _/_, _%_, _^_, _≤_, _<_}
 use native.Mathlib.Omega.{arith}
 use mathlib.Core.Path.{_≡_, refl, sym, ap, subst, _∙_}
 use mathlib.Core.Logic.{_↔_, ⊎-elim}
 use mathlib.Core.Bool.{true}
 use mathlib.Core.List.{List, [], _∷_, append-nil}
-use lib.ListN.{length, getD}
+use lib.ListN.{length, getD, length-append}
 use Rattle.tariff.specs.declared.Counts.{Counts}
 use Rattle.tariff.specs.Layout.{longestTariff}
 use Rattle.tariff.specs.Scan.{Passed, FaultSays}
 use Rattle.tariff.specs.Scan as scan
 use Rattle.tariff.proofs.Faultless.{faultless}
 use Rattle.tariff.proofs.Faults.{fault-exactly, fault-number, fault-most}
-use Rattle.trip.specs.Record.{countAt}
+use Rattle.trip.specs.Record.{classAt, levelAt, partyAt, countAt}
 use Rattle.trip.specs.Moments.{checkoutOf}
 use Rattle.trip.specs.Trips.{tripOf}
+use Rattle.trip.proofs.Ranges.{PartyRanges}
 use Rattle.trip.proofs.Clear.{good-fields}
 use Rattle.fare.specs.declared.Ride.{Ride}
-use Rattle.fare.specs.Rides.{rideOf}
-use Rattle.fare.proofs.Distance.{km-holds, km-least, km-range}
-use Rattle.fare.proofs.Stops.{stop-there, area-of-stops}
+use Rattle.fare.specs.declared.Breaking.{Breaking}
+use Rattle.fare.specs.declared.Breaking.the-variants.{Unbroken, At}
+use Rattle.fare.specs.Rides.{areaOfStops, AreaOfStops, rideBetween, rideOf}
+use Rattle.fare.specs.Parts.{breakOf, firstPart, secondPart}
+use Rattle.fare.specs.Contracts.{Riding, EachRide}
+use Rattle.fare.proofs.Stops.{area-of-stops, least-between}
+use Rattle.fare.proofs.Breaks.{broken-says, unbroken-says, broken-between}
+use Rattle.fare.proofs.PartLaws.{one-ride, two-rides, few-rides}
 use Rattle.fare.proofs.GoodTrips.{riding}
+use Rattle.book.specs.declared.Window.{Window}
 use Rattle.book.specs.Windows.{inWindow}
 use Rattle.book.specs.Words.{coverWord}
 use Rattle.book.specs.Charging.{carries, placeOf, chargesOf}
@@ -30,23 +36,22 @@ use Rattle.book.specs.InWords.{ChargeSays, BicycleSays}
 use Rattle.book.specs.Contracts.{Rideable}
 use Rattle.book.specs.Posting.{posted}
 use Rattle.book.proofs.SoundLaws.{sound-has}
-use Rattle.book.proofs.SoundAgain.{WindowRight, window-right}
+use Rattle.book.proofs.SoundAgain.{WindowRight, window-right, posted-sound}
 use Rattle.book.proofs.ChargeLaws.{charges-length, adult-stands, child-stands, bicycle-stands, charges-most, cover-known}
 use Rattle.book.proofs.PostedLaws.{place-there, rider-stands}
 use Rattle.book.proofs.InWords.{charge-says, bicycle-says}
-use Rattle.book.proofs.GoodRides.{apart-most, good-ride}
-use Rattle.statement.specs.Record.{Part, sizeWith, recordOf, statementOf, Recordable}
+use Rattle.book.proofs.GoodRides.{good-ride, good-first, good-second, good-rides}
+use Rattle.statement.specs.Record.{Part, sizeWith, recordSize, recordOf, statementOf, Recordable}
 use Rattle.statement.specs.Reading.{chargeIn}
 use Rattle.statement.specs.Contracts.{StandsAt}
-use Rattle.statement.proofs.Charges.{length-record, one-part as one-record}
-use Rattle.statement.proofs.Records.{long-is, kind-is, opening-is, area-is, km-is, minutes-is, charge-is}
-use Rattle.settle.specs.Refusals.{refusal, lastRefusal, rows}
-use Rattle.settle.specs.Outcome.{Outcome, refused, accepted, partOf, acceptedTrip, settled, answerOf, Settled}
+use Rattle.statement.proofs.Charges.{length-record, one-part}
+use Rattle.statement.proofs.Records.{long-is, kind-is, opening-is, area-is, km-is, minutes-is, charge-is, second-stands}
+use Rattle.settle.specs.Refusals.{lastRefusal, rows}
+use Rattle.settle.specs.Outcome.{Outcome, refused, accepted, partOf, oneMore, partsOf, acceptedTrip, settled, answerOf, Settled}
 use Rattle.settle.proofs.Rows.{first-holds, first-range, rows-range}
-use Rattle.settle.proofs.Parts.{one-part, one-posted}
 use Rattle.settle.proofs.Ways.{refused-first, clear-first, NoneHolds, no-row, fault-way, refused-way, accepted-way}
 use Rattle.promises.specs.Conditions.{
-  tripRide,
+  tripRides,
   tripWindow,
   condition,
   NoCondition,
@@ -54,24 +59,36 @@ use Rattle.promises.specs.Conditions.{
   by-tariff,
   by-others,
   AcceptedBy,
+  ridesFor,
+  minutesOf,
+  rideOn,
   RecordSays,
+  StatementSays,
+  as-one,
+  as-two,
 }
 use Rattle.promises.proofs.Refusing.{first-exactly, none-exactly, counts-are, no-fault, Answered, refusing, accepting, answered}
+use Rattle.promises.proofs.RideLaws.{right-again}
 
--- ---- What the record says.
+-- ---- What a record says.
 
--- where no row holds: the book is sound, the trip good and on time, its window not full, and there is room for the record
+-- where no row holds: the book is sound, the trip good and on time, its window not full, and there is room for its records
 pub clear :
     {tariff book bytes : List ℕ} {room : ℕ} {new : List ℕ} {parts : List Part} (a : AcceptedBy tariff book bytes room new parts)
     → NoneHolds tariff (a .counts) book bytes room
 clear {tariff} {book} {bytes} {room} a =
     no-row tariff (a .counts) book bytes room (none-exactly tariff (a .counts) book bytes room .1 (a .none))
 
--- its ride, and its window
-pub charged-ride :
+-- each of its rides can be charged, there is one at least, and its window is right for the first
+pub charged-rides :
     {tariff book bytes : List ℕ} {room : ℕ} {new : List ℕ} {parts : List Part} (a : AcceptedBy tariff book bytes room new parts)
-    → Rideable tariff (a .counts) book (tripRide tariff (a .counts) bytes)
-charged-ride {tariff} {book} {bytes} a = good-ride tariff (a .counts) book bytes (a .read) (clear a .sound-book) (clear a .good)
+    → EachRide (Rideable tariff (a .counts) book) (tripRides tariff (a .counts) bytes)
+charged-rides {tariff} {book} {bytes} a = good-rides tariff (a .counts) book bytes (a .read) (clear a .sound-book) (clear a .good)
+
+pub some-rides :
+    {tariff book bytes : List ℕ} {room : ℕ} {new : List ℕ} {parts : List Part} (a : AcceptedBy tariff book bytes room new parts)
+    → 1 ≤ length (tripRides tariff (a .counts) bytes)
+some-rides {tariff} {bytes = bytes} a = few-rides tariff (a .counts) bytes (tripOf bytes) .0
 
 pub right-window :
     {tariff book bytes : List ℕ} {room : ℕ} {new : List ℕ} {parts : List Part} (a : AcceptedBy tariff book bytes room new parts)
@@ -80,115 +97,205 @@ right-window {tariff} {book} {bytes} a =
     let c = clear a in
     let fields = good-fields (c .good) in
     window-right (sound-has book (a .counts .areas) (c .sound-book)) (fields .forward) (fields .short) (fields .range) (c .on-time)
-    (tripWindow book bytes) refl (c .few)
+    (tripWindow book bytes) refl (omega (arith, c .few, some-rides a))
 
--- an accepted trip's part, and its record at the start of the bytes written
-module _ {tariff book bytes : List ℕ} {room : ℕ} {new : List ℕ} {parts : List Part} (a : AcceptedBy tariff book bytes room new parts) where
-  abbrev ride : Ride
-  ride = tripRide tariff (a .counts) bytes
+-- a part for each ride
+parts-rides :
+    (tariff : List ℕ) (counts : Counts) (checkout : ℕ) (rides : List Ride) (book : List ℕ) (window : Window)
+    → ridesFor (partsOf tariff counts book window checkout rides) ≡ rides
+unfolding partsOf partOf
+parts-rides tariff counts checkout [] book window = refl
+parts-rides tariff counts checkout (ride ∷ rides) book window =
+    ap (λ (more : List Ride). ride ∷ more)
+    (parts-rides tariff counts checkout rides (posted tariff counts book window checkout ride) (oneMore window))
 
+pub rides-are :
+    {tariff book bytes : List ℕ} {room : ℕ} {new : List ℕ} {parts : List Part} (a : AcceptedBy tariff book bytes room new parts)
+    → ridesFor parts ≡ tripRides tariff (a .counts) bytes
+rides-are {tariff} {book} {bytes} a =
+    ap ridesFor (a .parts-is)
+    ∙ parts-rides tariff (a .counts) (checkoutOf bytes) (tripRides tariff (a .counts) bytes) book (tripWindow book bytes)
+
+pub rides-length : (parts : List Part) → length (ridesFor parts) ≡ length parts
+rides-length [] = refl
+rides-length (part ∷ parts) = ap suc (rides-length parts)
+
+pub some-parts :
+    {tariff book bytes : List ℕ} {room : ℕ} {new : List ℕ} {parts : List Part} → AcceptedBy tariff book bytes room new parts → 1 ≤ length parts
+some-parts {parts = parts} a = omega (arith, rides-length parts, ap length (rides-are a), some-rides a)
+
+-- a ride's part, and its record where it stands in a statement
+module _ {tariff : List ℕ} {counts : Counts} {book : List ℕ} {ride : Ride} (ok : Rideable tariff counts book ride) {window : Window} {checkout : ℕ}
+    (right : WindowRight book window checkout) where
   abbrev w : List ℕ
-  w = inWindow (tripWindow book bytes .current) book
+  w = inWindow (window .current) book
 
   abbrev part : Part
-  part = partOf tariff (a .counts) book (tripWindow book bytes) ride
+  part = partOf tariff counts book window ride
 
-  pub parts-are : parts ≡ part ∷ []
-  parts-are = a .parts-is ∙ one-part tariff (a .counts) book bytes (tripOf bytes) (tripWindow book bytes)
-
-  pub new-posted : new ≡ posted tariff (a .counts) book (tripWindow book bytes) (checkoutOf bytes) ride
-  new-posted = a .new-is ∙ one-posted tariff (a .counts) book bytes (tripOf bytes) (tripWindow book bytes)
-
-  rideable : Rideable tariff (a .counts) book ride
-  rideable = charged-ride a
+  record-size : length (recordOf part) ≡ recordSize (ride .party)
+  unfolding partOf
+  record-size = length-record part ∙ ap sizeWith (charges-length tariff counts w ride)
 
   recordable : Recordable part
   unfolding partOf
   recordable =
-      let head = right-window a .head in
-      let few = faultless tariff (a .counts) (a .read) .few-areas in
-      let count = charges-length tariff (a .counts) w ride in
+      let head = right .head in
+      let few = faultless tariff counts (ok .read) .few-areas in
+      let count = charges-length tariff counts w ride in
       record {
         opening = omega arith;
-        area = omega (arith, rideable .area);
-        km = omega (arith, rideable .km);
-        minutes = omega (arith, rideable .minutes);
-        few = omega (arith, rideable .adults, rideable .children, rideable .bicycles);
-        charges = λ i. omega (arith, charges-most rideable (tripWindow book bytes .current) i);
+        area = omega (arith, ok .area);
+        km = omega (arith, ok .km);
+        minutes = omega (arith, ok .minutes);
+        few = omega (arith, ok .adults, ok .children, ok .bicycles);
+        charges = λ i. omega (arith, charges-most ok (window .current) i);
       }
 
-  stands : StandsAt part (statementOf parts) 0
-  stands = record { rest = []; is = ap statementOf parts-are ∙ one-record part ∙ sym (append-nil (recordOf part)) }
+  module _ {statement : List ℕ} {place : ℕ} (stands : StandsAt part statement place) where
+    -- charge i stands at its place
+    charge-stands : (i : ℕ) → i < length (chargesOf tariff counts w ride) → chargeIn statement place i ≡ getD (chargesOf tariff counts w ride) i 0
+    unfolding partOf
+    charge-stands i h = charge-is part statement place stands recordable i h
 
-  -- charge i stands at its place
-  charge-stands : (i : ℕ) → i < length (chargesOf tariff (a .counts) w ride) → chargeIn (statementOf parts) 0 i ≡ getD (chargesOf tariff (a .counts) w ride) i 0
-  unfolding partOf
-  charge-stands i h = charge-is part (statementOf parts) 0 stands recordable i h
+    -- each rider's and each bicycle's charge there is the one of the rules' words
+    rider-pays :
+        (rider : ℕ) → carries (ride .party) rider ≡ true
+        → ChargeSays tariff counts w ride rider (chargeIn statement place (placeOf (ride .party) rider))
+    rider-pays rider on =
+        let there : placeOf (ride .party) rider < length (chargesOf tariff counts w ride) =
+        omega (arith, charges-length tariff counts w ride, place-there ride rider on)
+        in
+        subst (ChargeSays tariff counts w ride rider)
+        (sym (charge-stands (placeOf (ride .party) rider) there ∙ rider-stands tariff counts w ride rider on))
+        (charge-says (faultless tariff counts (ok .read)) w ride (ok .area) rider)
 
-  -- each rider's and each bicycle's charge there is the one of the rules' words
-  rider-pays :
-      (rider : ℕ) → carries (ride .party) rider ≡ true
-      → ChargeSays tariff (a .counts) w ride rider (chargeIn (statementOf parts) 0 (placeOf (ride .party) rider))
-  rider-pays rider on =
-      let there : placeOf (ride .party) rider < length (chargesOf tariff (a .counts) w ride) =
-      omega (arith, charges-length tariff (a .counts) w ride, place-there ride rider on)
-      in
-      subst (ChargeSays tariff (a .counts) w ride rider)
-      (sym (charge-stands (placeOf (ride .party) rider) there ∙ rider-stands tariff (a .counts) w ride rider on))
-      (charge-says (faultless tariff (a .counts) (a .read)) w ride (rideable .area) rider)
+    bicycle-pays :
+        (i : ℕ) → i < ride .party .bicycles
+        → BicycleSays tariff counts (ride .area) (coverWord w i)
+        (chargeIn statement place (1 + ride .party .adults + ride .party .children + i))
+    bicycle-pays i h =
+        let behind = 1 + ride .party .adults + ride .party .children + i in
+        let there : behind < length (chargesOf tariff counts w ride) = omega (arith, charges-length tariff counts w ride) in
+        let sound-words = sound-has book (counts .areas) (ok .sound-book) in
+        subst (BicycleSays tariff counts (ride .area) (coverWord w i))
+        (sym (charge-stands behind there ∙ bicycle-stands tariff counts w ride i h))
+        (bicycle-says (faultless tariff counts (ok .read)) (ride .area) (coverWord w i) (ok .area)
+        (cover-known (window .current) sound-words i (omega (arith, ok .bicycles))))
 
-  bicycle-pays :
-      (i : ℕ) → i < ride .party .bicycles
-      → BicycleSays tariff (a .counts) (ride .area) (coverWord w i)
-      (chargeIn (statementOf parts) 0 (1 + ride .party .adults + ride .party .children + i))
-  bicycle-pays i h =
-      let place = 1 + ride .party .adults + ride .party .children + i in
-      let there : place < length (chargesOf tariff (a .counts) w ride) = omega (arith, charges-length tariff (a .counts) w ride) in
-      let sound-words = sound-has book (a .counts .areas) (rideable .sound-book) in
-      subst (BicycleSays tariff (a .counts) (ride .area) (coverWord w i))
-      (sym (charge-stands place there ∙ bicycle-stands tariff (a .counts) w ride i h))
-      (bicycle-says (faultless tariff (a .counts) (a .read)) (ride .area) (coverWord w i) (rideable .area)
-      (cover-known (tripWindow book bytes .current) sound-words i (omega (arith, rideable .bicycles))))
+-- the smallest area containing the stops of a trip from one to another
+smallest :
+    {tariff : List ℕ} {counts : Counts} {bytes : List ℕ} → Riding tariff counts bytes (countAt bytes 0) → (from to : ℕ) → from ≤ to
+    → to < countAt bytes 0 → AreaOfStops tariff counts bytes from to (areaOfStops tariff counts bytes from (to - from))
+smallest stops from to order inside =
+    let place : from + (to - from) ≡ to = omega arith in
+    rw place at (area-of-stops stops from (to - from) (omega arith))
 
-  said : RecordSays tariff bytes w (a .counts) (tripWindow book bytes .opening .0) (countAt bytes 0 - 1) ride (statementOf parts)
-  unfolding rideOf partOf
+-- the record of a ride from the one to the other
+module _ {tariff : List ℕ} {counts : Counts} {book bytes : List ℕ} (stops : Riding tariff counts bytes (countAt bytes 0)) {from to minutes : ℕ}
+    (order : from ≤ to) (inside : to < countAt bytes 0) (ok : Rideable tariff counts book (rideOn tariff counts bytes from to minutes))
+    {window : Window} {checkout : ℕ} (right : WindowRight book window checkout) {statement : List ℕ} {place : ℕ}
+    (stands : StandsAt (partOf tariff counts book window (rideOn tariff counts bytes from to minutes)) statement place) where
+  said : RecordSays tariff bytes (inWindow (window .current) book) counts (window .opening .0) from to minutes statement place
+  unfolding rideBetween partOf
   said =
-      let counts = a .counts in
-      let fields = good-fields (clear a .good) in
-      let party = fields .ranges in
-      let stops = riding (a .read) (clear a .good) in
-      let last = countAt bytes 0 - 1 in
-      let there : last < countAt bytes 0 = omega arith in
-      let smallest = rw zero-add at (area-of-stops stops 0 last (omega arith)) in
-      let from = stop-there stops 0 (omega arith) in
-      let to = stop-there stops last there in
-      let near = apart-most _ _ (from .ranges) (to .ranges) in
-      let count = charges-length tariff (a .counts) w ride in
-      let s = statementOf parts in
-      let long : length s ≡ sizeWith (length (chargesOf tariff (a .counts) w ride)) = ap length (ap statementOf parts-are ∙ one-record part) ∙ length-record part in
+      let ride = rideOn tariff counts bytes from to minutes in
+      let w = inWindow (window .current) book in
+      let part = partOf tariff counts book window ride in
+      let can = recordable ok right in
+      let count = charges-length tariff counts w ride in
+      let party = partyAt bytes 0 in
+      let area = area-is part statement place stands can in
       record {
-        size = omega arith;
-        long = rw (long-is part s 0 stands recordable) (omega arith);
-        kind = kind-is part s 0 stands recordable;
-        opening = opening-is part s 0 stands recordable;
-        area = rw (area-is part s 0 stands recordable) smallest;
-        km = rw (km-is part s 0 stands recordable)
-            (record { value = refl; holds = km-holds _ near; least = km-least _ near; range = km-range _ near });
-        minutes = minutes-is part s 0 stands recordable;
-        holder = charge-stands 0 (omega arith) ∙ adult-stands tariff (a .counts) w ride 0 (omega arith);
-        adults = λ i h. charge-stands (1 + i) (omega arith) ∙ adult-stands tariff (a .counts) w ride (1 + i) (omega arith);
-        children = λ i h. charge-stands (1 + ride .party .adults + i) (omega arith) ∙ child-stands tariff (a .counts) w ride i h;
+        long = rw (long-is part statement place stands can) (omega arith);
+        kind = kind-is part statement place stands can;
+        opening = opening-is part statement place stands can;
+        area = rw area (smallest stops from to order inside);
+        km = rw (km-is part statement place stands can) (least-between stops from to (omega arith) inside);
+        in-minutes = minutes-is part statement place stands can;
+        holder = charge-stands ok right stands 0 (omega arith) ∙ adult-stands tariff counts w ride 0 (omega arith);
+        adults = λ i h. charge-stands ok right stands (1 + i) (omega arith) ∙ adult-stands tariff counts w ride (1 + i) (omega arith);
+        children = λ i h. charge-stands ok right stands (1 + party .adults + i) (omega arith) ∙ child-stands tariff counts w ride i h;
         bicycles = λ i h.
-            charge-stands (1 + ride .party .adults + ride .party .children + i) (omega arith) ∙ bicycle-stands tariff (a .counts) w ride i h;
-        riders-pay = rider-pays;
-        bicycles-pay = bicycle-pays;
+            rw area (charge-stands ok right stands (1 + party .adults + party .children + i) (omega arith) ∙ bicycle-stands tariff counts w ride i h);
+        riders-pay = rider-pays ok right stands;
+        bicycles-pay = λ i h. rw area (bicycle-pays ok right stands i h);
       }
+
+-- ---- What the statement says.
+
+module _ {tariff book bytes : List ℕ} {room : ℕ} {new : List ℕ} {parts : List Part} (a : AcceptedBy tariff book bytes room new parts) where
+  abbrev counts : Counts
+  counts = a .counts
+
+  abbrev window : Window
+  window = tripWindow book bytes
+
+  stops-there : Riding tariff counts bytes (countAt bytes 0)
+  stops-there = riding (a .read) (clear a .good)
+
+  two-stops : 2 ≤ countAt bytes 0
+  two-stops = good-fields (clear a .good) .ranges .least
+
+  parts-with : (rides : List Ride) → tripRides tariff counts bytes ≡ rides → parts ≡ partsOf tariff counts book window (checkoutOf bytes) rides
+  parts-with rides e = a .parts-is ∙ ap (partsOf tariff counts book window (checkoutOf bytes)) e
+
+  -- one record
+  says-one : breakOf tariff counts bytes (countAt bytes 0) ≡ Unbroken → StatementSays tariff book bytes counts (statementOf parts)
+  unfolding rideOf partsOf rideBetween
+  says-one e =
+      let ride = rideOn tariff counts bytes 0 (countAt bytes 0 - 1) (minutesOf bytes) in
+      let part = partOf tariff counts book window ride in
+      let ok : Rideable tariff counts book ride = good-ride tariff counts book bytes (a .read) (clear a .sound-book) (clear a .good) in
+      let bytes-are : statementOf parts ≡ recordOf part =
+      ap statementOf (parts-with (ride ∷ []) (one-ride tariff counts bytes (tripOf bytes) e)) ∙ one-part part
+      in
+      let stands : StandsAt part (statementOf parts) 0 = record { rest = []; is = bytes-are ∙ sym (append-nil (recordOf part)) } in
+      as-one (unbroken-says stops-there e) (ap length bytes-are ∙ record-size ok (right-window a))
+      (said stops-there (omega arith) (omega (arith, two-stops)) ok (right-window a) stands)
+
+  -- two records
+  says-two : (c : ℕ) → breakOf tariff counts bytes (countAt bytes 0) ≡ At c → StatementSays tariff book bytes counts (statementOf parts)
+  unfolding firstPart secondPart partsOf oneMore statementOf rideBetween
+  says-two c e =
+      let first = rideOn tariff counts bytes 0 c (minutesOf bytes) in
+      let second = rideOn tariff counts bytes c (countAt bytes 0 - 1) 0 in
+      let between = posted tariff counts book window (checkoutOf bytes) first in
+      let part = partOf tariff counts book window first in
+      let next = partOf tariff counts between (oneMore window) second in
+      let right = right-window a in
+      let inside = broken-between stops-there c e in
+      let few = rw (two-rides tariff counts bytes (tripOf bytes) c e) at (clear a .few) in
+      let ok : Rideable tariff counts book first = good-first tariff counts book bytes (a .read) (clear a .sound-book) (clear a .good) c e in
+      let again = right-again ok right (omega arith) in
+      let ok′ : Rideable tariff counts between second = good-second tariff counts between bytes (a .read) (posted-sound ok right) (clear a .good) c e in
+      let bytes-are : statementOf parts ≡ statementOf (part ∷ next ∷ []) =
+      ap statementOf (parts-with (first ∷ second ∷ []) (two-rides tariff counts bytes (tripOf bytes) c e))
+      in
+      let stands : StandsAt part (statementOf parts) 0 = record { rest = statementOf (next ∷ []); is = bytes-are } in
+      let size = record-size ok right in
+      let behind : StandsAt next (statementOf parts) (recordSize (partyAt bytes 0)) =
+      rw (bytes-are, ← size)
+      (subst (λ (s : List ℕ). StandsAt next s (length (recordOf part))) (append-nil (statementOf (part ∷ next ∷ []))) (second-stands part next [] []))
+      in
+      as-two c (broken-says stops-there c e) (ap length bytes-are ∙ two-long part next ∙ rw (size, record-size ok′ again))
+      (said stops-there (omega arith) (omega arith) ok right stands) (said stops-there (omega arith) (omega (arith, two-stops)) ok′ again behind)
+    where
+      two-long : (one other : Part) → length (statementOf (one ∷ other ∷ [])) ≡ length (recordOf one) + length (recordOf other)
+      two-long one other = length-append (recordOf one) (statementOf (other ∷ [])) ∙ ap (λ (s : List ℕ). length (recordOf one) + length s) (one-part other)
+
+  statement-said : StatementSays tariff book bytes counts (statementOf parts)
+  statement-said = go (breakOf tariff counts bytes (countAt bytes 0)) refl
+    where
+      go : (b : Breaking) → breakOf tariff counts bytes (countAt bytes 0) ≡ b → StatementSays tariff book bytes counts (statementOf parts)
+      go (Unbroken) e = says-one e
+      go (At c) e = says-two c e
 
 -- ---- The answers.
 
 module _ (tariff book bytes : List ℕ) (room : ℕ) where
-  -- What an acceptance says: the tariff is faultless, the book is sound, the trip is good, on time and at most the 256th of its window,
-  -- there is room for its record; the new book and the parts are those of its rides.
+  -- What an acceptance says: the tariff is faultless, the book is sound, the trip is good and on time, its window has at most 256 with
+  -- its rides, there is room for their records; the new book and the parts are those of its rides.
   pub accepted-is : {new : List ℕ} {parts : List Part} → settled tariff book bytes room ≡ accepted new parts → AcceptedBy tariff book bytes room new parts
   accepted-is {new} {parts} e = met (rw e at (answered tariff book bytes room))
     where
@@ -237,13 +344,13 @@ module _ (tariff book bytes : List ℕ) (room : ℕ) where
         none-of-table = rw (counts-are tariff (a .counts) (a .read)) (a .none);
       }
 
-  -- The record of an accepted trip says the window's opening, the smallest area containing all its stops, the least kilometres between
-  -- the first and the last, check-out less check-in, and the charges in the order holder, adults, children, bicycles.
+  -- The statement of an accepted trip has one record, or two where it is broken at a change, one behind the other. Each says the window's
+  -- opening, the smallest area containing all its stops, the least kilometres between its first and its last, and the charges in the order
+  -- holder, adults, children, bicycles. The first has check-out less check-in as its minutes; the second 0, and is charged on what the first left.
   pub record-says :
       {new : List ℕ} {parts : List Part} (a : AcceptedBy tariff book bytes room new parts)
-      → RecordSays tariff bytes (inWindow (tripWindow book bytes .current) book) (a .counts) (tripWindow book bytes .opening .0)
-      (countAt bytes 0 - 1) (tripRide tariff (a .counts) bytes) (statementOf parts)
-  record-says a = said a
+      → StatementSays tariff book bytes (a .counts) (statementOf parts)
+  record-says a = statement-said a
 
   -- An acceptance is given exactly when what it says holds.
   pub accepted-exactly : (new : List ℕ) (parts : List Part) → settled tariff book bytes room ≡ accepted new parts ↔ AcceptedBy tariff book bytes room new parts
@@ -274,7 +381,7 @@ module _ (tariff book bytes : List ℕ) (room : ℕ) where
           (refused-way tariff book bytes room counts read
           (refused-first tariff counts book bytes room (first-exactly tariff counts book bytes room why .1 first)))
 
-  -- A refusal's number is 1 to the table's last; its place is at most 13,928, the length of the longest tariff, and 0 for 4 to 12.
+  -- A refusal's number is 1 to the table's last; its place is at most 14,120, the length of the longest tariff, and 0 for 4 to 12.
   pub refused-number :
       {n place : ℕ} → settled tariff book bytes room ≡ refused n place → (1 ≤ n) × (n ≤ lastRefusal) × (place ≤ longestTariff) × (4 ≤ n → place ≡ 0)
   refused-number {n} {place} e = met (refused-is e)
@@ -309,15 +416,18 @@ module _ (tariff book bytes : List ℕ) (room : ℕ) where
       let (low, high, near, none) = refused-number e in
       rw e (omega arith, omega arith, omega arith)
 
-  -- An acceptance answers the bytes written, 17 to 137.
+  -- An acceptance answers the bytes written, 17 to 274.
   pub accepted-answer :
       {new : List ℕ} {parts : List Part} → settled tariff book bytes room ≡ accepted new parts
-      → (17 ≤ answerOf (settled tariff book bytes room)) × (answerOf (settled tariff book bytes room) ≤ 137)
-  accepted-answer {new} {parts} e =
-      let a = accepted-is e in
-      let size = record-says a .size in
-      let carried = charged-ride a in
-      rw e (omega arith, omega arith)
+      → (17 ≤ answerOf (settled tariff book bytes room)) × (answerOf (settled tariff book bytes room) ≤ 274)
+  accepted-answer {new} {parts} e = rw e (go (record-says (accepted-is e)))
+    where
+      party : PartyRanges (classAt bytes 0) (levelAt bytes 0) (partyAt bytes 0) (countAt bytes 0)
+      party = good-fields (clear (accepted-is e) .good) .ranges
+
+      go : StatementSays tariff book bytes (accepted-is e .counts) (statementOf parts) → (17 ≤ length (statementOf parts)) × (length (statementOf parts) ≤ 274)
+      go (as-one whole size says) = (omega (arith, size), omega (arith, size, party))
+      go (as-two c broken size first second) = (omega (arith, size), omega (arith, size, party))
 
 -- Two results that the exported contract allows for the same input are equal: the answer, the book and every byte of the statement.
 pub determined :

@@ -17,13 +17,16 @@ use Rattle.caps.specs.Tree.{within}
 use Rattle.tariff.specs.declared.Counts.{Counts}
 use Rattle.tariff.specs.Areas.{liesWithin, FaultlessTariff}
 use Rattle.tariff.proofs.Faultless.{faultless}
+use Rattle.trip.specs.Record.{countAt}
 use Rattle.trip.specs.Moments.{checkoutOf}
-use Rattle.trip.specs.Trips.{tripOf}
-use Rattle.trip.proofs.Clear.{good-fields}
 use Rattle.fare.specs.declared.Ride.{Ride}
+use Rattle.fare.specs.Parts.{BrokenAt, firstPart}
+use Rattle.fare.specs.Contracts.{EachRide}
+use Rattle.fare.specs.Contracts as each
+use Rattle.fare.proofs.Breaks.{said-broken}
+use Rattle.fare.proofs.GoodTrips.{riding}
 use Rattle.book.specs.declared.Window.{Window}
-use Rattle.book.specs.Words.{word, secondSum, allSum, coverWord}
-use Rattle.book.specs.Sound.{sound}
+use Rattle.book.specs.Words.{word, tripsOf, openingOf, lastOutOf, secondSum, allSum, coverWord}
 use Rattle.book.specs.Windows.{inWindow}
 use Rattle.book.specs.Caps.{treeOf}
 use Rattle.book.specs.Charging.{carries, newCover, chargesOf}
@@ -34,16 +37,16 @@ use Rattle.book.proofs.Trees.{lies-within}
 use Rattle.book.proofs.SoundLaws.{sound-has}
 use Rattle.book.proofs.ChargeLaws.{cover-known}
 use Rattle.book.proofs.PostedLaws.{posted-size, posted-trips, posted-opening, posted-out, posted-sum, posted-cover, posted-uncovered, rider-stands}
-use Rattle.book.proofs.SoundAgain.{WindowRight, window-right, window-room, posted-sound}
+use Rattle.book.proofs.SoundAgain.{WindowRight, window-room, posted-sound}
 use Rattle.book.proofs.InWords.{charge-says, charge-one, cover-says, cover-one}
 use Rattle.book.proofs.BookWords.{each-word, words-same, window-bytes, posted-bytes}
+use Rattle.book.proofs.GoodRides.{good-first}
 use Rattle.statement.specs.Record.{Part}
-use Rattle.settle.specs.declared.refusals.Refusal.the-variants as why
-use Rattle.settle.specs.Rides.{ridesOf}
 use Rattle.settle.specs.Outcome.{partOf, oneMore, partsOf, postedAll}
-use Rattle.promises.specs.Conditions.{tripWindow, condition, AcceptedBy}
+use Rattle.promises.specs.Conditions.{tripRides, tripWindow, AcceptedBy, minutesOf, rideOn, wordsBefore, wordsBetween}
 use Rattle.promises.specs.Books.{CountsIn, Takes, chargeOf, BookSays, BooksSay, none, more}
-use Rattle.promises.proofs.Answers.{clear, charged-ride}
+use Rattle.promises.proofs.RideLaws.{right-again, on-another}
+use Rattle.promises.proofs.Answers.{clear, charged-rides, right-window, some-parts}
 
 -- ---- One ride.
 
@@ -121,83 +124,61 @@ module _ {tariff : List ℕ} {counts : Counts} {book : List ℕ} {ride : Ride} (
         uncovered = λ k h few. posted-uncovered ok window checkout room k h;
       }
 
-  -- the same window, open now, is right for a ride more
-  right-again : window .trips + 2 ≤ 256 → WindowRight new (oneMore window) checkout
-  unfolding oneMore
-  right-again few =
-      let head = right .head in
-      let trips = posted-trips ok window checkout (window-room right) (omega arith) in
-      record {
-        trips = sym trips;
-        used = λ _. omega arith;
-        head = record { some = omega arith; few = omega arith; order = head .order; last = head .last; day = head .day };
-      }
-
 -- ---- The rides of a trip.
-
--- each of some rides can be charged on a book
-pub data Rideables (tariff : List ℕ) (counts : Counts) (book : List ℕ) : List Ride → Type 0 where
-  no-ride : Rideables tariff counts book []
-  one-ride : {ride : Ride} {rides : List Ride} → Rideable tariff counts book ride → Rideables tariff counts book rides
-      → Rideables tariff counts book (ride ∷ rides)
-
--- and so it can on every other sound book
-on-another :
-    {tariff : List ℕ} {counts : Counts} {book : List ℕ} {rides : List Ride} (book′ : List ℕ) → sound book′ (counts .areas) ≡ true
-    → Rideables tariff counts book rides → Rideables tariff counts book′ rides
-on-another book′ right no-ride = no-ride
-on-another book′ right (one-ride ok oks) =
-    one-ride
-    (record {
-      read = ok .read;
-      sound-book = right;
-      area = ok .area;
-      km = ok .km;
-      minutes = ok .minutes;
-      adults = ok .adults;
-      children = ok .children;
-      bicycles = ok .bicycles;
-    })
-    (on-another book′ right oks)
 
 -- What rides leave in the book, one after another, is what the words say, where the window has room for them.
 pub rides-say :
-    {tariff : List ℕ} {counts : Counts} {checkout : ℕ} (rides : List Ride) {book : List ℕ} {window : Window} → Rideables tariff counts book rides
+    {tariff : List ℕ} {counts : Counts} {checkout : ℕ} (rides : List Ride) {book : List ℕ} {window : Window} → EachRide (Rideable tariff counts book) rides
     → (window .trips + 1 ≤ 256 → WindowRight book window checkout) → window .trips + length rides ≤ 256
     → BooksSay tariff counts checkout book window (partsOf tariff counts book window checkout rides)
     (postedAll tariff counts book window checkout rides)
 unfolding partsOf partOf postedAll oneMore
 rides-say [] oks right few = none
-rides-say {tariff} {counts} {checkout} (ride ∷ rides) {book} {window} (one-ride ok oks) right few =
+rides-say {tariff} {counts} {checkout} (ride ∷ rides) {book} {window} (each.more ok oks) right few =
     let here = right (omega arith) in
     more (ride-says ok here)
     (rides-say rides (on-another (posted tariff counts book window checkout ride) (posted-sound ok here) oks)
     (λ room. right-again ok here (omega arith)) (omega arith))
 
+-- The first three words of the book after one part or more of a window.
+pub record HeadSays (window : Window) (checkout parts : ℕ) (new : List ℕ) : Type 0 where
+  pub trips : tripsOf new ≡ window .trips + parts
+  pub opening : openingOf new ≡ window .opening .0
+  pub last-out : lastOutOf new ≡ checkout
+
+pub head-says :
+    {tariff : List ℕ} {counts : Counts} {checkout : ℕ} {book new : List ℕ} {window : Window} (parts : List Part)
+    → BooksSay tariff counts checkout book window parts new → 1 ≤ length parts → HeadSays window checkout (length parts) new
+unfolding oneMore
+head-says [] says some = absurd (omega arith)
+head-says (part ∷ []) (more s none) some = record { trips = s .trips; opening = s .opening; last-out = s .last-out }
+head-says (part ∷ next ∷ parts) (more s rest) some =
+    let after = head-says (next ∷ parts) rest (omega arith) in
+    record { trips = omega (arith, after .trips); opening = after .opening; last-out = after .last-out }
+
 module _ {tariff book bytes : List ℕ} {room : ℕ} {new : List ℕ} {parts : List Part} (a : AcceptedBy tariff book bytes room new parts) where
-  -- the rides of an accepted trip can be charged, and the window has room for them
-  charged-rides : Rideables tariff (a .counts) book (ridesOf tariff (a .counts) bytes (tripOf bytes))
-  unfolding ridesOf
-  charged-rides = one-ride (charged-ride a) no-ride
-
-  window-fits : tripWindow book bytes .trips + length (ridesOf tariff (a .counts) bytes (tripOf bytes)) ≤ 256
-  unfolding condition
-  window-fits =
-      elim (decLt 256 (tripWindow book bytes .trips + length (ridesOf tariff (a .counts) bytes (tripOf bytes)))) [
-        | yes full ↦ absurd (a .none why.FullWindow full)
-        | no fits ↦ omega arith
-      ]
-
   -- What an accepted trip leaves in the book is what the words say, part by part.
   pub book-says : BooksSay tariff (a .counts) (checkoutOf bytes) book (tripWindow book bytes) parts new
   book-says =
-      let c = clear a in
-      let fields = good-fields (c .good) in
       rw (a .new-is, a .parts-is)
-      (rides-say (ridesOf tariff (a .counts) bytes (tripOf bytes)) charged-rides
-      (window-right (sound-has book (a .counts .areas) (c .sound-book)) (fields .forward) (fields .short) (fields .range) (c .on-time)
-      (tripWindow book bytes) refl)
-      window-fits)
+      (rides-say (tripRides tariff (a .counts) bytes) (charged-rides a) (λ room. right-window a) (clear a .few))
+
+  -- Where the trip is broken, the words that its second part is charged on are those that the first leaves.
+  pub between-says :
+      (c : ℕ) → BrokenAt tariff (a .counts) bytes (countAt bytes 0) c
+      → BookSays tariff (a .counts) (wordsBefore book bytes) (tripWindow book bytes) (checkoutOf bytes)
+      (rideOn tariff (a .counts) bytes 0 c (minutesOf bytes))
+      (chargesOf tariff (a .counts) (wordsBefore book bytes) (rideOn tariff (a .counts) bytes 0 c (minutesOf bytes)))
+      (wordsBetween tariff (a .counts) book bytes c)
+  unfolding firstPart
+  between-says c is =
+      let there = riding (a .read) (clear a .good) in
+      let ok = good-first tariff (a .counts) book bytes (a .read) (clear a .sound-book) (clear a .good) c (said-broken there c is) in
+      ride-says ok (right-window a)
+
+  -- So each part counts as one of the window's trips: a broken trip as two. The opening is the window's, the last check-out the trip's.
+  pub book-head : HeadSays (tripWindow book bytes) (checkoutOf bytes) (length parts) new
+  book-head = head-says parts book-says (some-parts a)
 
 -- ---- There is no other.
 

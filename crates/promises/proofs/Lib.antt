@@ -9,3 +9,4 @@ pub mod Alike
 pub mod RunLaws
 pub mod Books
 pub mod RideLaws
+pub mod Broken

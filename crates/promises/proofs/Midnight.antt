@@ -21,7 +21,7 @@ use Rattle.book.specs.Windows.{belongs, windowOf}
 use Rattle.book.proofs.WordLaws.{word-fresh}
 use Rattle.statement.specs.Record.{Part}
 use Rattle.settle.specs.Refusals.{refusal, rows, Found, nothing, found, firstOf}
-use Rattle.settle.specs.Outcome.{Outcome, refused, accepted, acceptedTrip, settled, bookAfter}
+use Rattle.settle.specs.Outcome.{Outcome, accepted, acceptedTrip, settled, bookAfter}
 use Rattle.settle.proofs.Ways.{refused-first, clear-first, fault-way, refused-way, accepted-way}
 use Rattle.settle.specs.Runs.{Offer, bookFrom}
 use Rattle.promises.specs.Runs.{bookOf}

@@ -3,14 +3,15 @@
 -- A run is any list of trips, offered one after another to `settled`, the definition that the exported function's contract cites, from a
 -- fresh book under one faultless tariff. A rider is the account holder (0), a carried adult (1 to 10) or a carried child (11 to 20). The
 -- windows of a run are read off the check-ins and check-outs of its accepted trips alone; a ride's area, class and price are those of the
--- accepted trip's part, and its charge is the one at the rider's place among the part's (specs/Runs.antt). Every beginning of a run is a
--- run: so what is said here of every run holds after each of its trips.
+-- accepted trip's part, and its charge is the one at the rider's place among the part's (specs/Runs.antt). A trip that was broken has two
+-- parts, and is two rides here. Every beginning of a run is a run: so what is said here of every run holds after each of its trips.
 -- Assumes nothing.
 use Prim.Native.Nat.{ℕ, _≤_, _<_}
 use native.Mathlib.Omega.{arith}
-use mathlib.Core.Path.{_≡_, _∙_}
+use mathlib.Core.Path.{_≡_, refl, _∙_}
 use mathlib.Core.Bool.{true, false}
 use mathlib.Core.List.{List, [], _∷_, _++_, List·Memᴰ}
+use lib.ListN.{length}
 use Rattle.caps.specs.Limits.{AtMost}
 use Rattle.caps.specs.Tree.{Tree, IsTree}
 use Rattle.caps.specs.Rides.{
@@ -31,7 +32,7 @@ use Rattle.caps.proofs.OneClass.{order-free, reordered-same}
 use Rattle.tariff.specs.declared.Counts.{Counts}
 use Rattle.tariff.specs.Areas.{areaAt, Read}
 use Rattle.tariff.proofs.Faultless.{faultless}
-use Rattle.book.specs.Words.{freshBook, secondSum, allSum}
+use Rattle.book.specs.Words.{freshBook, tripsOf, secondSum, allSum}
 use Rattle.book.specs.Sound.{sound}
 use Rattle.book.specs.Caps.{secondCap, allCap, treeOf}
 use Rattle.book.specs.Charging.{isChild}
@@ -141,3 +142,10 @@ module _ (tariff : List ℕ) (counts : Counts) (read : Read tariff counts) (ride
 pub book-stays-sound :
     (tariff : List ℕ) (counts : Counts) → Read tariff counts → (run : List Offer) → sound (bookOf tariff run) (counts .areas) ≡ true
 book-stays-sound tariff counts read run = kept tariff counts read 0 (omega arith) run .in-book .sound-book
+
+-- Each part of an accepted trip counts as a trip of its window: the book's first word is the number of the holder's rides in the window that
+-- is open, of which a trip that was broken has two.
+pub parts-count :
+    (tariff : List ℕ) (counts : Counts) → Read tariff counts → (run : List Offer)
+    → tripsOf (bookOf tariff run) ≡ length (ridesOf tariff counts 0 run)
+parts-count tariff counts read run = kept tariff counts read 0 (omega arith) run .in-book .each-counts refl

@@ -3,7 +3,7 @@
 -- Assumes nothing.
 use Prim.Native.Nat.{ℕ, _+_, _<_}
 use native.Mathlib.Omega.{arith}
-use mathlib.Core.Path.{_≡_, refl, sym, _∙_}
+use mathlib.Core.Path.{_≡_, refl, sym}
 use mathlib.Core.Logic.{_↔_}
 use mathlib.Core.List.{List}
 use mathlib.Core.Bool.{Bool, true, false, not, _&&_, false≢true}
@@ -24,18 +24,16 @@ use Rattle.trip.proofs.Known.{seven}
 use Rattle.trip.proofs.Stamps.{eight}
 use Rattle.book.specs.Words.{tripsOf, lastOutOf}
 use Rattle.book.specs.Sound.{sound}
-use Rattle.book.specs.Windows.{tooEarly, windowOf}
-use Rattle.trip.specs.Trips.{tripOf}
+use Rattle.book.specs.Windows.{tooEarly}
 use Rattle.statement.specs.Record.{Part, statementSize}
 use Rattle.settle.specs.declared.refusals.Refusal.{Refusal}
 use Rattle.settle.specs.declared.refusals.Refusal.the-variants as why
-use Rattle.settle.specs.Rides.{ridesOf}
-use Rattle.settle.specs.Refusals.{refusal, rows, Found, nothing, found, firstOf, testOf, First}
+use Rattle.settle.specs.Refusals.{rows, Found, nothing, found, firstOf, testOf, First}
 use Rattle.settle.specs.Outcome.{Outcome, refused, accepted, acceptedTrip, settled}
 use Rattle.settle.proofs.Rows.{rows-distinct}
 use Rattle.settle.proofs.Rows as table
 use Rattle.settle.proofs.Ways.{refused-first, clear-first, fault-way, refused-way, accepted-way}
-use Rattle.promises.specs.Conditions.{countsOf, TooEarly, condition, RefusedBy, by-tariff, by-others, AcceptedBy}
+use Rattle.promises.specs.Conditions.{countsOf, tripRides, tripWindow, TooEarly, condition, RefusedBy, by-tariff, by-others, AcceptedBy}
 
 -- ---- The rows in the rules' words.
 
@@ -68,8 +66,8 @@ module _ (tariff : List ℕ) (counts : Counts) (book trip : List ℕ) (room : �
   words why.WrongStamp = negated _ (eight trip)
   words why.WrongOrder = negated _ (nine (checkinOf trip) (checkoutOf trip))
   words why.TooEarly = ten book (checkinOf trip)
-  words why.FullWindow = below 256 (windowOf book (checkinOf trip) (checkoutOf trip) .trips + length (ridesOf tariff counts trip (tripOf trip)))
-  words why.NoRoom = below room (statementSize (ridesOf tariff counts trip (tripOf trip)))
+  words why.FullWindow = below 256 (tripWindow book trip .trips + length (tripRides tariff counts trip))
+  words why.NoRoom = below room (statementSize (tripRides tariff counts trip))
 
   -- So a refusal is found exactly when its condition is the first of the table to hold, and none where none holds.
   pub first-exactly :

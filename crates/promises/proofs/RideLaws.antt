@@ -5,15 +5,19 @@ use Prim.Native.Nat.{ℕ, _+_, _≤_, _<_}
 use native.Mathlib.Nat.{add-zero}
 use native.Mathlib.Omega.{arith}
 use mathlib.Core.Path.{_≡_, refl, sym, ap, _∙_}
-use mathlib.Core.Bool.{Bool, true, false, cond, _&&_}
+use mathlib.Core.Bool.{Bool, true, false, cond, _&&_, false≢true}
 use mathlib.Core.List.{List, [], _∷_}
+use borrow.Author.Tests.{le-leb}
 use lib.ListN.{length}
 use Rattle.caps.specs.Tree.{Tree, within}
 use Rattle.caps.specs.Rides.{ChargedRide, ChargedInTurn, none, more, allTotal, secondTotal}
 use Rattle.caps.proofs.Charge.{charge-same}
 use Rattle.tariff.specs.declared.Counts.{Counts}
 use Rattle.tariff.proofs.Faultless.{faultless}
+use Rattle.trip.specs.declared.Party.{Party}
 use Rattle.fare.specs.declared.Ride.{Ride}
+use Rattle.fare.specs.Contracts.{EachRide}
+use Rattle.fare.specs.Contracts as each
 use Rattle.book.specs.declared.Window.{Window}
 use Rattle.book.specs.Words.{freshBook, tripsOf, openingOf, pairPlace}
 use Rattle.book.specs.Sound.{sound}
@@ -56,12 +60,14 @@ fresh-sum : (which : Bool) (rider x : ℕ) → sumOf which freshBook rider x ≡
 fresh-sum true rider x = word-fresh (pairPlace rider x)
 fresh-sum false rider x = word-fresh (pairPlace rider x + 1)
 
--- the book is sound, the rider's sums in it are the totals of these rides, and each was charged what the caps had left
+-- the book is sound, the rider's sums in it are the totals of these rides, each was charged what the caps had left, and the holder's are as
+-- many as the book has trips
 pub record Kept (tariff : List ℕ) (counts : Counts) (rider : ℕ) (book : List ℕ) (rides : List ChargedRide) : Type 0 where
   pub sound-book : sound book (counts .areas) ≡ true
   pub sums :
       (which : Bool) (x : ℕ) → x < counts .areas → sumOf which book rider x ≡ totalOf which (treeOf tariff counts (isChild rider)) x rides
   pub charged : ChargedInTurn (treeOf tariff counts (isChild rider)) rides
+  pub each-counts : rider ≡ 0 → tripsOf book ≡ length rides
 
 -- a fresh book has no rides
 pub kept-fresh : (tariff : List ℕ) (counts : Counts) (rider : ℕ) → Kept tariff counts rider freshBook []
@@ -70,6 +76,7 @@ kept-fresh tariff counts rider =
       sound-book = fresh-sound (counts .areas);
       sums = λ which x h. fresh-sum which rider x ∙ sym (total-none which (treeOf tariff counts (isChild rider)) x);
       charged = none;
+      each-counts = λ holder. word-fresh 0;
     }
 
 -- the words that count have the rides of the open window, or none
@@ -78,6 +85,15 @@ kept-window :
     → Kept tariff counts rider book rides → Kept tariff counts rider (inWindow current book) (cond current rides [])
 kept-window true k = k
 kept-window {tariff} {counts} {rider} false k = kept-fresh tariff counts rider
+
+-- their trips are those of the open window, or none
+window-trips : (current : Bool) (book : List ℕ) → tripsOf (inWindow current book) ≡ cond current (tripsOf book) 0
+window-trips true book = refl
+window-trips false book = word-fresh 0
+
+-- the holder is on every trip
+holder-on : (party : Party) → carries party 0 ≡ true
+holder-on party = le-leb 0 (party .adults) (omega arith)
 
 -- ---- One ride.
 
@@ -94,7 +110,7 @@ module _ {tariff : List ℕ} {counts : Counts} {book : List ℕ} {ride : Ride} (
   head-opening = posted-opening ok window checkout (window-room right) (omega (arith, right .head .order, right .head .last))
 
   -- the same window, with one trip more, is right for another ride with the same check-out
-  right-again : window .trips + 2 ≤ 256 → WindowRight new (oneMore window) checkout
+  pub right-again : window .trips + 2 ≤ 256 → WindowRight new (oneMore window) checkout
   unfolding oneMore
   right-again few =
       let head = right .head in
@@ -138,6 +154,7 @@ module _ {tariff : List ℕ} {counts : Counts} {book : List ℕ} {ride : Ride} (
           sums = λ which x h.
               grown which x h ∙ rw off (nothing (counted which (ride .class) && within (treeOf tariff counts false) (ride .area) x) _);
           charged = words .charged;
+          each-counts = λ holder. absurd (false≢true (sym off ∙ rw holder (holder-on (ride .party))));
         }
       where
         nothing : (s : Bool) (n : ℕ) → n + cond s 0 0 ≡ n
@@ -156,6 +173,8 @@ module _ {tariff : List ℕ} {counts : Counts} {book : List ℕ} {ride : Ride} (
               (rider-stands tariff counts w ride rider on
               ∙ charge-same (is-tree (faultless tariff counts (ok .read)) (isChild rider)) _ _ _ _ (words .sums true) (words .sums false) (ride .class)
               (ride .area) _ (ok .area));
+          each-counts = λ holder.
+              omega (arith, head-trips, right .trips, words .each-counts holder, window-trips (window .current) book);
         }
 
     -- So the book after the ride is kept with the rider's rides.
@@ -169,19 +188,24 @@ module _ {tariff : List ℕ} {counts : Counts} {book : List ℕ} {ride : Ride} (
 
 -- ---- Rides, one after another.
 
--- one ride or more, each of which can be charged on every sound book
-pub data AllRideable (tariff : List ℕ) (counts : Counts) : List Ride → Type 0 where
-  one-ride :
-      {ride : Ride} → ((book : List ℕ) → sound book (counts .areas) ≡ true → Rideable tariff counts book ride)
-      → AllRideable tariff counts (ride ∷ [])
-  one-more :
-      {ride : Ride} {later : List Ride} → ((book : List ℕ) → sound book (counts .areas) ≡ true → Rideable tariff counts book ride)
-      → AllRideable tariff counts later → AllRideable tariff counts (ride ∷ later)
-
--- there is one
-some : {tariff : List ℕ} {counts : Counts} {trip : List Ride} → AllRideable tariff counts trip → 1 ≤ length trip
-some (one-ride ok) = omega arith
-some (one-more ok later) = omega arith
+-- rides that can be charged on a book can on every other sound book
+pub on-another :
+    {tariff : List ℕ} {counts : Counts} {book : List ℕ} {rides : List Ride} (book′ : List ℕ) → sound book′ (counts .areas) ≡ true
+    → EachRide (Rideable tariff counts book) rides → EachRide (Rideable tariff counts book′) rides
+on-another book′ right each.none = each.none
+on-another book′ right (each.more ok oks) =
+    each.more
+    (record {
+      read = ok .read;
+      sound-book = right;
+      area = ok .area;
+      km = ok .km;
+      minutes = ok .minutes;
+      adults = ok .adults;
+      children = ok .children;
+      bicycles = ok .bicycles;
+    })
+    (on-another book′ right oks)
 
 -- a book after rides of a window: kept with the rider's rides, and in use since the window's opening
 pub record KeptSince (tariff : List ℕ) (counts : Counts) (rider : ℕ) (book : List ℕ) (rides : List ChargedRide) (opening : ℕ) : Type 0 where
@@ -189,17 +213,17 @@ pub record KeptSince (tariff : List ℕ) (counts : Counts) (rider : ℕ) (book :
   pub in-use : 1 ≤ tripsOf book
   pub since : openingOf book ≡ opening
 
--- The book after the rides is kept with the rider's rides in their parts, behind those that the window had before.
+-- The book after one ride or more is kept with the rider's rides in their parts, behind those that the window had before.
 pub kept-rides :
-    {tariff : List ℕ} {counts : Counts} {rider : ℕ} {trip : List Ride} {book : List ℕ} {rides : List ChargedRide} {window : Window} {checkout : ℕ}
-    → rider < 21 → AllRideable tariff counts trip → Kept tariff counts rider book rides → WindowRight book window checkout
-    → window .trips + length trip ≤ 256
+    {tariff : List ℕ} {counts : Counts} {rider : ℕ} (trip : List Ride) {book : List ℕ} {rides : List ChargedRide} {window : Window} {checkout : ℕ}
+    → rider < 21 → EachRide (Rideable tariff counts book) trip → 1 ≤ length trip → Kept tariff counts rider book rides
+    → WindowRight book window checkout → window .trips + length trip ≤ 256
     → KeptSince tariff counts rider (postedAll tariff counts book window checkout trip)
     (ridesWith tariff counts rider (partsOf tariff counts book window checkout trip) (cond (window .current) rides [])) (window .opening .0)
 unfolding postedAll partsOf ridesWith oneMore
-kept-rides {book = book} known (one-ride can) k right few =
-    let ok = can book (k .sound-book) in
+kept-rides [] known oks some k right few = absurd (omega arith)
+kept-rides (ride ∷ []) known (each.more ok none-left) some k right few =
     record { kept = kept-ride ok right known k; in-use = omega (arith, head-trips ok right); since = head-opening ok right }
-kept-rides {book = book} {window = window} known (one-more {later = later} can all) k right few =
-    let ok = can book (k .sound-book) in
-    kept-rides known all (kept-ride ok right known k) (right-again ok right (omega (arith, some all))) (omega arith)
+kept-rides (ride ∷ next ∷ later) known (each.more ok oks) some k right few =
+    kept-rides (next ∷ later) known (on-another _ (posted-sound ok right) oks) (omega arith) (kept-ride ok right known k)
+    (right-again ok right (omega arith)) (omega arith)

@@ -1,5 +1,5 @@
 -- A roll is a run: its lines, whose text is what the program prints, are those of a run of the roll's records from a fresh book, each
--- offered with room for the largest record. So promise 3 holds of what is printed, in each window.
+-- offered with room for the largest statement. So promise 3 holds of what is printed, in each window.
 -- Assumes nothing.
 use Prim.Native.Nat.{ℕ, zero, suc, _≤_, _<_}
 use mathlib.Core.Path.{_≡_, refl, ap, _∙_}

@@ -10,7 +10,6 @@ use mathlib.Core.Path.{_≡_, refl, sym, ap, subst, _∙_}
 use mathlib.Core.Bool.{Bool, true, false, cond, not, _&&_}
 use mathlib.Core.List.{List, [], _∷_, List·Memᴰ, List·Memᴰ·head, List·Memᴰ·tail, List·Memᴰ·not-nil}
 use borrow.Author.Tests.{leb-true, eq-eqb, ne-eqb}
-use lib.ListN.{length}
 use lib.Dec.{leb, eqb}
 use Rattle.units.specs.Day.{dayMinutes}
 use Rattle.caps.specs.Tree.{Tree}
@@ -19,8 +18,6 @@ use Rattle.tariff.specs.declared.Counts.{Counts}
 use Rattle.tariff.specs.Areas.{Read}
 use Rattle.tariff.proofs.Faultless.{read-one}
 use Rattle.trip.specs.Moments.{checkinOf, checkoutOf}
-use Rattle.trip.specs.Trips.{tripOf}
-use Rattle.trip.specs.Contracts.{GoodTrip}
 use Rattle.trip.proofs.Clear.{good-fields}
 use Rattle.book.specs.Words.{freshBook, tripsOf, openingOf, lastOutOf}
 use Rattle.book.specs.Windows.{belongs, windowOf}
@@ -28,13 +25,11 @@ use Rattle.book.specs.Caps.{treeOf}
 use Rattle.book.specs.Charging.{isChild}
 use Rattle.book.proofs.WordLaws.{word-fresh}
 use Rattle.book.proofs.SoundLaws.{sound-has}
-use Rattle.book.proofs.GoodRides.{good-ride}
 use Rattle.statement.specs.Record.{Part}
 use Rattle.settle.specs.declared.refusals.Refusal.the-variants as why
-use Rattle.settle.specs.Rides.{ridesOf as tripRides}
 use Rattle.settle.specs.Outcome.{Outcome, refused, accepted, settled, bookAfter}
 use Rattle.settle.specs.Runs.{Offer, Settlement, runFrom, bookFrom}
-use Rattle.promises.specs.Conditions.{tripWindow, condition, AcceptedBy}
+use Rattle.promises.specs.Conditions.{tripRides, tripWindow, condition, AcceptedBy}
 use Rattle.promises.specs.Runs.{
   bookOf,
   ridesWith,
@@ -58,24 +53,12 @@ use Rattle.promises.specs.Runs.{
   acceptedOver,
   windowsOf,
 }
-use Rattle.promises.proofs.Answers.{accepted-is, clear, right-window}
-use Rattle.promises.proofs.RideLaws.{Kept, kept-fresh, AllRideable, one-ride, KeptSince, kept-rides}
+use Rattle.promises.proofs.Answers.{accepted-is, clear, charged-rides, some-rides, right-window}
+use Rattle.promises.proofs.RideLaws.{Kept, kept-fresh, KeptSince, kept-rides}
 
--- ---- The rides of an accepted trip.
-
--- Every ride of a good trip can be charged.
-good-rides :
-    {tariff : List ℕ} {counts : Counts} → Read tariff counts → (bytes : List ℕ) → GoodTrip bytes (counts .stops)
-    → AllRideable tariff counts (tripRides tariff counts bytes (tripOf bytes))
-unfolding tripRides
-good-rides {tariff} {counts} read bytes good = one-ride (λ book right. good-ride tariff counts book bytes read right good)
+-- ---- An accepted trip.
 
 module _ {tariff book bytes : List ℕ} {room : ℕ} {new : List ℕ} {parts : List Part} (a : AcceptedBy tariff book bytes room new parts) where
-  -- with the trip's rides the window has at most 256
-  few-rides : tripWindow book bytes .trips + length (tripRides tariff (a .counts) bytes (tripOf bytes)) ≤ 256
-  unfolding condition
-  few-rides = omega (arith, a .none why.FullWindow)
-
   -- The new book is kept with the rider's rides after the trip.
   kept-trip :
       {rider : ℕ} {rides : List ChargedRide} → rider < 21 → Kept tariff (a .counts) rider book rides
@@ -83,7 +66,8 @@ module _ {tariff book bytes : List ℕ} {room : ℕ} {new : List ℕ} {parts : L
       (tripWindow book bytes .opening .0)
   unfolding windowOf
   kept-trip known k =
-      rw (a .new-is, a .parts-is) (kept-rides known (good-rides (a .read) bytes (clear a .good)) k (right-window a) few-rides)
+      rw (a .new-is, a .parts-is)
+      (kept-rides (tripRides tariff (a .counts) bytes) known (charged-rides a) (some-rides a) k (right-window a) (clear a .few))
 
 -- ---- A book and the windows so far.
 

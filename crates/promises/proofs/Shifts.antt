@@ -1,44 +1,43 @@
 -- Two settlings whose minutes are all moved by one number: each row of the table holds of both or of neither, and two acceptances have the
--- same ride, the same charges, and books and records alike but for the minutes.
+-- same rides, the same charges, and books and records alike but for the minutes.
 -- Assumes nothing.
-use Prim.Native.Nat.{ℕ, zero, suc, _+_, _-_, _*_, _≤_, _<_}
+use Prim.Native.Nat.{ℕ, zero, suc, _+_, _*_, _≤_, _<_}
 use native.Mathlib.Nat.{add-zero}
 use native.Mathlib.Omega.{arith}
 use native.Mathlib.Decide.{ℕ-discrete, decLt}
 use mathlib.Core.Path.{_≡_, refl, sym, ap, _∙_, fun-ext}
-use mathlib.Core.Logic.{inl, inr}
-use mathlib.Core.List.{List}
+use mathlib.Core.List.{List, [], _∷_}
 use mathlib.Core.Bool.{Bool, true, false, cond, not, _&&_, false≢true}
 use borrow.Author.Tests.{le-leb, lt-leb, lt-ltb, le-ltb, eq-eqb, ne-eqb}
 use lib.ListN.{length}
 use lib.Dec.{leb, ltb, eqb}
 use Rattle.wire.specs.Each.{each}
-use Rattle.wire.specs.Frame.{broken, frameAt}
 use Rattle.units.specs.Day.{dayMinutes}
 use Rattle.calendar.specs.Stamps.{lastMinute}
 use Rattle.tariff.specs.declared.Counts.{Counts}
-use Rattle.tariff.specs.declared.Stop.{Stop}
-use Rattle.tariff.specs.Areas.{smallestOf}
+use Rattle.tariff.specs.Areas.{FaultlessTariff}
 use Rattle.tariff.proofs.Faultless.{faultless, read-one}
-use Rattle.trip.specs.Record.{countAt, classAt, levelAt, partyAt, stopNumber}
+use Rattle.trip.specs.Record.{countAt, stopNumber}
 use Rattle.trip.specs.Moments.{checkinOf, checkoutOf}
 use Rattle.trip.specs.Trips.{stopsKnown, stampsRight, inOrder, tripOf}
 use Rattle.trip.proofs.Shapes.{trip-same}
+use Rattle.fare.specs.declared.Ride.{Ride}
 use Rattle.fare.specs.Prices.{mostPrice}
-use Rattle.fare.specs.Rides.{stopOf, areaOfStops, rideOf}
+use Rattle.fare.specs.Contracts.{EachRide}
+use Rattle.fare.specs.Contracts as riding
+use Rattle.fare.proofs.SameStops.{rides-same}
+use Rattle.book.specs.declared.Window.{Window}
 use Rattle.book.specs.Words.{bookSize, word, tripsOf, openingOf, lastOutOf, coverWord}
 use Rattle.book.specs.Sound.{allZero, headSound, pairsSound, coversSound, sound}
 use Rattle.book.specs.Windows.{belongs, tooEarly, windowOf, inWindow}
-use Rattle.book.specs.Charging.{chargesOf}
-use Rattle.book.proofs.PostedLaws.{posted-trips, posted-opening, posted-out}
-use Rattle.book.proofs.SoundAgain.{window-room}
+use Rattle.book.specs.Contracts.{Rideable}
 use Rattle.statement.specs.Record.{Part}
 use Rattle.settle.specs.Refusals.{rows}
-use Rattle.settle.specs.Outcome.{partOf}
-use Rattle.settle.proofs.Rides.{one-ride as ride-count, one-size as ride-size}
-use Rattle.promises.specs.Conditions.{tripRide, tripWindow, AcceptedBy}
-use Rattle.promises.specs.Moved.{SameTrip, SameWords, MovedBook, MovedParts, one-part, no-part}
-use Rattle.promises.proofs.Answers.{charged-ride, right-window, parts-are, new-posted}
+use Rattle.settle.specs.Outcome.{partOf, oneMore, partsOf, postedAll}
+use Rattle.promises.specs.Conditions.{tripRides, tripWindow, AcceptedBy}
+use Rattle.promises.specs.Moved.{SameTrip, SameWords, MovedBook, MovedPart, MovedParts, one-part, no-part}
+use Rattle.promises.proofs.Answers.{charged-rides, some-parts, right-window}
+use Rattle.promises.proofs.Books.{book-head}
 use Rattle.promises.proofs.Alike.{window-same, charges-same, posted-same}
 
 -- no trip belongs to a window where none is open
@@ -192,15 +191,26 @@ module _ {c d : ℕ} {book bytes book′ bytes′ : List ℕ} (s : Shifted c d b
           let i = s .checkin in
           rw (ltb-alike (checkinOf bytes) (lastOutOf book) (checkinOf bytes′) (lastOutOf book′) (λ h. omega arith) (λ h. omega arith))
 
+  -- ---- The rides.
+
+  -- the two trips are the same rides
+  pub rides-alike : (tariff : List ℕ) (counts : Counts) → tripRides tariff counts bytes′ ≡ tripRides tariff counts bytes
+  rides-alike tariff counts =
+      rides-same bytes bytes′ (s .trip .stop) tariff counts (tripOf bytes) (tripOf bytes′)
+      (record {
+        class = s .trip .class;
+        level = s .trip .level;
+        party = s .trip .party;
+        stops = s .trip .count;
+        duration = omega (arith, s .checkin, s .checkout);
+      })
+
   -- so the table is the same
   pub rows-same : (tariff : List ℕ) (counts : Counts) (room : ℕ) → rows tariff counts book′ bytes′ room ≡ rows tariff counts book bytes room
   unfolding rows
   rows-same tariff counts room =
       rw (
-        ride-count tariff counts bytes (tripOf bytes),
-        ride-count tariff counts bytes′ (tripOf bytes′),
-        ride-size tariff counts bytes (tripOf bytes),
-        ride-size tariff counts bytes′ (tripOf bytes′),
+        rides-alike tariff counts,
         sound-same (counts .areas),
         trip-same bytes bytes′ (s .trip .frame) (s .trip .count) (s .trip .size),
         s .trip .class,
@@ -215,35 +225,7 @@ module _ {c d : ℕ} {book bytes book′ bytes′ : List ℕ} (s : Shifted c d b
         trips-alike,
       )
 
-  -- ---- The ride and the window.
-
-  stop-of-same : (tariff : List ℕ) (counts : Counts) (i : ℕ) → stopOf tariff counts bytes′ i ≡ stopOf tariff counts bytes i
-  unfolding stopOf
-  stop-of-same tariff counts i = rw (s .trip .stop i)
-
-  area-of-same :
-      (tariff : List ℕ) (counts : Counts) (first more : ℕ) → areaOfStops tariff counts bytes′ first more ≡ areaOfStops tariff counts bytes first more
-  unfolding areaOfStops
-  area-of-same tariff counts first zero = ap (λ (p : Stop). p .area) (stop-of-same tariff counts first)
-  area-of-same tariff counts first (suc more) =
-      ap (λ (a : ℕ). smallestOf tariff counts a (stopOf tariff counts bytes′ (first + suc more) .area)) (area-of-same tariff counts first more)
-      ∙ ap (λ (p : Stop). smallestOf tariff counts (areaOfStops tariff counts bytes first more) (p .area)) (stop-of-same tariff counts (first + suc more))
-
-  -- the two trips are one ride
-  ride-same : (tariff : List ℕ) (counts : Counts) → tripRide tariff counts bytes′ ≡ tripRide tariff counts bytes
-  unfolding rideOf
-  ride-same tariff counts =
-      let minutes : checkoutOf bytes′ - checkinOf bytes′ ≡ checkoutOf bytes - checkinOf bytes = omega (arith, s .checkin, s .checkout) in
-      rw (
-        s .trip .count,
-        s .trip .class,
-        s .trip .level,
-        s .trip .party,
-        minutes,
-        area-of-same tariff counts 0 (countAt bytes 0 - 1),
-        stop-of-same tariff counts 0,
-        stop-of-same tariff counts (countAt bytes 0 - 1),
-      )
+  -- ---- The window.
 
   current-same : windowOf book′ (checkinOf bytes′) (checkoutOf bytes′) .current ≡ windowOf book (checkinOf bytes) (checkoutOf bytes) .current
   unfolding windowOf
@@ -261,28 +243,40 @@ module _ {c d : ℕ} {book bytes book′ bytes′ : List ℕ} (s : Shifted c d b
 
 -- ---- The outcomes.
 
--- what an accepted trip leaves in the book's first three words
-record Left (new : List ℕ) (trips opening out : ℕ) : Type 0 where
-  used : tripsOf new ≡ 0 → ⊥
-  opening-is : openingOf new ≡ opening
-  out-is : lastOutOf new ≡ out
+-- two windows alike but for the opening, which is d minutes later in the second
+record MovedWindow (d : ℕ) (window window′ : Window) : Type 0 where
+  current : window′ .current ≡ window .current
+  trips : window′ .trips ≡ window .trips
+  opening : window′ .opening .0 ≡ window .opening .0 + d
 
-left :
-    {tariff book bytes : List ℕ} {room : ℕ} {new : List ℕ} {parts : List Part} (a : AcceptedBy tariff book bytes room new parts)
-    → Left new (tripWindow book bytes .trips) (tripWindow book bytes .opening .0) (checkoutOf bytes)
-left {tariff} {book} {bytes} a =
-    let ok = charged-ride a in
-    let right = right-window a in
-    let head = right .head in
-    let room = window-room right in
-    let out = checkoutOf bytes in
-    let window = tripWindow book bytes in
-    rw (new-posted a)
-    (record {
-      used = λ none. omega (arith, posted-trips ok window out room (omega arith));
-      opening-is = posted-opening ok window out room (omega arith);
-      out-is = posted-out ok window out room (omega arith);
-    })
+moved-more : {d : ℕ} {window window′ : Window} → MovedWindow d window window′ → MovedWindow d (oneMore window) (oneMore window′)
+unfolding oneMore
+moved-more w = record { current = refl; trips = ap (λ (n : ℕ). n + 1) (w .trips); opening = w .opening }
+
+-- the same rides, charged in two such windows on books that are the same but for their minutes, leave such books, in parts so moved
+module _ {tariff : List ℕ} {counts : Counts} (t : FaultlessTariff tariff counts) {d : ℕ} (checkout checkout′ : ℕ) where
+  rides-moved :
+      {first : List ℕ} (rides : List Ride) → EachRide (Rideable tariff counts first) rides → {book book′ : List ℕ} → SameWords book book′
+      → {window window′ : Window} → MovedWindow d window window′
+      → MovedParts d (partsOf tariff counts book window checkout rides) (partsOf tariff counts book′ window′ checkout′ rides)
+      × SameWords (postedAll tariff counts book window checkout rides) (postedAll tariff counts book′ window′ checkout′ rides)
+  unfolding partsOf postedAll partOf
+  rides-moved [] oks same moved = (no-part, same)
+  rides-moved (ride ∷ rides) (riding.more ok oks) {book} {book′} same {window} {window′} moved =
+      let (parts, books) =
+      rides-moved rides oks
+      (posted-same t ride (ok .area) window window′ checkout checkout′ same (moved .current) (moved .trips)) (moved-more moved)
+      in
+      let here : MovedPart d (partOf tariff counts book window ride) (partOf tariff counts book′ window′ ride) =
+      record {
+        ride = refl;
+        charges =
+            rw (moved .current)
+            (charges-same t ride (ok .area) (inWindow (window .current) book) (inWindow (window .current) book′) (window-same (window .current) same));
+        opening = moved .opening;
+      }
+      in
+      (one-part here parts, books)
 
 -- two acceptances so moved
 module _ {tariff : List ℕ} {room d : ℕ} {book bytes book′ bytes′ : List ℕ} (s : Shifted 0 d book bytes book′ bytes′) {new new′ : List ℕ} {parts parts′ : List Part}
@@ -290,42 +284,31 @@ module _ {tariff : List ℕ} {room d : ℕ} {book bytes book′ bytes′ : List 
   counts-same : a′ .counts ≡ a .counts
   counts-same = read-one tariff (a′ .counts) (a .counts) (a′ .read) (a .read)
 
-  one-ride : tripRide tariff (a′ .counts) bytes′ ≡ tripRide tariff (a .counts) bytes
-  one-ride = rw counts-same (ride-same s tariff (a .counts))
-
   later-opening : tripWindow book′ bytes′ .opening .0 ≡ tripWindow book bytes .opening .0 + d
   later-opening = sym (add-zero _) ∙ opening-moved s
 
-  there : tripRide tariff (a .counts) bytes .area < a .counts .areas
-  there = charged-ride a .area
-
-  same-charges :
-      chargesOf tariff (a′ .counts) (inWindow (tripWindow book′ bytes′ .current) book′) (tripRide tariff (a′ .counts) bytes′)
-      ≡ chargesOf tariff (a .counts) (inWindow (tripWindow book bytes .current) book) (tripRide tariff (a .counts) bytes)
-  same-charges =
-      rw (current-same s, one-ride, counts-same)
-      (charges-same (faultless tariff (a .counts) (a .read)) (tripRide tariff (a .counts) bytes) there
-      (inWindow (tripWindow book bytes .current) book) (inWindow (tripWindow book bytes .current) book′)
-      (window-same (tripWindow book bytes .current) (s .others)))
+  both :
+      MovedParts d (partsOf tariff (a .counts) book (tripWindow book bytes) (checkoutOf bytes) (tripRides tariff (a .counts) bytes))
+      (partsOf tariff (a .counts) book′ (tripWindow book′ bytes′) (checkoutOf bytes′) (tripRides tariff (a .counts) bytes))
+      × SameWords (postedAll tariff (a .counts) book (tripWindow book bytes) (checkoutOf bytes) (tripRides tariff (a .counts) bytes))
+      (postedAll tariff (a .counts) book′ (tripWindow book′ bytes′) (checkoutOf bytes′) (tripRides tariff (a .counts) bytes))
+  both =
+      rides-moved (faultless tariff (a .counts) (a .read)) (checkoutOf bytes) (checkoutOf bytes′) (tripRides tariff (a .counts) bytes)
+      (charged-rides a) (s .others) (record { current = current-same s; trips = trips-alike s; opening = later-opening })
 
   pub moved-parts : MovedParts d parts parts′
-  unfolding partOf
-  moved-parts =
-      rw (parts-are a, parts-are a′) (one-part (record { ride = one-ride; charges = same-charges; opening = later-opening }) no-part)
+  moved-parts = rw (a .parts-is, a′ .parts-is, counts-same, rides-alike s tariff (a .counts)) (both .0)
 
   pub moved-book : MovedBook d new new′
   moved-book =
-      let l = left a in
-      let l′ = left a′ in
+      let l = book-head a in
+      let l′ = book-head a′ in
+      let some = some-parts a in
       let head = right-window a′ .head in
+      let used : tripsOf new ≡ 0 → ⊥ = λ none. omega (arith, l .trips) in
       record {
-        same =
-            rw (new-posted a, new-posted a′, one-ride, counts-same)
-            (posted-same (faultless tariff (a .counts) (a .read)) (tripRide tariff (a .counts) bytes) there (tripWindow book bytes)
-            (tripWindow book′ bytes′) (checkoutOf bytes) (checkoutOf bytes′) (s .others) (current-same s) (trips-alike s));
-        opening = rw (ne-eqb (tripsOf new) 0 (l .used)) (omega (arith, l .opening-is, l′ .opening-is, later-opening));
-        last =
-            rw (ne-eqb (tripsOf new) 0 (l .used))
-            (omega (arith, l .out-is, l′ .out-is, s .checkout));
-        in-calendar = omega (arith, l′ .out-is, head .last);
+        same = rw (a .new-is, a′ .new-is, counts-same, rides-alike s tariff (a .counts)) (both .1);
+        opening = rw (ne-eqb (tripsOf new) 0 used) (omega (arith, l .opening, l′ .opening, later-opening));
+        last = rw (ne-eqb (tripsOf new) 0 used) (omega (arith, l .last-out, l′ .last-out, s .checkout));
+        in-calendar = omega (arith, l′ .last-out, head .last);
       }

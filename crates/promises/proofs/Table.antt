@@ -16,16 +16,17 @@ use Rattle.caps.specs.Limits.{leftOf, cappedHere}
 use Rattle.caps.specs.Rides.{ChargedRide}
 use Rattle.caps.specs.Tree.{foldUp, among, chargeIn}
 use Rattle.tariff.specs.declared.Counts.{Counts}
-use Rattle.tariff.specs.Fields.{areaFields, stopFields}
-use Rattle.tariff.specs.Rules.{capsRight, placeRight}
-use Rattle.tariff.specs.Scan.{areaEntry, stopEntry, entryAt, readFrom, readTariff}
+use Rattle.tariff.specs.Fields.{areaFields, factorFields, stopFields}
+use Rattle.tariff.specs.Rules.{capsRight, placeRight, wideAmong}
+use Rattle.tariff.specs.Scan.{areaEntry, factorEntry, stopEntry, entryAt, readFrom, readTariff}
 use Rattle.tariff.specs.Levels.{levelCap}
 use Rattle.tariff.specs.Areas.{tripCapOf, dayCapOf, areaOf, areaAt, stopAt, liesWithin, smallestOf, Read}
 use Rattle.trip.specs.Record.{shapeAt, partyAt, stopNumber}
 use Rattle.trip.specs.Moments.{checkinOf, checkoutOf}
 use Rattle.trip.specs.Trips.{isTrip, partyRight, stopsKnown, stampsRight, tripOf}
 use Rattle.fare.specs.Distance.{apart, kmFrom, kmOf}
-use Rattle.fare.specs.Rides.{stopOf, areaOfStops, rideOf}
+use Rattle.fare.specs.Rides.{stopOf, areaOfStops, rideBetween, rideOf}
+use Rattle.fare.specs.Parts.{breakOf, ridesOf as tripRides}
 use Rattle.fare.specs.Prices.{step1, step2, step3, step4, tripCap, priceOf}
 use Rattle.book.specs.Words.{freshBook}
 use Rattle.book.specs.Sound.{sound}
@@ -34,7 +35,6 @@ use Rattle.book.specs.Charging.{riderCharge, riderCharges, bicycleCharges, char
 use Rattle.book.specs.Windows.{belongs, tooEarly, windowOf}
 use Rattle.book.specs.Posting.{addHere, addUp, addList, coverBicycles, opened, posted}
 use Rattle.statement.specs.Record.{statementSize}
-use Rattle.settle.specs.Rides.{ridesOf as tripRides}
 use Rattle.settle.specs.Refusals.{refusal, rows, Found, nothing, found, firstOf}
 use Rattle.settle.specs.Outcome.{Outcome, refused, partOf, oneMore, partsOf, postedAll, acceptedTrip, settled, bookAfter}
 use Rattle.settle.specs.Runs.{Offer, Settlement, runFrom, bookFrom}
@@ -44,10 +44,14 @@ use Rattle.promises.specs.Cases.{
   sampleArea,
   areaBytes,
   areasBytes,
+  sampleFactor,
+  factorBytes,
+  factorsBytes,
   sampleStop,
   stopBytes,
   stopsBytes,
   sampleAreas,
+  sampleFactors,
   sampleStops,
   sample,
   sampleCounts,
@@ -132,10 +136,11 @@ module _ (tariff : List ℕ) (counts : Counts) (read : Read tariff counts) where
 
 -- ---- The sample.
 
--- The sample is a faultless tariff of seven areas and 28 stops.
+-- The sample is a faultless tariff of seven areas, three factor records and 28 stops.
 pub sample-read : Read sample sampleCounts
-unfolding readTariff readFrom entryAt areaEntry stopEntry frameAt broken areaFields stopFields capsRight placeRight getLe bytesOf sample
-    sampleAreas sampleStops areasBytes areaBytes sampleArea stopsBytes stopBytes sampleStop
+unfolding readTariff readFrom entryAt areaEntry factorEntry stopEntry frameAt broken areaFields factorFields stopFields capsRight placeRight wideAmong
+    getLe bytesOf sample sampleAreas sampleFactors sampleStops areasBytes areaBytes sampleArea factorsBytes factorBytes sampleFactor stopsBytes
+    stopBytes sampleStop
 sample-read = refl
 
 -- ---- The table.
@@ -158,10 +163,10 @@ saidSums c = record { come-to = results c; window = ridesIn (results c) [] }
 computed : map settledSums cases ≡ map saidSums cases
 unfolding dividedUp hundredthsOf periods getLe putLe bytesOf each broken frameAt monthDays daysOfMonths daysOfYears dayNumber minuteNumber leftOf
     cappedHere foldUp among chargeIn areaFields stopFields levelCap tripCapOf dayCapOf areaOf areaAt stopAt liesWithin smallestOf shapeAt partyAt
-    stopNumber checkinOf checkoutOf isTrip partyRight stopsKnown stampsRight apart kmFrom kmOf stopOf areaOfStops rideOf step1 step2 step3 step4
+    stopNumber checkinOf checkoutOf isTrip partyRight stopsKnown stampsRight apart kmFrom kmOf stopOf areaOfStops rideBetween rideOf step1 step2 step3 step4
     tripCap priceOf secondCap allCap riderCharge riderCharges bicycleCharges chargesOf belongs tooEarly windowOf addHere addUp addList coverBicycles
-    opened posted statementSize tripRides rows firstOf partOf oneMore partsOf postedAll acceptedTrip onSound runOnSound entryOf ridesWith ridesAfter
-    ridesOver sampleArea areaBytes areasBytes sampleStop stopBytes stopsBytes sampleAreas sampleStops sample stampBytes numbersBytes tripBytes offered
+    opened posted statementSize breakOf tripRides rows firstOf partOf oneMore partsOf postedAll acceptedTrip onSound runOnSound entryOf ridesWith ridesAfter
+    ridesOver sampleArea areaBytes areasBytes sampleFactor factorBytes factorsBytes sampleStop stopBytes stopsBytes sampleAreas sampleFactors sampleStops sample stampBytes numbersBytes tripBytes offered
     partResults outcomeResults resultsOf ridesIn cases
 computed = refl
 

@@ -8,11 +8,12 @@ use Rattle.wire.specs.Number.{bytesOf}
 use Rattle.calendar.specs.declared.Stamp.{Stamp}
 use Rattle.caps.specs.Rides.{ChargedRide}
 use Rattle.tariff.specs.declared.Counts.{Counts}
+use Rattle.tariff.specs.declared.Factor.{Factor}
 use Rattle.tariff.specs.declared.fields.AreaFields.{AreaFields}
 use Rattle.tariff.specs.declared.fields.StopFields.{StopFields}
 use Rattle.trip.specs.declared.Party.{Party}
 use Rattle.book.specs.Words.{freshBook}
-use Rattle.statement.specs.Record.{Part, largestSize}
+use Rattle.statement.specs.Record.{Part, largestStatement}
 use Rattle.settle.specs.Outcome.{Outcome, refused, accepted}
 use Rattle.settle.specs.Runs.{Offer, Settlement, runFrom}
 use Rattle.promises.specs.Runs.{entryOf, ridesOf}
@@ -54,6 +55,19 @@ unfoldable pub areasBytes : List AreaFields → List ℕ
 areasBytes [] = []
 areasBytes (f ∷ more) = areaBytes f ++ areasBytes more
 
+-- a factor and a mark
+unfoldable pub sampleFactor : ℕ → ℕ → Factor
+sampleFactor factor mark = record { factor = factor; mark = mark }
+
+-- a factor record, kind 5: a head of 4 bytes and a body of 2
+unfoldable pub factorBytes : Factor → List ℕ
+factorBytes f = bytesOf 2 4 ++ (bytesOf 2 5 ++ (bytesOf 1 (f .factor) ++ bytesOf 1 (f .mark)))
+
+-- factor records one after another
+unfoldable pub factorsBytes : List Factor → List ℕ
+factorsBytes [] = []
+factorsBytes (f ∷ more) = factorBytes f ++ factorsBytes more
+
 -- a stop: area, x and y
 unfoldable pub sampleStop : ℕ → ℕ → ℕ → StopFields
 sampleStop area x y = record { area = area; x = x; y = y }
@@ -78,6 +92,10 @@ sampleAreas =
     ∷ sampleArea 2 1 140 27 90 0 0 0 0 0 0 400 300
     ∷ sampleArea 1 0 173 29 240 2 210 340 740 1250 1690 2890 400
     ∷ []
+
+-- the state, region 1 (as Westfalen, where rides inside one city are exempt) and region 6 (as the VRR)
+unfoldable pub sampleFactors : List Factor
+sampleFactors = sampleFactor 3 0 ∷ sampleFactor 4 1 ∷ sampleFactor 3 0 ∷ []
 
 -- the stops, as in samples/tariff.txt: 0 to 6 in city 2, 7 and 8 in city 3, 9 and 10 in city 4, 11 and 12 in city 5, 13 in region 1, 14 to 26 in
 -- region 6, 27 in the state
@@ -115,11 +133,11 @@ sampleStops =
 
 -- the tariff's bytes
 unfoldable pub sample : List ℕ
-sample = areasBytes sampleAreas ++ stopsBytes sampleStops
+sample = areasBytes sampleAreas ++ (factorsBytes sampleFactors ++ stopsBytes sampleStops)
 
 -- and what it has
 abbrev pub sampleCounts : Counts
-sampleCounts = record { areas = 7; stops = 28 }
+sampleCounts = record { areas = 7; factors = 3; stops = 28 }
 
 -- ---- Trips.
 
@@ -150,10 +168,10 @@ alone = record { adults = 0; children = 0; bicycles = 0 }
 abbrev pub withChild : Party
 withChild = record { adults = 0; children = 1; bicycles = 0 }
 
--- some trip from a stop to a stop, offered with room for any record
+-- some trip from a stop to a stop, which has no change, offered with room for any statement
 unfoldable pub offered : Stamp → Stamp → ℕ → ℕ → Party → ℕ → ℕ → Offer
 offered from to class level party first last =
-    record { bytes = tripBytes from to class level party (first ∷ last ∷ []); room = largestSize }
+    record { bytes = tripBytes from to class level party (first ∷ last ∷ []); room = largestStatement }
 
 -- so many minutes after a full hour of 2026-03-02, in the same day
 abbrev pub after : ℕ → ℕ → Stamp

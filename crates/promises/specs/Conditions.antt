@@ -1,7 +1,7 @@
 -- docs/RULES.md, section 13: the twelve conditions, in the rules' words and order; and what a refusal and an acceptance say.
 use Prim.Native.Nat.{ℕ, _+_, _-_, _<_}
 use mathlib.Core.Path.{_≡_}
-use mathlib.Core.List.{List}
+use mathlib.Core.List.{List, map}
 use mathlib.Core.Bool.{true, false}
 use lib.ListN.{length}
 use Rattle.tariff.specs.declared.Counts.{Counts}
@@ -14,16 +14,17 @@ use Rattle.trip.specs.Trips.{tripOf}
 use Rattle.trip.specs.Conditions.{NoTrip, WrongParty, LackingStop, WrongStamp, WrongOrder}
 use Rattle.fare.specs.declared.Ride.{Ride}
 use Rattle.fare.specs.Distance.{apart, LeastKm}
-use Rattle.fare.specs.Rides.{stopOf, AreaOfStops, rideOf}
+use Rattle.fare.specs.Rides.{stopOf, AreaOfStops, rideBetween}
+use Rattle.fare.specs.Parts.{BrokenAt, ridesOf}
 use Rattle.book.specs.declared.Window.{Window}
 use Rattle.book.specs.Words.{tripsOf, lastOutOf, coverWord}
 use Rattle.book.specs.Sound.{sound}
-use Rattle.book.specs.Windows.{windowOf}
+use Rattle.book.specs.Windows.{windowOf, inWindow}
 use Rattle.book.specs.Charging.{carries, placeOf, riderCharge, bicycleCharge}
+use Rattle.book.specs.Posting.{posted}
 use Rattle.book.specs.InWords.{ChargeSays, BicycleSays}
 use Rattle.statement.specs.Record.{Part, recordSize, chargeKind, statementSize}
 use Rattle.statement.specs.Reading.{longIn, kindIn, openingIn, areaIn, kmIn, minutesIn, chargeIn}
-use Rattle.settle.specs.Rides.{ridesOf}
 use Rattle.settle.specs.Outcome.{partsOf, postedAll}
 use Rattle.settle.specs.declared.refusals.Refusal.{Refusal}
 use Rattle.settle.specs.declared.refusals.Refusal.the-variants as why
@@ -33,11 +34,11 @@ use Rattle.settle.specs.Refusals.{refusal, rows, First}
 
 -- the numbers of areas and of stops that a faultless tariff has
 unfoldable pub countsOf : List ℕ → Counts
-countsOf tariff = elim (readTariff tariff) [ Faultless counts ↦ counts | Fault number at ↦ record { areas = 0; stops = 0 } ]
+countsOf tariff = elim (readTariff tariff) [ Faultless counts ↦ counts | Fault number at ↦ record { areas = 0; factors = 0; stops = 0 } ]
 
--- the ride that a trip's bytes are, and the window that it belongs to or opens
-abbrev pub tripRide : List ℕ → Counts → List ℕ → Ride
-tripRide tariff counts bytes = rideOf tariff counts bytes (tripOf bytes)
+-- the rides that a trip's bytes are, one or two, and the window that it belongs to or opens
+abbrev pub tripRides : List ℕ → Counts → List ℕ → List Ride
+tripRides tariff counts bytes = ridesOf tariff counts bytes (tripOf bytes)
 
 abbrev pub tripWindow : List ℕ → List ℕ → Window
 tripWindow book bytes = windowOf book (checkinOf bytes) (checkoutOf bytes)
@@ -56,7 +57,8 @@ pub record TooEarly (book : List ℕ) (checkin : ℕ) : Type 0 where
   pub in-use : tripsOf book ≡ 0 → ⊥
   pub early : checkin < lastOutOf book
 
--- 4 to 12, by the table's refusals
+-- 4 to 12, by the table's refusals. 5 to 10 are asked of the trip as it is offered; 11 counts each of its rides as a trip, and 12 asks for
+-- the records of all of them
 unfoldable pub condition : List ℕ → Counts → List ℕ → List ℕ → ℕ → Refusal → Type 0
 condition tariff counts book trip room why.UnsoundBook = sound book (counts .areas) ≡ false
 condition tariff counts book trip room why.NoTrip = NoTrip trip
@@ -65,8 +67,8 @@ condition tariff counts book trip room why.UnknownStop = LackingStop trip (count
 condition tariff counts book trip room why.WrongStamp = WrongStamp trip
 condition tariff counts book trip room why.WrongOrder = WrongOrder (checkinOf trip) (checkoutOf trip)
 condition tariff counts book trip room why.TooEarly = TooEarly book (checkinOf trip)
-condition tariff counts book trip room why.FullWindow = 256 < windowOf book (checkinOf trip) (checkoutOf trip) .trips + length (ridesOf tariff counts trip (tripOf trip))
-condition tariff counts book trip room why.NoRoom = room < statementSize (ridesOf tariff counts trip (tripOf trip))
+condition tariff counts book trip room why.FullWindow = 256 < tripWindow book trip .trips + length (tripRides tariff counts trip)
+condition tariff counts book trip room why.NoRoom = room < statementSize (tripRides tariff counts trip)
 
 -- none of the twelve holds
 pub record NoCondition (tariff book trip : List ℕ) (room : ℕ) : Type 0 where
@@ -90,32 +92,75 @@ pub record AcceptedBy (tariff book bytes : List ℕ) (room : ℕ) (new : List �
   pub counts : Counts
   pub read : Read tariff counts
   pub none : (why : Refusal) → condition tariff counts book bytes room why → ⊥
-  pub new-is : new ≡ postedAll tariff counts book (tripWindow book bytes) (checkoutOf bytes) (ridesOf tariff counts bytes (tripOf bytes))
-  pub parts-is : parts ≡ partsOf tariff counts book (tripWindow book bytes) (checkoutOf bytes) (ridesOf tariff counts bytes (tripOf bytes))
+  pub new-is : new ≡ postedAll tariff counts book (tripWindow book bytes) (checkoutOf bytes) (tripRides tariff counts bytes)
+  pub parts-is : parts ≡ partsOf tariff counts book (tripWindow book bytes) (checkoutOf bytes) (tripRides tariff counts bytes)
 
--- what the record of an accepted trip says, read off its bytes: the window's opening minute, the smallest area containing all the trip's
--- stops, the least kilometres between its first and last stop, check-out less check-in; then the charges, in the order
--- holder, adults, children, bicycles: by their definitions, and then in words, each rider's the smallest of the price and what each of the
--- ride's caps has left, and each bicycle's the new covering area's flat less the old one's. w stands for the words that count: the book's
--- own in the open window, a fresh book's in the next
-pub record RecordSays (tariff bytes w : List ℕ) (counts : Counts) (opens last : ℕ) (ride : Ride) (entry : List ℕ) : Type 0 where
-  pub size : length entry ≡ recordSize (ride .party)
-  pub long : longIn entry 0 + 2 ≡ length entry
-  pub kind : kindIn entry 0 ≡ chargeKind
-  pub opening : openingIn entry 0 ≡ opens
-  pub area : AreaOfStops tariff counts bytes 0 last (areaIn entry 0)
-  pub km : LeastKm (apart (stopOf tariff counts bytes 0) (stopOf tariff counts bytes last)) (kmIn entry 0)
-  pub minutes : minutesIn entry 0 ≡ checkoutOf bytes - checkinOf bytes
-  pub holder : chargeIn entry 0 0 ≡ riderCharge tariff counts w ride false 0
-  pub adults : (i : ℕ) → i < ride .party .adults → chargeIn entry 0 (1 + i) ≡ riderCharge tariff counts w ride false (1 + i)
+-- ---- What the records of an accepted trip say.
+
+-- the rides of some parts
+abbrev pub ridesFor : List Part → List Ride
+ridesFor parts = map (λ part. part .ride) parts
+
+-- check-out less check-in
+abbrev pub minutesOf : List ℕ → ℕ
+minutesOf bytes = checkoutOf bytes - checkinOf bytes
+
+-- the ride from one stop of the trip to another in so many minutes, with the trip's class, level and party
+abbrev pub rideOn : List ℕ → Counts → List ℕ → ℕ → ℕ → ℕ → Ride
+rideOn tariff counts bytes from to minutes = rideBetween tariff counts bytes (tripOf bytes) from to minutes
+
+-- the words that count for a trip; and, where it is broken at a change, those that count for its second part: the book with the first part
+abbrev pub wordsBefore : List ℕ → List ℕ → List ℕ
+wordsBefore book bytes = inWindow (tripWindow book bytes .current) book
+
+abbrev pub wordsBetween : List ℕ → Counts → List ℕ → List ℕ → ℕ → List ℕ
+wordsBetween tariff counts book bytes c =
+    posted tariff counts book (tripWindow book bytes) (checkoutOf bytes) (rideOn tariff counts bytes 0 c (minutesOf bytes))
+
+-- what a record says, read off a statement at its place: the window's opening minute, the smallest area containing all stops of the trip
+-- from one to another, the least kilometres between these two, some minutes; then the charges, in the order holder, adults, children,
+-- bicycles: by their definitions, and then in words, each rider's the smallest of the price and what each of the ride's caps has left, and
+-- each bicycle's the new covering area's flat less the old one's. w stands for the words that count: the book's own in the open window, a
+-- fresh book's in the next
+pub record RecordSays (tariff bytes w : List ℕ) (counts : Counts) (opens from to minutes : ℕ) (statement : List ℕ) (place : ℕ) : Type 0 where
+  pub long : longIn statement place + 2 ≡ recordSize (partyAt bytes 0)
+  pub kind : kindIn statement place ≡ chargeKind
+  pub opening : openingIn statement place ≡ opens
+  pub area : AreaOfStops tariff counts bytes from to (areaIn statement place)
+  pub km : LeastKm (apart (stopOf tariff counts bytes from) (stopOf tariff counts bytes to)) (kmIn statement place)
+  pub in-minutes : minutesIn statement place ≡ minutes
+  pub holder : chargeIn statement place 0 ≡ riderCharge tariff counts w (rideOn tariff counts bytes from to minutes) false 0
+  pub adults :
+      (i : ℕ) → i < partyAt bytes 0 .adults
+      → chargeIn statement place (1 + i) ≡ riderCharge tariff counts w (rideOn tariff counts bytes from to minutes) false (1 + i)
   pub children :
-      (i : ℕ) → i < ride .party .children
-      → chargeIn entry 0 (1 + ride .party .adults + i) ≡ riderCharge tariff counts w ride true (11 + i)
+      (i : ℕ) → i < partyAt bytes 0 .children
+      → chargeIn statement place (1 + partyAt bytes 0 .adults + i)
+      ≡ riderCharge tariff counts w (rideOn tariff counts bytes from to minutes) true (11 + i)
   pub bicycles :
-      (i : ℕ) → i < ride .party .bicycles
-      → chargeIn entry 0 (1 + ride .party .adults + ride .party .children + i) ≡ bicycleCharge tariff counts (ride .area) (coverWord w i)
+      (i : ℕ) → i < partyAt bytes 0 .bicycles
+      → chargeIn statement place (1 + partyAt bytes 0 .adults + partyAt bytes 0 .children + i)
+      ≡ bicycleCharge tariff counts (areaIn statement place) (coverWord w i)
   pub riders-pay :
-      (rider : ℕ) → carries (ride .party) rider ≡ true → ChargeSays tariff counts w ride rider (chargeIn entry 0 (placeOf (ride .party) rider))
+      (rider : ℕ) → carries (partyAt bytes 0) rider ≡ true
+      → ChargeSays tariff counts w (rideOn tariff counts bytes from to minutes) rider (chargeIn statement place (placeOf (partyAt bytes 0) rider))
   pub bicycles-pay :
-      (i : ℕ) → i < ride .party .bicycles
-      → BicycleSays tariff counts (ride .area) (coverWord w i) (chargeIn entry 0 (1 + ride .party .adults + ride .party .children + i))
+      (i : ℕ) → i < partyAt bytes 0 .bicycles
+      → BicycleSays tariff counts (areaIn statement place) (coverWord w i)
+      (chargeIn statement place (1 + partyAt bytes 0 .adults + partyAt bytes 0 .children + i))
+
+-- what the statement of an accepted trip says. A trip that is nowhere broken has one record, from its first stop to its last, with its
+-- duration, check-out less check-in. One that is broken at a change has two, the second behind the first: from the first stop to the change,
+-- with the whole duration; and from the change to the last stop, with 0 minutes, charged on the book that the first part left
+pub data StatementSays (tariff book bytes : List ℕ) (counts : Counts) (statement : List ℕ) : Type 0 where
+  as-one :
+      ((c : ℕ) → BrokenAt tariff counts bytes (countAt bytes 0) c → ⊥) → length statement ≡ recordSize (partyAt bytes 0)
+      → RecordSays tariff bytes (wordsBefore book bytes) counts (tripWindow book bytes .opening .0) 0 (countAt bytes 0 - 1) (minutesOf bytes)
+      statement 0
+      → StatementSays tariff book bytes counts statement
+  as-two :
+      (c : ℕ) → BrokenAt tariff counts bytes (countAt bytes 0) c → length statement ≡ recordSize (partyAt bytes 0) + recordSize (partyAt bytes 0)
+      → RecordSays tariff bytes (wordsBefore book bytes) counts (tripWindow book bytes .opening .0) 0 c (minutesOf bytes) statement 0
+      → RecordSays tariff bytes (wordsBetween tariff counts book bytes c) counts (tripWindow book bytes .opening .0) c (countAt bytes 0 - 1) 0
+      statement (recordSize (partyAt bytes 0))
+      → StatementSays tariff book bytes counts statement

@@ -18,7 +18,7 @@ use Rattle.wire.specs.declared.Frame.{Frame}
 use Rattle.wire.specs.declared.Frame.the-variants as frame
 use Rattle.wire.proofs.Number.{get-front}
 use Rattle.wire.proofs.Frames.{tested, broken-back, whole, whole-back}
-use Rattle.statement.specs.Record.{largestSize}
+use Rattle.statement.specs.Record.{largestStatement}
 use Rattle.settle.specs.Runs.{runFrom}
 use Rattle.roll.specs.declared.Line.{Line}
 use Rattle.roll.specs.declared.Line.the-variants.{Refused}
@@ -177,7 +177,7 @@ afterStep (Record line used) on = line ∷ on line used
 -- a whole record is the first of the roll's
 first-offer :
     (records : ℕ) (roll : List ℕ) (kind body : ℕ) → frameAt roll 0 ≡ frame.Whole kind body
-    → offersOf (suc records) roll ≡ record { bytes = take (4 + body) roll; room = largestSize } ∷ offersOf records (drop (4 + body) roll)
+    → offersOf (suc records) roll ≡ record { bytes = take (4 + body) roll; room = largestStatement } ∷ offersOf records (drop (4 + body) roll)
 unfolding offersOf
 first-offer records roll kind body e = rw (e, offersOf)
 

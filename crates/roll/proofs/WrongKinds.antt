@@ -16,7 +16,7 @@ use Rattle.tariff.specs.Areas.{Read}
 use Rattle.trip.specs.Conditions.{other-kind, no-record}
 use Rattle.trip.proofs.Shapes.{five}
 use Rattle.book.specs.Sound.{sound}
-use Rattle.statement.specs.Record.{largestSize}
+use Rattle.statement.specs.Record.{largestStatement}
 use Rattle.settle.specs.Refusals.{rows}
 use Rattle.settle.specs.Outcome.{refused}
 use Rattle.settle.proofs.Rows.{skip, stop}
@@ -46,7 +46,7 @@ module _ (tariff : List ℕ) (counts : Counts) (book piece : List ℕ) (more : B
   refused-alone kind body e other =
       let alone = take (4 + body) piece in
       let no-trip = five alone .1 (no-record (other-kind kind body (frame-alone piece kind body e) other)) in
-      refused-way tariff book alone largestSize counts read (refused-first tariff counts book alone largestSize (skip _ _ (rw is) ∙ stop _ _ (rw no-trip)))
+      refused-way tariff book alone largestStatement counts read (refused-first tariff counts book alone largestStatement (skip _ _ (rw is) ∙ stop _ _ (rw no-trip)))
 
   pub wrong-kind :
       (kind body : ℕ) → frameAt piece 0 ≡ frame.Whole kind body → (kind ≡ 3 → ⊥)

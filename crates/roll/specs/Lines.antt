@@ -6,12 +6,13 @@ use lib.ListN.{length, take, drop}
 use lib.Dec.{eqb}
 use Rattle.wire.specs.Frame.{frameAt}
 use Rattle.wire.specs.declared.Frame.the-variants as frame
-use Rattle.statement.specs.Record.{Part, largestSize}
+use Rattle.statement.specs.Record.{Part, largestStatement}
 use Rattle.statement.specs.Reading.{sumOf}
 use Rattle.settle.specs.Outcome.{Outcome, refused, accepted}
 use Rattle.settle.specs.Runs.{Offer, Settlement, runFrom}
+use Rattle.roll.specs.declared.Entry.{Entry}
 use Rattle.roll.specs.declared.Line.{Line}
-use Rattle.roll.specs.declared.Line.the-variants.{Charged, Refused}
+use Rattle.roll.specs.declared.Line.the-variants.{Charged, Both, Refused}
 
 -- at most so many records of a roll are settled
 abbrev pub mostRecords : ℕ
@@ -19,14 +20,14 @@ mostRecords = 65535
 
 -- ---- The records of a roll: at most so many, until its end or a broken frame, which counts as a record.
 
--- each is offered with room for the largest record
+-- each is offered with room for the largest statement
 unfoldable pub offersOf : ℕ → List ℕ → List Offer
 offersOf zero roll = []
 offersOf (suc records) roll =
     elim (frameAt roll 0) [
       | frame.Broken ↦ []
       | frame.Whole kind body ↦
-          record { bytes = take (4 + body) roll; room = largestSize } ∷ offersOf records (drop (4 + body) roll)
+          record { bytes = take (4 + body) roll; room = largestStatement } ∷ offersOf records (drop (4 + body) roll)
     ]
 
 -- whether a broken frame comes among them; no byte at all is the roll's end
@@ -41,16 +42,23 @@ brokenIn (suc records) roll =
 
 -- ---- The lines.
 
--- a part's line: area, km, minutes, opening minute, sum of its charges
-unfoldable pub partLine : Part → Line
-partLine part =
-    Charged (part .ride .area) (part .ride .km .0) (part .ride .minutes .0) (part .opening) (sumOf (part .charges))
+-- what is said of a part: area, km, minutes, opening minute, sum of its charges
+unfoldable pub partEntry : Part → Entry
+partEntry part =
+    record {
+      area = part .ride .area;
+      km = part .ride .km .0;
+      minutes = part .ride .minutes .0;
+      opening = part .opening;
+      cents = sumOf (part .charges);
+    }
 
--- the line of an outcome: its refusal, or its part. There is no acceptance without a part
+-- the line of an outcome: its refusal, or its part, or its two parts. An acceptance has one part, or two where the trip was broken
 unfoldable pub lineOf : Outcome → Line
 lineOf (refused number place) = Refused number
 lineOf (accepted book []) = Refused 0
-lineOf (accepted book (part ∷ more)) = partLine part
+lineOf (accepted book (part ∷ [])) = Charged (partEntry part)
+lineOf (accepted book (one ∷ other ∷ more)) = Both (partEntry one) (partEntry other)
 
 -- the lines of a run
 unfoldable pub linesIn : List Settlement → List Line

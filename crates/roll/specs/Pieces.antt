@@ -7,7 +7,7 @@ use lib.Dec.{leb, ltb, eqb}
 use Rattle.wire.specs.Number.{getLe}
 use Rattle.wire.specs.Frame.{frameAt}
 use Rattle.wire.specs.declared.Frame.the-variants as frame
-use Rattle.statement.specs.Record.{largestSize}
+use Rattle.statement.specs.Record.{largestStatement}
 use Rattle.settle.specs.Outcome.{Outcome, settled, bookAfter}
 use Rattle.roll.specs.declared.Step.{Step}
 use Rattle.roll.specs.declared.Step.the-variants.{End, More, Record, Broken}
@@ -19,9 +19,9 @@ unfinished piece =
     ltb (length piece) 4
     || (leb 2 (getLe 2 piece 0) && leb (getLe 2 piece 0) 1024 && ltb (length piece) (2 + getLe 2 piece 0))
 
--- what the record at the start of a piece comes to, on a book; the statement has room for the largest record
+-- what the record at the start of a piece comes to, on a book; there is room for the largest statement
 unfoldable pub outcomeAt : List ℕ → List ℕ → List ℕ → ℕ → Outcome
-outcomeAt tariff book piece used = settled tariff book (take used piece) largestSize
+outcomeAt tariff book piece used = settled tariff book (take used piece) largestStatement
 
 -- what stands at the start of a piece, where the roll may go on behind it or not
 unfoldable pub stepOf : List ℕ → List ℕ → List ℕ → Bool → Step

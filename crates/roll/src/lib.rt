@@ -3,12 +3,13 @@
 use book::words::SIZE;
 use settle::Answer;
 use settle::settle_next;
-use statement::LARGEST;
+use statement::LARGEST_STATEMENT;
 use statement::reading::area_at;
 use statement::reading::cents_at;
 use statement::reading::km_at;
 use statement::reading::minutes_at;
 use statement::reading::opening_at;
+use statement::reading::size_at;
 use tariff::Counts;
 use wire::Frame;
 use wire::frame_at;
@@ -17,20 +18,27 @@ ghost use mathlib.Core.Path.{_≡_};
 ghost use Rattle.statement.specs.Contracts.{RecordAt};
 ghost use Rattle.settle.specs.Contracts.{Ready};
 ghost use Rattle.roll.specs.Pieces.{unfinished};
-ghost use Rattle.roll.specs.Contracts.{Fresh, LineIn, SettledLine, Stepped};
+ghost use Rattle.roll.specs.Contracts.{Fresh, EntryIn, Readable, LineIn, SettledLine, Stepped};
 
 // At most so many records of a roll are settled.
 pub const MOST_RECORDS: u32 = 65_535;
 
-// What a line says of a record: the numbers of its charge record, or the refusal.
+// The numbers of a part's charge record; the cents are all its charges.
+pub struct Entry {
+    pub area: u8,
+    pub km: u16,
+    pub minutes: u16,
+    pub opening: u32,
+    pub cents: u64,
+}
+
+// What a line says of a record.
 pub enum Line {
-    Charged {
-        area: u8,
-        km: u16,
-        minutes: u16,
-        opening: u32,
-        cents: u64,
-    },
+    // accepted as one part
+    Charged(Entry),
+    // accepted in two parts, each with a line of its own
+    Both(Entry, Entry),
+    // the refusal
     Refused(u64),
 }
 
@@ -53,12 +61,12 @@ pub fn fresh_book() -> [u8; SIZE]
     [0u8; SIZE]
 }
 
-// The line of the charge record at a place of a statement.
-fn charged_line(statement: &[u8], place: usize) -> Line
+// What the charge record at a place of a statement says.
+fn entry_at(statement: &[u8], place: usize) -> Entry
     requires { ⌜ RecordAt (now statement) place ⌝ }
-    ensures { λ r. ⌜ LineIn (now (statement .entry)) place r ⌝ }
+    ensures { λ r. ⌜ EntryIn (now (statement .entry)) place r ⌝ }
 {
-    Line::Charged {
+    Entry {
         area: area_at(statement, place),
         km: km_at(statement, place),
         minutes: minutes_at(statement, place),
@@ -67,15 +75,28 @@ fn charged_line(statement: &[u8], place: usize) -> Line
     }
 }
 
+// The line of a statement of so many bytes: there is a second record where they go on behind the first.
+fn charged_line(statement: &[u8], size: usize) -> Line
+    requires { ⌜ Readable (now statement) size ⌝ }
+    ensures { λ r. ⌜ LineIn (now (statement .entry)) size r ⌝ }
+{
+    let first = entry_at(statement, 0);
+    let behind = size_at(statement, 0);
+    if behind < size {
+        return Line::Both(first, entry_at(statement, behind));
+    }
+    Line::Charged(first)
+}
+
 // A record settled: its line, and the book brought up to date.
 fn settle_line(tariff: &[u8], counts: Counts, book: &mut [u8], trip: &[u8]) -> Line
     requires { ⌜ Ready (now tariff) counts (now book) ⌝ }
     ensures { λ r. ⌜ SettledLine (now (tariff .entry)) (counts .areas) (now (book .entry)) (now (trip .entry)) (now (book .exit)) r ⌝ }
 {
-    let mut statement = [0u8; LARGEST];
+    let mut statement = [0u8; LARGEST_STATEMENT];
     match settle_next(tariff, counts, book, trip, &mut statement) {
         Answer::Refused { number, place: _ } => Line::Refused(number as u64),
-        Answer::Written(_) => charged_line(&statement, 0),
+        Answer::Written(size) => charged_line(&statement, size),
     }
 }
 

@@ -1,163 +1,360 @@
 -- Where all twelve conditions are clear: what each step of writing asks is there, and what is written is the accepted outcome.
 -- Assumes nothing.
-use Prim.Native.Nat.{ℕ, _+_, _^_, _≤_, _<_}
+use Prim.Native.Nat.{ℕ, _+_, _≤_, _<_}
 use native.Mathlib.Nat.{zero-add}
 use native.Mathlib.Omega.{arith}
 use mathlib.Core.Path.{_≡_, refl, sym, ap, _∙_}
-use mathlib.Core.List.{List, [], _∷_, _++_}
-use lib.ListN.{length, getD, take, drop}
+use mathlib.Core.Bool.{true}
+use mathlib.Core.List.{List, [], _∷_, _++_, append-nil}
+use lib.ListN.{length, take, length-append}
 use lib.Seq.{sets, sets-eq, length-sets, take-append-seam}
+use Rattle.wire.proofs.Number.{sets-more}
 use Rattle.tariff.specs.declared.Counts.{Counts}
 use Rattle.tariff.proofs.Faultless.{faultless}
 use Rattle.trip.specs.declared.Trip.{Trip}
-use Rattle.trip.specs.declared.Party.{Party}
 use Rattle.trip.proofs.Clear.{GoodFields, good-fields}
 use Rattle.fare.specs.declared.Ride.{Ride}
+use Rattle.fare.specs.declared.Breaking.{Breaking}
+use Rattle.fare.specs.declared.Breaking.the-variants.{Unbroken, At}
 use Rattle.fare.specs.Rides.{rideOf}
-use Rattle.fare.specs.Contracts.{Riding, InOrder, RideOf}
+use Rattle.fare.specs.Parts.{firstPart, secondPart, ridesOf}
+use Rattle.fare.specs.Contracts.{Riding, InOrder, RideIs, EachRide, none, more}
 use Rattle.fare.proofs.GoodTrips.{riding, in-order}
+use Rattle.fare.proofs.Breaks.{broken-between}
+use Rattle.fare.proofs.PartLaws.{one-ride, two-rides, few-rides, rides-of-trip}
 use Rattle.book.specs.declared.Window.{Window}
+use Rattle.book.specs.declared.Earlier.{Earlier}
+use Rattle.book.specs.declared.Earlier.the-variants.{Nothing, Part}
+use Rattle.book.specs.Sound.{sound}
 use Rattle.book.specs.Windows.{inWindow}
 use Rattle.book.specs.Charging.{chargesOf}
-use Rattle.book.specs.Posting.{posted}
-use Rattle.book.specs.Contracts.{Rideable, PartyAmounts, Postable}
+use Rattle.book.specs.Posting.{posted, wordsAfter}
+use Rattle.book.specs.Contracts.{Rideable, PartyAmounts, AllCharged, Postable}
 use Rattle.book.proofs.SoundLaws.{sound-has}
 use Rattle.book.proofs.ChargeLaws.{charges-length, charges-most}
-use Rattle.book.proofs.GoodRides.{good-ride}
+use Rattle.book.proofs.EarlierLaws.{charged-behind, next-ridden, next-rideable, next-right, next-postable}
+use Rattle.book.proofs.GoodRides.{good-rides}
 use Rattle.book.proofs.SoundAgain.{WindowRight, window-right, posted-sound}
-use Rattle.statement.specs.Record.{recordSize, recordOf, statementOf, Recordable}
-use Rattle.statement.specs.Contracts.{Writable, Wrote, none, more}
-use Rattle.statement.proofs.Charges.{length-record, one-part}
+use Rattle.statement.specs.Record.{recordSize, recordOf, statementOf, statementSize, Recordable}
+use Rattle.statement.specs.Contracts.{partWith, Writable, Wrote, Recordables}
+use Rattle.statement.specs.Contracts as statements
+use Rattle.statement.proofs.Charges.{length-record}
 use Rattle.settle.specs.declared.Answer.the-variants.{Written}
-use Rattle.settle.specs.Rides.{ridesOf}
-use Rattle.settle.specs.Outcome.{partOf, partsOf, postedAll, acceptedTrip}
-use Rattle.settle.specs.Contracts.{AllClear, Chargeable, RideCharged, ToldSound}
+use Rattle.settle.specs.Outcome.{partOf, oneMore, partsOf, postedAll, acceptedTrip}
+use Rattle.settle.specs.Contracts.{
+  partAfter,
+  Stateable,
+  RideStated,
+  BothStateable,
+  BothStated,
+  BothPostable,
+  Chargeable,
+  OfOneTrip,
+  RidesCharged,
+  AllClear,
+  ToldSound,
+}
+use Rattle.settle.proofs.Rides.{rides-most}
 
 -- what was stored at the start of a list is what it starts with
 starts-with : (l vs : List ℕ) → length vs ≤ length l → take (length vs) (sets l 0 vs) ≡ vs
 starts-with l vs fits = rw (sets-eq vs l 0 (omega arith)) (take-append-seam vs _)
 
--- ---- One ride.
+-- bytes written behind others are written with them
+pub wrote-behind :
+    {bytes more before between after : List ℕ} {place next r : ℕ} → Wrote bytes before place between next → Wrote more between next after r
+    → Wrote (bytes ++ more) before place after r
+wrote-behind {bytes} {more} {before} {place = place} one other =
+    record {
+      next = rw (length-append bytes more) (omega (arith, one .next, other .next));
+      stored = other .stored ∙ rw (one .stored, one .next) (sets-more before place bytes more);
+    }
 
-module _ {tariff : List ℕ} {counts : Counts} {book : List ℕ} {window : Window} {checkout : ℕ} {ride : Ride} {statement : List ℕ} {place : ℕ}
-    (ok : Chargeable tariff counts book window checkout ride statement place) where
-  -- one charge for each of the party
+-- ---- A ride stated beside the book.
+
+module _ {tariff : List ℕ} {counts : Counts} {book : List ℕ} {window : Window} {ride : Ride} {earlier : Earlier} {statement : List ℕ} {place : ℕ}
+    (ok : Stateable tariff counts book window ride earlier statement place) where
+  -- the words that it is charged on, and a charge for each of the party
+  abbrev words : List ℕ
+  words = wordsAfter tariff counts (inWindow (window .current) book) earlier
+
   abbrev charges : List ℕ
-  charges = chargesOf tariff counts (inWindow (window .current) book) ride
+  charges = chargesOf tariff counts words ride
 
   count-is : length charges ≡ 1 + ride .party .adults + ride .party .children + ride .party .bicycles
-  count-is = charges-length tariff counts (inWindow (window .current) book) ride
+  count-is = charges-length tariff counts words ride
 
-  fits : length charges ≤ 31
-  fits = omega (arith, count-is, ok .rideable .adults, ok .rideable .children, ok .rideable .bicycles)
+  -- its record's bytes
+  pub record-size : length (recordOf (partAfter tariff counts book window earlier ride)) ≡ recordSize (ride .party)
+  record-size = omega (arith, length-record (partAfter tariff counts book window earlier ride), count-is)
 
-  can-record : Recordable (partOf tariff counts book window ride)
-  unfolding partOf
-  can-record =
-      let few = faultless tariff counts (ok .rideable .read) .few-areas in
-      let head = ok .right .head in
-      record {
-        opening = omega (arith, head .order, head .last);
-        area = omega (arith, ok .rideable .area);
-        km = omega (arith, ok .rideable .km);
-        minutes = omega (arith, ok .rideable .minutes);
-        few = fits;
-        charges = λ i. omega (arith, charges-most (ok .rideable) (window .current) i);
-      }
-
-  -- stored at the start of an array of 31
-  module _ (start amounts : List ℕ) (count : ℕ) (full : length start ≡ 31)
-      (made : (count ≡ length charges) × (amounts ≡ sets start 0 charges)) where
-    charged : PartyAmounts tariff counts (inWindow (window .current) book) ride amounts
+  -- stored at the start of amounts that the largest party has room in
+  module _ (start : List ℕ) {amounts : List ℕ} {count : ℕ} (full : length start ≡ 31) (made : AllCharged tariff counts words ride start amounts count) where
+    pub charged : PartyAmounts tariff counts words ride amounts
     charged =
         record {
           size = rw (made .1) (length-sets start 0 charges ∙ full);
-          value = rw (made .1) (starts-with start charges (rw full fits));
+          value = rw (made .1) (starts-with start charges (rw full (ok .recordable .few)));
         }
 
     listed : take count amounts ≡ charges
     listed = rw (made .0) (charged .value)
 
-    pub writable : Writable statement place (window .opening .0) ride amounts count
-    unfolding partOf
-    writable =
+    -- its record can be written, whatever else was written meanwhile
+    pub writable :
+        {before : List ℕ} {here : ℕ} → length before ≡ length statement → here ≡ place → Writable before here (window .opening .0) ride amounts count
+    writable same at =
         record {
-          there = omega (arith, fits, made .0, charged .size);
+          there = omega (arith, ok .recordable .few, made .0, charged .size);
           room = omega (arith, count-is, made .0, ok .room);
-          recordable = rw listed can-record;
+          recordable = rw listed (ok .recordable);
         }
 
-    pub postable : Postable tariff counts book window ride amounts
-    postable = record { rideable = ok .rideable; trips = ok .right .trips; few = omega (arith, ok .right .head .few); charged = charged }
+    pub recorded :
+        {before after : List ℕ} {here r : ℕ} → Wrote (recordOf (partWith (window .opening .0) ride amounts count)) before here after r
+        → Wrote (recordOf (partAfter tariff counts book window earlier ride)) before here after r
+    recorded wrote = rw listed at wrote
 
-    pub ride-charged :
-        (book′ statement′ : List ℕ) (r : ℕ)
-        → Wrote (recordOf (record { opening = window .opening .0; ride = ride; charges = take count amounts })) statement place statement′ r
-        → book′ ≡ posted tariff counts book window checkout ride
-        → RideCharged tariff counts book window checkout ride statement place book′ statement′ r
-    unfolding partOf
-    ride-charged book′ statement′ r wrote post =
-        record {
-          wrote = rw listed at wrote;
-          recordable = can-record;
-          book-is = post;
-          sound-again = rw post (posted-sound (ok .rideable) (ok .right));
-        }
+-- A record's place is behind the one before it.
+pub writable-behind :
+    {tariff : List ℕ} {counts : Counts} {book : List ℕ} {window : Window} {first second : Ride} {earlier earlier′ : Earlier} {statement between : List ℕ}
+    {next : ℕ} → Stateable tariff counts book window first earlier statement 0
+    → Wrote (recordOf (partAfter tariff counts book window earlier first)) statement 0 between next
+    → (ok : Stateable tariff counts book window second earlier′ statement (recordSize (first .party))) (start : List ℕ) {amounts : List ℕ} {count : ℕ}
+    → length start ≡ 31
+    → AllCharged tariff counts (wordsAfter tariff counts (inWindow (window .current) book) earlier′) second start amounts count
+    → Writable between next (window .opening .0) second amounts count
+writable-behind {tariff} {counts} {book} {window} {first} {earlier = earlier} {statement = statement} one wrote ok start full made =
+    let bytes = recordOf (partAfter tariff counts book window earlier first) in
+    writable ok start full made (ap length (wrote .stored) ∙ length-sets statement 0 bytes) (omega (arith, wrote .next, record-size one))
+
+-- ---- Rides charged one after another.
+
+first-of : {P : Ride → Type 0} {ride : Ride} {rest : List Ride} → EachRide P (ride ∷ rest) → P ride
+first-of (more is others) = is
+
+others-of : {P : Ride → Type 0} {ride : Ride} {rest : List Ride} → EachRide P (ride ∷ rest) → EachRide P rest
+others-of (more is others) = others
+
+-- The fields of a ride's record hold what it says.
+can-record :
+    {tariff : List ℕ} {counts : Counts} {book : List ℕ} {window : Window} {checkout : ℕ} {ride : Ride} → Rideable tariff counts book ride
+    → WindowRight book window checkout → Recordable (partOf tariff counts book window ride)
+unfolding partOf
+can-record {tariff} {counts} {book} {window} {ride = ride} ok right =
+    let few = faultless tariff counts (ok .read) .few-areas in
+    let head = right .head in
+    record {
+      opening = omega (arith, head .order, head .last);
+      area = omega (arith, ok .area);
+      km = omega (arith, ok .km);
+      minutes = omega (arith, ok .minutes);
+      few = omega (arith, charges-length tariff counts (inWindow (window .current) book) ride, ok .adults, ok .children, ok .bicycles);
+      charges = λ i. omega (arith, charges-most ok (window .current) i);
+    }
+
+module _ (tariff : List ℕ) (counts : Counts) (checkout : ℕ) where
+  -- the rides are so on the book that one of them left, too
+  carried :
+      {book : List ℕ} {window : Window} {ride : Ride} → Rideable tariff counts book ride → WindowRight book window checkout → (rest : List Ride)
+      → EachRide (Rideable tariff counts book) rest → EachRide (Rideable tariff counts (posted tariff counts book window checkout ride)) rest
+  carried ok right [] none = none
+  carried ok right (next ∷ rest) (more ok′ others) = more (next-rideable ok ok′ right) (carried ok right rest others)
+
+  -- Each can be recorded, and the book that they leave is sound.
+  pub all-right :
+      (book : List ℕ) (window : Window) (ride : Ride) (rest : List Ride) → EachRide (Rideable tariff counts book) (ride ∷ rest)
+      → WindowRight book window checkout → window .trips + length (ride ∷ rest) ≤ 256
+      → Recordables (partsOf tariff counts book window checkout (ride ∷ rest))
+      × (sound (postedAll tariff counts book window checkout (ride ∷ rest)) (counts .areas) ≡ true)
+  unfolding partsOf postedAll oneMore
+  all-right book window ride [] (more ok none) right few = (statements.more (can-record ok right) statements.none, posted-sound ok right)
+  all-right book window ride (next ∷ rest) (more ok (more ok′ others)) right few =
+      let (parts, left) =
+      all-right (posted tariff counts book window checkout ride) (oneMore window) next rest
+      (more (next-rideable ok ok′ right) (carried ok right rest others)) (next-right ok ok′ right (omega arith)) (omega arith)
+      in
+      (statements.more (can-record ok right) parts, left)
+
+  -- Their records take what the rides say.
+  pub parts-size :
+      (book : List ℕ) (window : Window) (rides : List Ride)
+      → length (statementOf (partsOf tariff counts book window checkout rides)) ≡ statementSize rides
+  unfolding partsOf statementOf statementSize partOf
+  parts-size book window [] = refl
+  parts-size book window (ride ∷ rest) =
+      length-append (recordOf (partOf tariff counts book window ride)) _
+      ∙ omega (
+        arith,
+        length-record (partOf tariff counts book window ride),
+        charges-length tariff counts (inWindow (window .current) book) ride,
+        parts-size (posted tariff counts book window checkout ride) (oneMore window) rest,
+      )
+
+-- ---- One ride.
+
+module _ {tariff : List ℕ} {counts : Counts} {book : List ℕ} {window : Window} {checkout : ℕ} {ride : Ride} {statement : List ℕ}
+    (ok : Chargeable tariff counts book window checkout (ride ∷ []) statement) where
+  rideable : Rideable tariff counts book ride
+  rideable = first-of (ok .rideable)
+
+  pub stateable : Stateable tariff counts book window ride Nothing statement 0
+  unfolding partOf statementSize
+  stateable =
+      record {
+        ridden = record { rideable = rideable; before = tt };
+        recordable = can-record rideable (ok .right);
+        room = omega (arith, ok .room);
+      }
+
+  pub postable : {amounts : List ℕ} → PartyAmounts tariff counts (inWindow (window .current) book) ride amounts → Postable tariff counts book window ride amounts
+  postable made = record { rideable = rideable; trips = ok .right .trips; few = omega (arith, ok .right .head .few); charged = made }
+
+  pub ride-charged :
+      {book′ amounts statement′ : List ℕ} {r : ℕ} → RideStated tariff counts book window ride amounts statement statement′ r
+      → book′ ≡ posted tariff counts book window checkout ride
+      → RidesCharged tariff counts book window checkout (ride ∷ []) statement book′ statement′ r
+  unfolding partsOf postedAll partOf statementOf
+  ride-charged stated is =
+      let right = all-right tariff counts checkout book window ride [] (ok .rideable) (ok .right) (ok .few) in
+      record {
+        wrote = rw (append-nil (recordOf (partOf tariff counts book window ride))) (stated .wrote);
+        recordable = right .0;
+        book-is = is;
+        sound-again = rw is (right .1);
+      }
+
+-- ---- Two parts.
+
+module _ {tariff : List ℕ} {counts : Counts} {book : List ℕ} {window : Window} {checkout : ℕ} {first second : Ride} {statement : List ℕ}
+    (ok : Chargeable tariff counts book window checkout (first ∷ second ∷ []) statement) where
+  -- both are rides on the book
+  one : Rideable tariff counts book first
+  one = first-of (ok .rideable)
+
+  other : Rideable tariff counts book second
+  other = first-of (others-of (ok .rideable))
+
+  few : window .trips + 2 ≤ 256
+  few = ok .few
+
+  -- The second part beside the book is the second part on the book that has the first.
+  part-behind :
+      partAfter tariff counts book window (Part first) second
+      ≡ partOf tariff counts (posted tariff counts book window checkout first) (oneMore window) second
+  unfolding partOf oneMore
+  part-behind = rw (charged-behind one second (other .area) window checkout)
+
+  pub both-stateable : OfOneTrip first second → BothStateable tariff counts book window first second statement
+  unfolding partOf statementSize oneMore
+  both-stateable same =
+      record {
+        one = record { ridden = record { rideable = one; before = tt }; recordable = can-record one (ok .right); room = omega (arith, ok .room) };
+        other =
+            record {
+              ridden = next-ridden one other (ok .right) (same .class) (same .party);
+              recordable = rw part-behind (can-record (next-rideable one other (ok .right)) (next-right one other (ok .right) few));
+              room = omega (arith, ok .room);
+            };
+      }
+
+  pub both-postable :
+      {paid amounts statement′ : List ℕ} {r : ℕ} → BothStated tariff counts book window first second paid amounts statement statement′ r
+      → BothPostable tariff counts book window checkout first second paid amounts
+  unfolding oneMore
+  both-postable stated =
+      record {
+        one = record { rideable = one; trips = ok .right .trips; few = omega (arith, few); charged = stated .paid-first };
+        other = next-postable one other (ok .right) few (stated .charged);
+      }
+
+  pub both-charged :
+      {book′ paid amounts statement′ : List ℕ} {r : ℕ} → BothStated tariff counts book window first second paid amounts statement statement′ r
+      → book′ ≡ posted tariff counts (posted tariff counts book window checkout first) (oneMore window) checkout second
+      → RidesCharged tariff counts book window checkout (first ∷ second ∷ []) statement book′ statement′ r
+  unfolding partsOf postedAll partOf statementOf
+  both-charged stated is =
+      let right = all-right tariff counts checkout book window first (second ∷ []) (ok .rideable) (ok .right) (ok .few) in
+      record {
+        wrote =
+            rw (append-nil (recordOf (partOf tariff counts (posted tariff counts book window checkout first) (oneMore window) second)), ← part-behind)
+            (stated .wrote);
+        recordable = right .0;
+        book-is = is;
+        sound-again = rw is (right .1);
+      }
 
 -- ---- A trip.
 
-module _ (tariff : List ℕ) (counts : Counts) (book bytes : List ℕ) (trip : Trip) (window : Window) (statement : List ℕ)
-    (clear : AllClear tariff counts book bytes trip window statement) where
-  fields : GoodFields bytes
-  fields = good-fields (clear .good)
+module _ (tariff : List ℕ) (counts : Counts) (book bytes : List ℕ) (trip : Trip) (window : Window) (statement : List ℕ) where
+  module _ {breaking : Breaking} (clear : AllClear tariff counts book bytes trip window breaking statement) where
+    fields : GoodFields bytes
+    fields = good-fields (clear .good)
 
-  pub trip-riding : Riding tariff counts bytes (trip .stops)
-  trip-riding = rw (clear .trip-is) (riding (clear .read) (clear .good))
+    pub trip-riding : Riding tariff counts bytes (trip .stops)
+    trip-riding = rw (clear .trip-is) (riding (clear .ready .read) (clear .good))
 
-  pub trip-in-order : InOrder trip
-  trip-in-order = rw (clear .trip-is) (in-order (clear .good))
+    pub trip-in-order : InOrder trip
+    trip-in-order = rw (clear .trip-is) (in-order (clear .good))
 
-  module _ (ride : Ride) (is : RideOf tariff counts bytes trip ride) where
-    party : ride .party ≡ trip .party
-    unfolding rideOf
-    party = ap (λ (r : Ride). r .party) (is .value)
+    -- a change where it is broken is one of its stops
+    pub change-inside : (c : ℕ) → breaking ≡ At c → c < trip .stops
+    change-inside c broken = omega (arith, broken-between trip-riding c (sym (clear .breaking-is) ∙ broken) .1)
 
-    pub chargeable : Chargeable tariff counts book window (trip .checkout .0) ride statement 0
-    chargeable =
-        record {
-          rideable = rw (is .value, clear .trip-is) (good-ride tariff counts book bytes (clear .read) (clear .sound-book) (clear .good));
+    -- Its rides, which writing finds by where it is broken.
+    pub whole : {ride : Ride} → breaking ≡ Unbroken → RideIs counts (rideOf tariff counts bytes trip) ride → ride ∷ [] ≡ ridesOf tariff counts bytes trip
+    whole unbroken is = rw (is .value) (sym (one-ride tariff counts bytes trip (sym (clear .breaking-is) ∙ unbroken)))
+
+    pub parts :
+        {first second : Ride} (c : ℕ) → breaking ≡ At c → RideIs counts (firstPart tariff counts bytes trip c) first
+        → RideIs counts (secondPart tariff counts bytes trip c) second → first ∷ second ∷ [] ≡ ridesOf tariff counts bytes trip
+    parts c broken is is′ = rw (is .value, is′ .value) (sym (two-rides tariff counts bytes trip c (sym (clear .breaking-is) ∙ broken)))
+
+    pub chargeable : {rides : List Ride} → rides ≡ ridesOf tariff counts bytes trip → Chargeable tariff counts book window (trip .checkout .0) rides statement
+    chargeable is =
+        rw is
+        (record {
+          rideable = rw (clear .trip-is) (good-rides tariff counts book bytes (clear .ready .read) (clear .ready .sound-book) (clear .good));
           right =
-              window-right (sound-has book (counts .areas) (clear .sound-book)) (rw (clear .trip-is) (fields .forward))
-              (rw (clear .trip-is) (fields .short)) (rw (clear .trip-is) (fields .range)) (clear .on-time) window (clear .window-is) (clear .few);
-          room = rw party (omega (arith, clear .room));
-        }
+              window-right (sound-has book (counts .areas) (clear .ready .sound-book)) (rw (clear .trip-is) (fields .forward))
+              (rw (clear .trip-is) (fields .short)) (rw (clear .trip-is) (fields .range)) (clear .on-time) window (clear .window-is)
+              (omega (arith, clear .few, few-rides tariff counts bytes trip .0));
+          few = clear .few;
+          room = clear .room;
+        })
+
+    pub of-one-trip : {first second : Ride} → first ∷ second ∷ [] ≡ ridesOf tariff counts bytes trip → OfOneTrip first second
+    of-one-trip is =
+        let each = rw (← is) at (rides-of-trip tariff counts bytes trip) in
+        let one = first-of each in
+        let other = first-of (others-of each) in
+        record { class = one .class ∙ sym (other .class); party = one .party ∙ sym (other .party) }
 
     -- What was written is the accepted outcome, and the book left behind is sound again.
     pub written :
-        (book′ statement′ : List ℕ) (r : ℕ)
-        → RideCharged tariff counts book window (trip .checkout .0) ride statement 0 book′ statement′ r
+        {rides : List Ride} → rides ≡ ridesOf tariff counts bytes trip → {book′ statement′ : List ℕ} {r : ℕ}
+        → RidesCharged tariff counts book window (trip .checkout .0) rides statement book′ statement′ r
         → ToldSound (acceptedTrip tariff counts book bytes trip window) (counts .areas) book book′ statement statement′ (Written r)
-    unfolding acceptedTrip ridesOf partsOf postedAll partOf
-    written book′ statement′ r done =
-        let part = partOf tariff counts book window ride in
-        let size = length-record part in
-        let most = done .recordable .few in
-        let count = charges-length tariff counts (inWindow (window .current) book) ride in
-        let room = chargeable .room in
-        let long : length (recordOf part) ≤ length statement = omega arith in
-        let wrote : statement′ ≡ recordOf part ++ drop (length (recordOf part)) statement =
-        done .wrote .stored ∙ sets-eq (recordOf part) statement 0 (omega arith) ∙ rw zero-add
+    unfolding acceptedTrip
+    written is {book′} {statement′} {r} done =
+        let charged = rw is at done in
+        let bytes-are = statementOf (partsOf tariff counts book window (trip .checkout .0) (ridesOf tariff counts bytes trip)) in
+        let size = parts-size tariff counts (trip .checkout .0) book window (ridesOf tariff counts bytes trip) in
+        let ranges = fields .ranges in
+        let most =
+        rides-most tariff counts bytes trip (rw (clear .trip-is) (ranges .adults)) (rw (clear .trip-is) (ranges .children))
+        (rw (clear .trip-is) (ranges .bicycles))
         in
-        let told : r ≡ length (recordOf part) = done .wrote .next ∙ zero-add _ in
-        rw (← is .value)
-        (record {
+        let room = clear .room in
+        let told : r ≡ length bytes-are = charged .wrote .next ∙ zero-add _ in
+        record {
           told =
               record {
-                answer = rw (one-part part, told);
+                answer = ap Written told;
                 fits = omega arith;
-                recordable = more (done .recordable) none;
-                book-is = done .book-is;
-                statement-is = rw (one-part part) wrote;
+                recordable = charged .recordable;
+                book-is = charged .book-is;
+                statement-is = charged .wrote .stored ∙ sets-eq bytes-are statement 0 (omega arith) ∙ rw zero-add;
               };
-          sound-again = done .sound-again;
-        })
+          sound-again = charged .sound-again;
+        }

@@ -1,32 +1,36 @@
--- A trip is charged as one ride: what it comes to is that ride's part and the book with it, and an accepted outcome has one part, whose
--- record can be read where it was written.
+-- What an accepted trip comes to: one part, or the two that it is broken into; and the records of these parts can be read where they were
+-- written, one behind the other.
 -- Assumes nothing.
-use Prim.Native.Nat.{ℕ}
+use Prim.Native.Nat.{ℕ, _+_}
 use native.Mathlib.Omega.{arith}
 use mathlib.Core.Path.{_≡_, refl, sym, ap, subst, _∙_}
-use mathlib.Core.List.{List, [], _∷_, _++_}
+use mathlib.Core.List.{List, [], _∷_, _++_, append-assoc}
 use lib.ListN.{length, drop}
+use lib.Seq.{drop-drop, drop-at}
 use Rattle.tariff.specs.declared.Counts.{Counts}
 use Rattle.tariff.specs.declared.Reading.{Reading}
 use Rattle.tariff.specs.declared.Reading.the-variants.{Fault, Faultless}
 use Rattle.tariff.specs.Scan.{readTariff}
 use Rattle.trip.specs.declared.Trip.{Trip}
+use Rattle.fare.specs.declared.Ride.{Ride}
+use Rattle.fare.specs.declared.Breaking.{Breaking}
+use Rattle.fare.specs.declared.Breaking.the-variants.{Unbroken, At}
 use Rattle.fare.specs.Rides.{rideOf}
+use Rattle.fare.specs.Parts.{breakOf, firstPart, secondPart, ridesOf}
+use Rattle.fare.proofs.PartLaws.{one-ride, two-rides}
 use Rattle.book.specs.declared.Window.{Window}
 use Rattle.book.specs.Posting.{posted}
-use Rattle.statement.specs.Record.{Part, statementOf, Recordable}
-use Rattle.statement.specs.Contracts.{StandsAt, RecordAt, Recordables, more}
-use Rattle.statement.proofs.Records.{record-at, first-stands}
-use Rattle.settle.specs.declared.Answer.{Answer}
+use Rattle.statement.specs.Record.{Part, recordOf, statementOf}
+use Rattle.statement.specs.Contracts.{StandsAt, Recordables}
 use Rattle.settle.specs.declared.Answer.the-variants as answer
 use Rattle.settle.specs.declared.decide.Decision.{Decision}
 use Rattle.settle.specs.declared.decide.Decision.the-variants.{Refused, Clear}
-use Rattle.settle.specs.Rides.{ridesOf}
 use Rattle.settle.specs.Outcome.{
   Outcome,
   refused,
   accepted,
   partOf,
+  oneMore,
   partsOf,
   postedAll,
   decidedUnder,
@@ -38,93 +42,140 @@ use Rattle.settle.specs.Contracts.{Told}
 use Rattle.settle.proofs.Ways.{refused-under, accepted-under, fault-way, faultless-way}
 
 module _ (tariff : List ℕ) (counts : Counts) (book bytes : List ℕ) (trip : Trip) (window : Window) where
-  pub one-part :
-      partsOf tariff counts book window (trip .checkout .0) (ridesOf tariff counts bytes trip)
-      ≡ partOf tariff counts book window (rideOf tariff counts bytes trip) ∷ []
-  unfolding ridesOf partsOf
-  one-part = refl
+  abbrev checkout : ℕ
+  checkout = trip .checkout .0
 
-  pub one-posted :
-      postedAll tariff counts book window (trip .checkout .0) (ridesOf tariff counts bytes trip)
-      ≡ posted tariff counts book window (trip .checkout .0) (rideOf tariff counts bytes trip)
-  unfolding ridesOf postedAll
-  one-posted = refl
+  abbrev rides : List Ride
+  rides = ridesOf tariff counts bytes trip
 
--- ---- An accepted trip has one part.
+  -- Unbroken it comes to the whole ride's part and the book with it.
+  module _ (unbroken : breakOf tariff counts bytes (trip .stops) ≡ Unbroken) where
+    pub one-part : partsOf tariff counts book window checkout rides ≡ partOf tariff counts book window (rideOf tariff counts bytes trip) ∷ []
+    unfolding partsOf
+    one-part = rw (one-ride tariff counts bytes trip unbroken)
 
--- an outcome that is accepted in one part, or refused
-abbrev OnePart : Outcome → Type 0
-OnePart o = (new : List ℕ) (parts : List Part) → o ≡ accepted new parts → (part : Part) × (parts ≡ part ∷ [])
+    pub one-posted : postedAll tariff counts book window checkout rides ≡ posted tariff counts book window checkout (rideOf tariff counts bytes trip)
+    unfolding postedAll
+    one-posted = rw (one-ride tariff counts bytes trip unbroken)
+
+  -- Broken it comes to two: the second is charged on the book that the first left, in the same window with one trip more.
+  module _ (c : ℕ) (broken : breakOf tariff counts bytes (trip .stops) ≡ At c) where
+    -- the book that the first part left
+    abbrev between : List ℕ
+    between = posted tariff counts book window checkout (firstPart tariff counts bytes trip c)
+
+    pub two-parts :
+        partsOf tariff counts book window checkout rides
+        ≡ partOf tariff counts book window (firstPart tariff counts bytes trip c)
+        ∷ partOf tariff counts between (oneMore window) (secondPart tariff counts bytes trip c) ∷ []
+    unfolding partsOf
+    two-parts = rw (two-rides tariff counts bytes trip c broken)
+
+    pub two-posted :
+        postedAll tariff counts book window checkout rides ≡ posted tariff counts between (oneMore window) checkout (secondPart tariff counts bytes trip c)
+    unfolding postedAll
+    two-posted = rw (two-rides tariff counts bytes trip c broken)
+
+-- ---- An accepted trip has one part or two.
+
+pub data OneOrTwo : List Part → Type 0 where
+  alone : (part : Part) → OneOrTwo (part ∷ [])
+  both : (one other : Part) → OneOrTwo (one ∷ other ∷ [])
+
+trip-few :
+    (tariff : List ℕ) (counts : Counts) (book bytes : List ℕ) (trip : Trip) (window : Window)
+    → OneOrTwo (partsOf tariff counts book window (trip .checkout .0) (ridesOf tariff counts bytes trip))
+trip-few tariff counts book bytes trip window = go (breakOf tariff counts bytes (trip .stops)) refl
+  where
+    go :
+        (b : Breaking) → breakOf tariff counts bytes (trip .stops) ≡ b
+        → OneOrTwo (partsOf tariff counts book window (trip .checkout .0) (ridesOf tariff counts bytes trip))
+    go (Unbroken) e = rw (one-part tariff counts book bytes trip window e) (alone _)
+    go (At c) e = rw (two-parts tariff counts book bytes trip window c e) (both _ _)
+
+-- an outcome that is accepted in one part or two, or refused
+abbrev FewParts : Outcome → Type 0
+FewParts o = (new : List ℕ) (parts : List Part) → o ≡ accepted new parts → OneOrTwo parts
 
 none-refused : {A : Type 0} {number place : ℕ} {new : List ℕ} {parts : List Part} → refused number place ≡ accepted new parts → A
 none-refused e = absurd (let z : _≡_ {A = ℕ} 0 1 = cc in omega arith)
 
-under-one : (tariff : List ℕ) (counts : Counts) (book bytes : List ℕ) (room : ℕ) → OnePart (settledUnder tariff counts book bytes room)
+pub under-few : (tariff : List ℕ) (counts : Counts) (book bytes : List ℕ) (room : ℕ) → FewParts (settledUnder tariff counts book bytes room)
 unfolding acceptedTrip
-under-one tariff counts book bytes room new parts e = go (decidedUnder tariff counts book bytes room) refl
+under-few tariff counts book bytes room new parts e = go (decidedUnder tariff counts book bytes room) refl
   where
-    go : (d : Decision) → decidedUnder tariff counts book bytes room ≡ d → (part : Part) × (parts ≡ part ∷ [])
+    go : (d : Decision) → decidedUnder tariff counts book bytes room ≡ d → OneOrTwo parts
     go (Refused why) is = none-refused (sym (refused-under tariff counts book bytes room is) ∙ e)
-    go (Clear trip window) is =
+    go (Clear trip window breaking) is =
         let same = sym (accepted-under tariff counts book bytes room trip window is) ∙ e in
-        (partOf tariff counts book window (rideOf tariff counts bytes trip), cc (one-part tariff counts book bytes trip window))
+        let these : partsOf tariff counts book window (trip .checkout .0) (ridesOf tariff counts bytes trip) ≡ parts = cc in
+        subst OneOrTwo these (trip-few tariff counts book bytes trip window)
 
-settled-one : (tariff book bytes : List ℕ) (room : ℕ) → OnePart (settled tariff book bytes room)
-settled-one tariff book bytes room new parts e = go (readTariff tariff) refl
+pub settled-few : (tariff book bytes : List ℕ) (room : ℕ) → FewParts (settled tariff book bytes room)
+settled-few tariff book bytes room new parts e = go (readTariff tariff) refl
   where
-    go : (r : Reading) → readTariff tariff ≡ r → (part : Part) × (parts ≡ part ∷ [])
+    go : (r : Reading) → readTariff tariff ≡ r → OneOrTwo parts
     go (Fault number at) is = none-refused (sym (fault-way tariff book bytes room number at is) ∙ e)
     go (Faultless counts) is =
-        under-one tariff counts book bytes room new parts (sym (faultless-way tariff book bytes room counts is) ∙ e)
+        under-few tariff counts book bytes room new parts (sym (faultless-way tariff book bytes room counts is) ∙ e)
 
--- ---- What a size tells: the outcome has a part, whose record stands at the start of the statement.
+-- ---- Records one after another.
 
-pub record Accepted (o : Outcome) (statement : List ℕ) : Type 0 where
+-- the records of some parts stand one behind the other from a place of a statement on
+pub data StandFrom (statement : List ℕ) : List Part → ℕ → Type 0 where
+  over : {place : ℕ} → StandFrom statement [] place
+  then : {part : Part} {parts : List Part} {place : ℕ} → StandsAt part statement place → StandFrom statement parts (place + length (recordOf part))
+      → StandFrom statement (part ∷ parts) place
+
+stand-from : (parts : List Part) (statement rest : List ℕ) (place : ℕ) → drop place statement ≡ statementOf parts ++ rest → StandFrom statement parts place
+unfolding statementOf
+stand-from [] statement rest place is = over
+stand-from (part ∷ parts) statement rest place is =
+    let apart : drop place statement ≡ recordOf part ++ (statementOf parts ++ rest) = is ∙ append-assoc (recordOf part) (statementOf parts) rest in
+    then (record { rest = statementOf parts ++ rest; is = apart })
+    (stand-from parts statement rest (place + length (recordOf part))
+    (sym (drop-drop (length (recordOf part)) place statement) ∙ ap (drop (length (recordOf part))) apart
+    ∙ drop-at (recordOf part) (statementOf parts ++ rest) (length (recordOf part)) refl))
+
+-- ---- What a size tells: the outcome's parts, one or two, whose records the statement starts with, and their bytes.
+
+pub record Accepted (o : Outcome) (statement : List ℕ) (size : ℕ) : Type 0 where
   pub new : List ℕ
-  pub part : Part
-  pub is : o ≡ accepted new (part ∷ [])
-  pub stands : StandsAt part statement 0
-  pub recordable : Recordable part
+  pub parts : List Part
+  pub is : o ≡ accepted new parts
+  pub few : OneOrTwo parts
+  pub size-is : size ≡ length (statementOf parts)
+  pub stand : StandFrom statement parts 0
+  pub recordable : Recordables parts
 
 pub no-size : {A : Type 0} {number place size : ℕ} → answer.Written size ≡ answer.Refused number place → A
 no-size e = absurd (let z : _≡_ {A = ℕ} 0 1 = cc in omega arith)
 
-head-recordable : {part : Part} {parts : List Part} → Recordables (part ∷ parts) → Recordable part
-head-recordable (more first rest) = first
-
 told-size :
-    (o : Outcome) → OnePart o → {book book′ statement statement′ : List ℕ} {size : ℕ} → Told o book book′ statement statement′ (answer.Written size)
-    → Accepted o statement′
-told-size (refused number place) one told = no-size (told .answer)
-told-size (accepted new parts) one {statement = statement} {statement′} told =
-    let (part, is) = one new parts refl in
-    let rest = drop (length (statementOf parts)) statement in
+    (o : Outcome) → FewParts o → {book book′ statement statement′ : List ℕ} {size : ℕ} → Told o book book′ statement statement′ (answer.Written size)
+    → Accepted o statement′ size
+told-size (refused number place) few told = no-size (told .answer)
+told-size (accepted new parts) few {statement = statement} {statement′} {size} told =
+    let answered = told .answer in
+    let all : size ≡ length (statementOf parts) = cc in
     record {
       new = new;
-      part = part;
-      is = ap (accepted new) is;
-      stands =
-          subst (λ (s : List ℕ). StandsAt part s 0)
-          (ap (λ (ps : List Part). statementOf ps ++ rest) (sym is) ∙ sym (told .statement-is))
-          (first-stands part [] rest);
-      recordable = head-recordable (subst Recordables is (told .recordable));
+      parts = parts;
+      is = refl;
+      few = few new parts refl;
+      size-is = all;
+      stand = stand-from parts statement′ (drop (length (statementOf parts)) statement) 0 (told .statement-is);
+      recordable = told .recordable;
     }
 
 module _ {book′ statement statement′ : List ℕ} {size : ℕ} where
   pub under-accepted :
       (tariff : List ℕ) (counts : Counts) (book bytes : List ℕ) (room : ℕ)
       → Told (settledUnder tariff counts book bytes room) book book′ statement statement′ (answer.Written size)
-      → Accepted (settledUnder tariff counts book bytes room) statement′
-  under-accepted tariff counts book bytes room told = told-size _ (under-one tariff counts book bytes room) told
+      → Accepted (settledUnder tariff counts book bytes room) statement′ size
+  under-accepted tariff counts book bytes room told = told-size _ (under-few tariff counts book bytes room) told
 
   pub settled-accepted :
       (tariff book bytes : List ℕ) (room : ℕ) → Told (settled tariff book bytes room) book book′ statement statement′ (answer.Written size)
-      → Accepted (settled tariff book bytes room) statement′
-  settled-accepted tariff book bytes room told = told-size _ (settled-one tariff book bytes room) told
-
--- So it can be read.
-pub settled-readable :
-    (tariff book bytes : List ℕ) (room : ℕ) {book′ statement statement′ : List ℕ} {r : Answer} {size : ℕ}
-    → Told (settled tariff book bytes room) book book′ statement statement′ r → r ≡ answer.Written size → RecordAt statement′ 0
-settled-readable tariff book bytes room told is =
-    let w = settled-accepted tariff book bytes room (rw is at told) in record-at (w .stands) (w .recordable)
+      → Accepted (settled tariff book bytes room) statement′ size
+  settled-accepted tariff book bytes room told = told-size _ (settled-few tariff book bytes room) told

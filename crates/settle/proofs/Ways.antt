@@ -8,7 +8,7 @@ use mathlib.Core.List.{List}
 use borrow.Author.Tests.{ltb-false, not-false}
 use lib.ListN.{length}
 use Rattle.tariff.specs.declared.Counts.{Counts}
-use Rattle.tariff.specs.declared.Reading.the-variants.{Fault, Faultless}
+use Rattle.tariff.specs.declared.Reading.the-variants.{Fault}
 use Rattle.tariff.specs.Scan.{readTariff}
 use Rattle.tariff.specs.Areas.{Read}
 use Rattle.units.specs.declared.Minutes.{Minutes}
@@ -18,21 +18,21 @@ use Rattle.trip.specs.Record.{classAt, levelAt, partyAt, countAt}
 use Rattle.trip.specs.Moments.{checkinOf, checkoutOf}
 use Rattle.trip.specs.Trips.{isTrip, stampsRight, inOrder, tripOf}
 use Rattle.trip.specs.Contracts.{GoodTrip}
+use Rattle.fare.specs.declared.Breaking.{Breaking}
+use Rattle.fare.specs.Parts.{breakOf, ridesOf}
 use Rattle.book.specs.declared.Window.{Window}
 use Rattle.book.specs.Sound.{sound}
 use Rattle.book.specs.Windows.{tooEarly, windowOf}
-use Rattle.statement.specs.Record.{recordSize, statementSize}
+use Rattle.statement.specs.Record.{statementSize}
 use Rattle.statement.specs.Contracts.{none}
 use Rattle.settle.specs.declared.Answer.the-variants as answer
 use Rattle.settle.specs.declared.decide.Decision.{Decision}
 use Rattle.settle.specs.declared.decide.Decision.the-variants.{Refused, Clear}
 use Rattle.settle.specs.declared.refusals.Refusal.{Refusal}
 use Rattle.settle.specs.declared.refusals.Refusal.the-variants as why
-use Rattle.settle.specs.Rides.{ridesOf}
 use Rattle.settle.specs.Refusals.{refusal, lastRefusal, rows, Found, nothing, found, firstOf, testOf}
-use Rattle.settle.specs.Outcome.{Outcome, refused, accepted, decidedUnder, acceptedTrip, settledUnder, settled}
+use Rattle.settle.specs.Outcome.{Outcome, refused, decidedUnder, acceptedTrip, settledUnder, settled}
 use Rattle.settle.specs.Contracts.{AllClear, Told, Ready}
-use Rattle.settle.proofs.Rides.{one-ride, one-size}
 use Rattle.settle.proofs.Rows.{stop, none-holds, first-range, rows-range}
 
 -- ---- The decision.
@@ -44,23 +44,26 @@ module _ (tariff : List ℕ) (counts : Counts) (book trip : List ℕ) (room : �
   abbrev window : Window
   window = windowOf book (checkinOf trip) (checkoutOf trip)
 
+  abbrev breaking : Breaking
+  breaking = breakOf tariff counts trip (countAt trip 0)
+
   -- the first row that holds is refused; where none does, the decision is clear
   pub refused-first : {why : Refusal} → found-first ≡ found why → decidedUnder tariff counts book trip room ≡ Refused why
   unfolding decidedUnder
   refused-first e = rw (e, decidedUnder)
 
-  pub clear-first : found-first ≡ nothing → decidedUnder tariff counts book trip room ≡ Clear (tripOf trip) window
+  pub clear-first : found-first ≡ nothing → decidedUnder tariff counts book trip room ≡ Clear (tripOf trip) window breaking
   unfolding decidedUnder
   clear-first e = rw (e, decidedUnder)
 
   pub clear-with :
-      {from to : Minutes} {class level : ℕ} {party : Party} {stops : ℕ} {here : Window} → found-first ≡ nothing → checkinOf trip ≡ from .0
+      {from to : Minutes} {class level : ℕ} {party : Party} {stops : ℕ} {here : Window} {broken : Breaking} → found-first ≡ nothing → checkinOf trip ≡ from .0
       → checkoutOf trip ≡ to .0 → class ≡ classAt trip 0 → level ≡ levelAt trip 0 → party ≡ partyAt trip 0 → countAt trip 0 ≡ stops
-      → window ≡ here
-      → Clear (record { checkin = from; checkout = to; class = class; level = level; party = party; stops = stops }) here
+      → window ≡ here → breaking ≡ broken
+      → Clear (record { checkin = from; checkout = to; class = class; level = level; party = party; stops = stops }) here broken
       ≡ decidedUnder tariff counts book trip room
-  clear-with no-one from to class level party stops here =
-      rw (class, level, party, ← stops, ← here, clear-first no-one, from, to)
+  clear-with no-one from to class level party stops here broken =
+      rw (class, level, party, ← stops, ← here, ← broken, clear-first no-one, from, to)
 
   -- and only then
   pub refused-found : {why : Refusal} → decidedUnder tariff counts book trip room ≡ Refused why → found-first ≡ found why
@@ -71,12 +74,12 @@ module _ (tariff : List ℕ) (counts : Counts) (book trip : List ℕ) (room : �
       go (found other) is = let same : other ≡ why = cc (refused-first is) in is ∙ ap found same
 
   pub clear-found :
-      {fields : Trip} {here : Window} → decidedUnder tariff counts book trip room ≡ Clear fields here
-      → (found-first ≡ nothing) × ((fields ≡ tripOf trip) × (here ≡ window))
-  clear-found {fields} {here} e = go found-first refl
+      {fields : Trip} {here : Window} {broken : Breaking} → decidedUnder tariff counts book trip room ≡ Clear fields here broken
+      → (found-first ≡ nothing) × ((fields ≡ tripOf trip) × ((here ≡ window) × (broken ≡ breaking)))
+  clear-found {fields} {here} {broken} e = go found-first refl
     where
-      go : (f : Found) → found-first ≡ f → (found-first ≡ nothing) × ((fields ≡ tripOf trip) × (here ≡ window))
-      go nothing is = (is, (cc (clear-first is), cc (clear-first is)))
+      go : (f : Found) → found-first ≡ f → (found-first ≡ nothing) × ((fields ≡ tripOf trip) × ((here ≡ window) × (broken ≡ breaking)))
+      go nothing is = (is, (cc (clear-first is), (cc (clear-first is), cc (clear-first is))))
       go (found why) is = absurd (let z : _≡_ {A = ℕ} 0 1 = cc (refused-first is) in omega arith)
 
   -- What it says that no row holds.
@@ -84,8 +87,8 @@ module _ (tariff : List ℕ) (counts : Counts) (book trip : List ℕ) (room : �
     pub sound-book : sound book (counts .areas) ≡ true
     pub good : GoodTrip trip (counts .stops)
     pub on-time : tooEarly book (checkinOf trip) ≡ false
-    pub few : window .trips + 1 ≤ 256
-    pub fits : recordSize (partyAt trip 0) ≤ room
+    pub few : window .trips + length (ridesOf tariff counts trip (tripOf trip)) ≤ 256
+    pub fits : statementSize (ridesOf tariff counts trip (tripOf trip)) ≤ room
 
   pub no-row : found-first ≡ nothing → NoneHolds
   unfolding rows testOf
@@ -101,12 +104,8 @@ module _ (tariff : List ℕ) (counts : Counts) (book trip : List ℕ) (room : �
           order = not-false (inOrder (checkinOf trip) (checkoutOf trip)) (off why.WrongOrder);
         };
         on-time = off why.TooEarly;
-        few =
-            rw (one-ride tariff counts trip (tripOf trip)) at
-            (ltb-false 256 (window .trips + length (ridesOf tariff counts trip (tripOf trip))) (off why.FullWindow));
-        fits =
-            rw (one-size tariff counts trip (tripOf trip)) at
-            (ltb-false room (statementSize (ridesOf tariff counts trip (tripOf trip))) (off why.NoRoom));
+        few = ltb-false 256 (window .trips + length (ridesOf tariff counts trip (tripOf trip))) (off why.FullWindow);
+        fits = ltb-false room (statementSize (ridesOf tariff counts trip (tripOf trip))) (off why.NoRoom);
       }
 
 -- ---- The outcome.
@@ -114,7 +113,7 @@ module _ (tariff : List ℕ) (counts : Counts) (book trip : List ℕ) (room : �
 -- what comes of a decision
 abbrev afterDecision : List ℕ → Counts → List ℕ → List ℕ → Decision → Outcome
 afterDecision tariff counts book trip (Refused why) = refused (refusal why) 0
-afterDecision tariff counts book trip (Clear fields window) = acceptedTrip tariff counts book trip fields window
+afterDecision tariff counts book trip (Clear fields window breaking) = acceptedTrip tariff counts book trip fields window
 
 module _ (tariff : List ℕ) (counts : Counts) (book trip : List ℕ) (room : ℕ) where
   by-decision : settledUnder tariff counts book trip room ≡ afterDecision tariff counts book trip (decidedUnder tariff counts book trip room)
@@ -125,11 +124,11 @@ module _ (tariff : List ℕ) (counts : Counts) (book trip : List ℕ) (room : �
           (d : Decision)
           → (elim d as (λ x. Outcome) [
             | Refused why ↦ refused (refusal why) 0
-            | Clear fields window ↦ acceptedTrip tariff counts book trip fields window
+            | Clear fields window breaking ↦ acceptedTrip tariff counts book trip fields window
           ])
           ≡ afterDecision tariff counts book trip d
       same (Refused why) = refl
-      same (Clear fields window) = refl
+      same (Clear fields window breaking) = refl
 
   pub refused-under :
       {why : Refusal} → decidedUnder tariff counts book trip room ≡ Refused why → settledUnder tariff counts book trip room ≡ refused (refusal why) 0
@@ -140,7 +139,7 @@ module _ (tariff : List ℕ) (counts : Counts) (book trip : List ℕ) (room : �
   unsound-under is = refused-under (refused-first tariff counts book trip room (stop _ _ (rw is)))
 
   pub accepted-under :
-      (fields : Trip) (window : Window) → decidedUnder tariff counts book trip room ≡ Clear fields window
+      (fields : Trip) (window : Window) {breaking : Breaking} → decidedUnder tariff counts book trip room ≡ Clear fields window breaking
       → settledUnder tariff counts book trip room ≡ acceptedTrip tariff counts book trip fields window
   accepted-under fields window e = by-decision ∙ ap (afterDecision tariff counts book trip) e
 
@@ -158,7 +157,7 @@ module _ (tariff book trip : List ℕ) (room : ℕ) where
     refused-way e = faultless-way ∙ refused-under tariff counts book trip room e
 
     pub accepted-way :
-        (fields : Trip) (window : Window) → decidedUnder tariff counts book trip room ≡ Clear fields window
+        (fields : Trip) (window : Window) {breaking : Breaking} → decidedUnder tariff counts book trip room ≡ Clear fields window breaking
         → settled tariff book trip room ≡ acceptedTrip tariff counts book trip fields window
     accepted-way fields window e = faultless-way ∙ accepted-under tariff counts book trip room fields window e
 
@@ -180,18 +179,19 @@ refusal-range tariff counts book trip room e =
 
 -- A clear decision is all that writing asks.
 pub all-clear :
-    (tariff : List ℕ) (counts : Counts) (book bytes : List ℕ) (trip : Trip) (window : Window) (statement : List ℕ) → Ready tariff counts book
-    → decidedUnder tariff counts book bytes (length statement) ≡ Clear trip window → AllClear tariff counts book bytes trip window statement
-all-clear tariff counts book bytes trip window statement ready e =
-    let (no-one, (trip-is, window-is)) = clear-found tariff counts book bytes (length statement) e in
+    (tariff : List ℕ) (counts : Counts) (book bytes : List ℕ) (trip : Trip) (window : Window) (breaking : Breaking) (statement : List ℕ)
+    → Ready tariff counts book → decidedUnder tariff counts book bytes (length statement) ≡ Clear trip window breaking
+    → AllClear tariff counts book bytes trip window breaking statement
+all-clear tariff counts book bytes trip window breaking statement ready e =
+    let (no-one, (trip-is, (window-is, breaking-is))) = clear-found tariff counts book bytes (length statement) e in
     let clear = no-row tariff counts book bytes (length statement) no-one in
     record {
-      read = ready .read;
-      sound-book = ready .sound-book;
+      ready = ready;
       good = clear .good;
       trip-is = trip-is;
       window-is = rw trip-is window-is;
+      breaking-is = rw trip-is breaking-is;
       on-time = rw trip-is (clear .on-time);
-      few = rw window-is (clear .few);
+      few = rw (window-is, trip-is) (clear .few);
       room = rw trip-is (clear .fits);
     }

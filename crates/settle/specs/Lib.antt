@@ -1,4 +1,3 @@
-pub mod Rides
 pub mod Refusals
 pub mod Outcome
 pub mod Contracts

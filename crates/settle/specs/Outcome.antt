@@ -8,9 +8,11 @@ use Rattle.tariff.specs.declared.Counts.{Counts}
 use Rattle.tariff.specs.declared.Reading.the-variants.{Fault, Faultless}
 use Rattle.tariff.specs.Scan.{readTariff}
 use Rattle.trip.specs.declared.Trip.{Trip}
+use Rattle.trip.specs.Record.{countAt}
 use Rattle.trip.specs.Moments.{checkinOf, checkoutOf}
 use Rattle.trip.specs.Trips.{tripOf}
 use Rattle.fare.specs.declared.Ride.{Ride}
+use Rattle.fare.specs.Parts.{breakOf, ridesOf}
 use Rattle.book.specs.declared.Window.{Window}
 use Rattle.book.specs.Windows.{windowOf, inWindow}
 use Rattle.book.specs.Charging.{chargesOf}
@@ -18,7 +20,6 @@ use Rattle.book.specs.Posting.{posted}
 use Rattle.statement.specs.Record.{Part, statementOf}
 use Rattle.settle.specs.declared.decide.Decision.{Decision}
 use Rattle.settle.specs.declared.decide.Decision.the-variants.{Refused, Clear}
-use Rattle.settle.specs.Rides.{ridesOf}
 use Rattle.settle.specs.Refusals.{refusal, rows, firstOf, nothing, found}
 
 -- a refusal with its number and place; or the new book and the parts that the trip was charged in
@@ -26,12 +27,13 @@ pub data Outcome : Type 0 where
   refused : ℕ → ℕ → Outcome
   accepted : List ℕ → List Part → Outcome
 
--- what is decided under a faultless tariff: the first row of the table that holds; or that none does, with the trip's fields and window
+-- what is decided under a faultless tariff: the first row of the table that holds; or that none does, with the trip's fields, its window and
+-- where it is broken
 unfoldable pub decidedUnder : List ℕ → Counts → List ℕ → List ℕ → ℕ → Decision
 decidedUnder tariff counts book trip room =
     elim (firstOf (rows tariff counts book trip room)) [
       | found why ↦ Refused why
-      | nothing ↦ Clear (tripOf trip) (windowOf book (checkinOf trip) (checkoutOf trip))
+      | nothing ↦ Clear (tripOf trip) (windowOf book (checkinOf trip) (checkoutOf trip)) (breakOf tariff counts trip (countAt trip 0))
     ]
 
 -- ---- What a trip that meets no refusal comes to.
@@ -69,7 +71,7 @@ unfoldable pub settledUnder : List ℕ → Counts → List ℕ → List ℕ → 
 settledUnder tariff counts book trip room =
     elim (decidedUnder tariff counts book trip room) [
       | Refused why ↦ refused (refusal why) 0
-      | Clear fields window ↦ acceptedTrip tariff counts book trip fields window
+      | Clear fields window breaking ↦ acceptedTrip tariff counts book trip fields window
     ]
 
 -- under any byte string as a tariff. 1 to 3: the tariff's first fault, at its record's offset

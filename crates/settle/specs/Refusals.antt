@@ -10,10 +10,10 @@ use Rattle.tariff.specs.declared.Counts.{Counts}
 use Rattle.trip.specs.Record.{classAt, levelAt, partyAt, countAt}
 use Rattle.trip.specs.Moments.{checkinOf, checkoutOf}
 use Rattle.trip.specs.Trips.{isTrip, partyRight, stopsKnown, stampsRight, inOrder, tripOf}
+use Rattle.fare.specs.Parts.{ridesOf}
 use Rattle.book.specs.Sound.{sound}
 use Rattle.book.specs.Windows.{tooEarly, windowOf}
 use Rattle.statement.specs.Record.{statementSize}
-use Rattle.settle.specs.Rides.{ridesOf}
 use Rattle.settle.specs.declared.refusals.Refusal.{Refusal}
 use Rattle.settle.specs.declared.refusals.Refusal.the-variants.{
   UnsoundBook,

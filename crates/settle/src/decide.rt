@@ -4,8 +4,11 @@ use crate::refusals::Refusal;
 use book::Window;
 use book::windows::too_early;
 use book::windows::window_of;
+use fare::Breaking;
+use fare::parts::break_of;
 use statement::record_size;
 use tariff::Counts;
+use trip::Party;
 use trip::Shape;
 use trip::Times;
 use trip::Trip;
@@ -18,19 +21,39 @@ use trip::stops_known;
 use trip::times_of;
 use trip::whole_trip;
 ghost use mathlib.Core.Path.{_≡_};
-ghost use mathlib.Core.Bool.{true};
-ghost use Rattle.book.specs.Sound.{sound};
+ghost use Prim.Native.Nat.{_≤_};
 ghost use Rattle.settle.specs.Outcome.{decidedUnder};
+ghost use Rattle.settle.specs.Contracts.{ridesIn, recordsSize, Ready};
 
 // The first refusal whose row holds; or that none does, and what writing needs.
 pub enum Decision {
     Refused(Refusal),
-    Clear(Trip, Window),
+    Clear(Trip, Window, Breaking),
+}
+
+// How many rides a trip is charged as.
+fn rides_in(breaking: Breaking) -> u32
+    ensures { λ r. ⌜ (r ≡ ridesIn breaking) × (r ≤ 2) ⌝ }
+{
+    match breaking {
+        Breaking::Unbroken => 1,
+        Breaking::At(_) => 2,
+    }
+}
+
+// The bytes of their records, which are alike: all have the trip's party.
+fn records_size(breaking: Breaking, party: Party) -> usize
+    ensures { λ r. ⌜ r ≡ recordsSize breaking party ⌝ }
+{
+    match breaking {
+        Breaking::Unbroken => record_size(party),
+        Breaking::At(_) => 2 * record_size(party),
+    }
 }
 
 // Under a faultless tariff, on a sound book.
 pub fn decide(tariff: &[u8], counts: Counts, book: &[u8], trip: &[u8], room: usize) -> Decision
-    requires { ⌜ sound (now book) (counts .areas) ≡ true ⌝ }
+    requires { ⌜ Ready (now tariff) counts (now book) ⌝ }
     ensures { λ r. ⌜ r ≡ decidedUnder (now (tariff .entry)) counts (now (book .entry)) (now (trip .entry)) room ⌝ }
 {
     let Shape::Stops(stops) = whole_trip(trip) else {
@@ -55,10 +78,11 @@ pub fn decide(tariff: &[u8], counts: Counts, book: &[u8], trip: &[u8], room: usi
         return Decision::Refused(Refusal::TooEarly);
     }
     let window = window_of(book, counts.areas, checkin, checkout);
-    if 256 < window.trips + 1 {
+    let breaking = break_of(tariff, counts, trip, stops);
+    if 256 < window.trips + rides_in(breaking) {
         return Decision::Refused(Refusal::FullWindow);
     }
-    if room < record_size(party) {
+    if room < records_size(breaking, party) {
         return Decision::Refused(Refusal::NoRoom);
     }
     let fields = Trip {
@@ -69,5 +93,5 @@ pub fn decide(tariff: &[u8], counts: Counts, book: &[u8], trip: &[u8], room: usi
         party,
         stops,
     };
-    Decision::Clear(fields, window)
+    Decision::Clear(fields, window, breaking)
 }

@@ -19,7 +19,7 @@ use Rattle.lines.specs.declared.turns.Turn.the-variants as turn
 use Rattle.lines.specs.Text.{header}
 use Rattle.roll.specs.Lines.{mostRecords}
 use Rattle.lines.specs.Turns.{records, puts}
-use Rattle.lines.specs.Contracts.{mostLine, Behind, Counting, Did, Range, Turned}
+use Rattle.lines.specs.Contracts.{mostRecord, Behind, Counting, Did, Range, Turned}
 use Rattle.roll.proofs.Starts.{more-stays}
 use Rattle.lines.proofs.Taken.{asked-by, put-by, ended-by}
 use Rattle.lines.proofs.Told.{asks-more}
@@ -128,7 +128,7 @@ module _
       less : left (onward run used end tally) < left run
       less = line-left run used end tally r (facts .1 .1 .1) fits
 
-      did : (text : List ℕ) × (turnEffect tariff before ≡ puts used text tally) × Behind text mostLine out (run .end) out′ end
+      did : (text : List ℕ) × (turnEffect tariff before ≡ puts used text tally) × Behind text mostRecord out (run .end) out′ end
       unfolding turnEffect
       did = put-by (subst (λ (t : Turn). Did out (run .end) out′ (turnEffect tariff before) t) is (turned .did))
 

@@ -6,11 +6,11 @@ use native.Mathlib.Omega.{arith}
 use mathlib.Core.Path.{_≡_, refl, sym, ap, _∙_}
 use mathlib.Core.List.{List, [], _∷_, _++_, append-assoc}
 use lib.ListN.{length, getD, take, drop, length-append, length-drop}
-use lib.Seq.{getD-append-add, take-suc, take-all}
+use lib.Seq.{getD-append-add, take-suc, take-all, drop-at}
 use Rattle.wire.specs.Number.{getLe, bytesOf}
 use Rattle.wire.proofs.Number.{length-bytes, get-drop}
 use Rattle.statement.specs.Record.{Part, headSize, sizeWith, longWith, chargeKind, headBytes, chargeBytes, recordOf, statementOf, Recordable}
-use Rattle.statement.specs.Reading.{longIn, kindIn, openingIn, areaIn, kmIn, minutesIn, chargeIn, countIn, centsUpTo, centsIn, sumOf}
+use Rattle.statement.specs.Reading.{longIn, kindIn, openingIn, areaIn, kmIn, minutesIn, sizeIn, chargeIn, countIn, centsUpTo, centsIn, sumOf}
 use Rattle.statement.specs.Contracts.{StandsAt, RecordAt}
 use Rattle.statement.proofs.Head.{length-head}
 use Rattle.statement.proofs.Charges.{length-record}
@@ -143,7 +143,25 @@ record-at {part} {statement} {place} stands ok =
     in
     record { least = omega arith; most = omega (arith, ok .few); inside = omega arith }
 
+-- It says how long it is.
+pub size-is : {part : Part} {statement : List ℕ} {place : ℕ} → StandsAt part statement place → Recordable part → sizeIn statement place ≡ length (recordOf part)
+size-is {part} {statement} {place} stands ok = omega (arith, long-is part statement place stands ok, length-record part)
+
 -- The first of a statement's parts stands at its start, and the others behind it.
 pub first-stands : (part : Part) (more : List Part) (rest : List ℕ) → StandsAt part (statementOf (part ∷ more) ++ rest) 0
 unfolding statementOf
 first-stands part more rest = record { rest = statementOf more ++ rest; is = append-assoc (recordOf part) (statementOf more) rest }
+
+-- The second stands behind the first one's bytes.
+pub second-stands :
+    (one other : Part) (more : List Part) (rest : List ℕ)
+    → StandsAt other (statementOf (one ∷ other ∷ more) ++ rest) (length (recordOf one))
+unfolding statementOf
+second-stands one other more rest =
+    record {
+      rest = statementOf more ++ rest;
+      is =
+          ap (drop (length (recordOf one))) (append-assoc (recordOf one) (recordOf other ++ statementOf more) rest)
+          ∙ drop-at (recordOf one) ((recordOf other ++ statementOf more) ++ rest) (length (recordOf one)) refl
+          ∙ append-assoc (recordOf other) (statementOf more) rest;
+    }

@@ -24,6 +24,10 @@ kmIn statement place = getLe 2 statement (place + 9)
 abbrev pub minutesIn : List ℕ → ℕ → ℕ
 minutesIn statement place = getLe 2 statement (place + 11)
 
+-- the record's own bytes: the next one stands behind them
+abbrev pub sizeIn : List ℕ → ℕ → ℕ
+sizeIn statement place = 2 + longIn statement place
+
 -- charge i, counted from 0
 abbrev pub chargeIn : List ℕ → ℕ → ℕ → ℕ
 chargeIn statement place i = getLe 4 statement (place + headSize + chargeSize * i)

@@ -37,6 +37,14 @@ mostCharges = 31
 abbrev pub largestSize : ℕ
 largestSize = sizeWith mostCharges
 
+-- a statement has one record, or two where the trip was broken into two parts
+abbrev pub mostParts : ℕ
+mostParts = 2
+
+-- the largest statement, 274 bytes
+abbrev pub largestStatement : ℕ
+largestStatement = mostParts * largestSize
+
 -- m is 1 + adults + children + bicycles
 abbrev pub recordSize : Party → ℕ
 recordSize party = sizeWith (1 + party .adults + party .children + party .bicycles)

@@ -21,6 +21,9 @@ pub const CHARGE: usize = 4;
 // The record of the largest party.
 pub const LARGEST: usize = HEAD + CHARGE * MOST_CHARGES;
 
+// The statement of the largest party on a trip that was broken into two parts.
+pub const LARGEST_STATEMENT: usize = 2 * LARGEST;
+
 // The bytes of a party's record: the head, and a charge for each.
 pub fn record_size(party: Party) -> usize
     ensures { λ r. ⌜ r ≡ recordSize party ⌝ }

@@ -7,8 +7,8 @@ use wire::two_at;
 ghost use mathlib.Core.Path.{_≡_};
 ghost use Prim.Native.Nat.{_+_, _*_, _≤_};
 ghost use lib.ListN.{length};
-ghost use Rattle.statement.specs.Record.{headSize, sizeWith, mostCharges};
-ghost use Rattle.statement.specs.Reading.{openingIn, areaIn, kmIn, minutesIn, countIn};
+ghost use Rattle.statement.specs.Record.{headSize, sizeWith, mostCharges, largestSize};
+ghost use Rattle.statement.specs.Reading.{openingIn, areaIn, kmIn, minutesIn, sizeIn, countIn};
 ghost use Rattle.statement.specs.Contracts.{RecordAt, ChargeIs, CentsUpTo, CentsOf};
 
 // The window's opening minute.
@@ -38,6 +38,14 @@ pub fn minutes_at(statement: &[u8], place: usize) -> u16
     ensures { λ r. ⌜ r ≡ minutesIn (now (statement .entry)) place ⌝ }
 {
     two_at(statement, place + 11)
+}
+
+// The record's bytes: the next record stands so far behind it.
+pub fn size_at(statement: &[u8], place: usize) -> usize
+    requires { ⌜ RecordAt (now statement) place ⌝ }
+    ensures { λ r. ⌜ (r ≡ sizeIn (now (statement .entry)) place) × (r ≤ largestSize) ⌝ }
+{
+    2 + two_at(statement, place) as usize
 }
 
 // Charge i, counted from 0.

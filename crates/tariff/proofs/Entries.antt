@@ -4,9 +4,9 @@ use Prim.Native.Nat.{ℕ, _+_, _≤_, _<_}
 use native.Mathlib.Omega.{arith}
 use native.Mathlib.Decide.{ℕ-discrete, decLt}
 use mathlib.Core.Path.{_≡_, refl, sym, _∙_}
-use mathlib.Core.Bool.{Bool, true, false, cond, _&&_, false≢true}
+use mathlib.Core.Bool.{Bool, true, false, cond, _&&_, _||_, false≢true}
 use mathlib.Core.List.{List}
-use borrow.Author.Tests.{le-leb, lt-leb, lt-ltb, eq-eqb, ne-eqb}
+use borrow.Author.Tests.{le-leb, lt-leb, lt-ltb, eq-eqb, ne-eqb, eqb-true, ltb-true}
 use lib.ListN.{length}
 use lib.Dec.{leb, ltb, eqb}
 use Rattle.wire.specs.Frame.{frameAt}
@@ -14,18 +14,23 @@ use Rattle.wire.specs.declared.Frame.{Frame}
 use Rattle.wire.specs.declared.Frame.the-variants.{Whole, Broken}
 use Rattle.wire.proofs.Frames.{whole}
 use Rattle.tariff.specs.declared.Counts.{Counts}
-use Rattle.tariff.specs.Layout.{areaBody, areaSize, stopBody, stopSize, mostAreas, mostStops}
-use Rattle.tariff.specs.Fields.{areaFields, stopFields}
-use Rattle.tariff.specs.Rules.{areaRight, stopRight}
+use Rattle.tariff.specs.Layout.{areaBody, areaSize, factorBody, factorSize, stopBody, stopSize, mostAreas, mostStops}
+use Rattle.tariff.specs.Fields.{areaFields, factorFields, stopFields}
+use Rattle.tariff.specs.Rules.{areaRight, factorsDue, factorRight, stopRight}
 use Rattle.tariff.specs.Scan.{
   areaEntry,
+  factorEntry,
   stopEntry,
   entryAt,
   AreaInPlace,
+  FactorInPlace,
   StopInPlace,
+  OutOfPlace,
   no-area,
+  factor-due,
   wrong,
   area-value,
+  factor-value,
   stop-value,
   FaultSays,
   one,
@@ -33,75 +38,129 @@ use Rattle.tariff.specs.Scan.{
   three,
 }
 use Rattle.tariff.specs.declared.scan.Entry.{Entry}
-use Rattle.tariff.specs.declared.scan.Entry.the-variants.{End, Area, Stop, Faulty}
-use Rattle.wire.proofs.Tests.{told}
-use Rattle.tariff.proofs.WrongValues.{area-wrong, stop-wrong}
+use Rattle.tariff.specs.declared.scan.Entry.the-variants.{End, Area, Factor, Stop, Faulty}
+use Rattle.wire.proofs.Tests.{told, one-of}
+use Rattle.tariff.proofs.WrongValues.{area-wrong, factor-wrong, stop-wrong}
 
 -- A faultless area record: its kind and body length, its order and number, its values, and that it ends within the bytes.
 pub record AreaEntry (b : List ℕ) (at : ℕ) (soFar : Counts) : Type 0 where
   pub frame : frameAt b at ≡ Whole 1 areaBody
-  pub none : soFar .stops ≡ 0
+  pub no-factor : soFar .factors ≡ 0
+  pub no-stop : soFar .stops ≡ 0
   pub few : soFar .areas < mostAreas
   pub right : areaRight b soFar (areaFields b at) ≡ true
   pub fits : at + areaSize ≤ length b
 
--- A faultless stop record, likewise.
+-- A faultless factor record and a faultless stop record, likewise.
+pub record FactorEntry (b : List ℕ) (at : ℕ) (soFar : Counts) : Type 0 where
+  pub frame : frameAt b at ≡ Whole 5 factorBody
+  pub no-stop : soFar .stops ≡ 0
+  pub few : soFar .factors < factorsDue b soFar
+  pub right : factorRight (factorFields b at) (soFar .factors) ≡ true
+  pub fits : at + factorSize ≤ length b
+
 pub record StopEntry (b : List ℕ) (at : ℕ) (soFar : Counts) : Type 0 where
   pub frame : frameAt b at ≡ Whole 2 stopBody
   pub some : 0 < soFar .areas
+  pub all : soFar .factors ≡ factorsDue b soFar
   pub few : soFar .stops < mostStops
   pub right : stopRight (stopFields b at) (soFar .areas) ≡ true
   pub fits : at + stopSize ≤ length b
 
--- The tests of an area record's body length, order and number, and of a stop record's.
+-- The tests of an area record's body length, order and number, of a factor record's and of a stop record's, with so many factor records due;
+-- and whether at the tariff's end a record is still due.
 abbrev pub areaDue : ℕ → Counts → Bool
-areaDue body soFar = eqb body areaBody && eqb (soFar .stops) 0 && ltb (soFar .areas) mostAreas
+areaDue body soFar = eqb body areaBody && eqb (soFar .factors) 0 && eqb (soFar .stops) 0 && ltb (soFar .areas) mostAreas
 
-abbrev pub stopDue : ℕ → Counts → Bool
-stopDue body soFar = eqb body stopBody && ltb 0 (soFar .areas) && ltb (soFar .stops) mostStops
+abbrev pub factorDue : ℕ → Counts → ℕ → Bool
+factorDue body soFar due = eqb body factorBody && eqb (soFar .stops) 0 && ltb (soFar .factors) due
+
+abbrev pub stopDue : ℕ → Counts → ℕ → Bool
+stopDue body soFar due = eqb body stopBody && ltb 0 (soFar .areas) && eqb (soFar .factors) due && ltb (soFar .stops) mostStops
+
+abbrev pub stillDue : Counts → ℕ → Bool
+stillDue soFar due = eqb (soFar .areas) 0 || ltb (soFar .factors) due
+
+-- one of two tests that holds is enough
+either-right : (t : Bool) → t || true ≡ true
+either-right true = refl
+either-right false = refl
 
 -- a test that cannot hold fails
 refused : (t : Bool) → (t ≡ true → ⊥) → t ≡ false
 refused true never = absurd (never refl)
 refused false never = refl
 
-pub area-tests : (body : ℕ) (soFar : Counts) → areaDue body soFar ≡ true → (body ≡ areaBody) × (soFar .stops ≡ 0) × (soFar .areas < mostAreas)
+pub area-tests :
+    (body : ℕ) (soFar : Counts) → areaDue body soFar ≡ true
+    → (body ≡ areaBody) × (soFar .factors ≡ 0) × (soFar .stops ≡ 0) × (soFar .areas < mostAreas)
 area-tests body soFar e = search told
 
-pub stop-tests : (body : ℕ) (soFar : Counts) → stopDue body soFar ≡ true → (body ≡ stopBody) × (0 < soFar .areas) × (soFar .stops < mostStops)
-stop-tests body soFar e = search told
+pub factor-tests :
+    (body : ℕ) (soFar : Counts) (due : ℕ) → factorDue body soFar due ≡ true → (body ≡ factorBody) × (soFar .stops ≡ 0) × (soFar .factors < due)
+factor-tests body soFar due e = search told
 
--- Each way through `areaEntry` and `stopEntry`.
+pub stop-tests :
+    (body : ℕ) (soFar : Counts) (due : ℕ) → stopDue body soFar due ≡ true
+    → (body ≡ stopBody) × (0 < soFar .areas) × (soFar .factors ≡ due) × (soFar .stops < mostStops)
+stop-tests body soFar due e = search told
+
+-- where no record is due, there is an area, and every factor record
+none-due : (soFar : Counts) (due : ℕ) → stillDue soFar due ≡ false → (0 < soFar .areas) × (due ≤ soFar .factors)
+none-due soFar due e = (
+  elim (ℕ-discrete (soFar .areas) 0) [
+    | yes none ↦ absurd (false≢true (sym e ∙ rw (eq-eqb (soFar .areas) 0 none)))
+    | no some ↦ omega arith
+  ],
+  elim (decLt (soFar .factors) due) [
+    | yes fewer ↦ absurd (false≢true (sym e ∙ rw (lt-ltb (soFar .factors) due fewer) (either-right (eqb (soFar .areas) 0))))
+    | no enough ↦ omega arith
+  ],
+)
+
+-- Each way through `areaEntry`, `factorEntry` and `stopEntry`.
 module _ (b : List ℕ) (at : ℕ) (soFar : Counts) (body : ℕ) where
-  pub area-due :
+  pub area-is-due :
       {t : Bool} → areaDue body soFar ≡ true → areaRight b soFar (areaFields b at) ≡ t
       → areaEntry b at soFar body ≡ cond t Area (Faulty 3)
   unfolding areaEntry
-  area-due due right = rw (due, right)
+  area-is-due tests right = rw (tests, right)
 
   pub area-not-due : areaDue body soFar ≡ false → areaEntry b at soFar body ≡ Faulty 2
   unfolding areaEntry
   area-not-due e = rw e
 
-  pub stop-due :
-      {t : Bool} → stopDue body soFar ≡ true → stopRight (stopFields b at) (soFar .areas) ≡ t
-      → stopEntry b at soFar body ≡ cond t Stop (Faulty 3)
-  unfolding stopEntry
-  stop-due due right = rw (due, right)
+  module _ (due : ℕ) (so-many : due ≡ factorsDue b soFar) where
+    pub factor-is-due :
+        {t : Bool} → factorDue body soFar due ≡ true → factorRight (factorFields b at) (soFar .factors) ≡ t
+        → factorEntry b at soFar body ≡ cond t Factor (Faulty 3)
+    unfolding factorEntry
+    factor-is-due tests right = rw (rw so-many at tests, right)
 
-  pub stop-not-due : stopDue body soFar ≡ false → stopEntry b at soFar body ≡ Faulty 2
-  unfolding stopEntry
-  stop-not-due e = rw e
+    pub factor-not-due : factorDue body soFar due ≡ false → factorEntry b at soFar body ≡ Faulty 2
+    unfolding factorEntry
+    factor-not-due tests = rw (rw so-many at tests)
+
+    pub stop-is-due :
+        {t : Bool} → stopDue body soFar due ≡ true → stopRight (stopFields b at) (soFar .areas) ≡ t
+        → stopEntry b at soFar body ≡ cond t Stop (Faulty 3)
+    unfolding stopEntry
+    stop-is-due tests right = rw (rw so-many at tests, right)
+
+    pub stop-not-due : stopDue body soFar due ≡ false → stopEntry b at soFar body ≡ Faulty 2
+    unfolding stopEntry
+    stop-not-due tests = rw (rw so-many at tests)
 
 -- Each way through `entryAt`.
 module _ (b : List ℕ) (at : ℕ) (soFar : Counts) where
-  pub ended-empty : length b ≤ at → soFar .areas ≡ 0 → entryAt b at soFar ≡ Faulty 2
-  unfolding entryAt
-  ended-empty over none = rw (le-leb (length b) at over, eq-eqb (soFar .areas) 0 none)
+  module _ (due : ℕ) (so-many : due ≡ factorsDue b soFar) (over : length b ≤ at) where
+    pub ended-early : stillDue soFar due ≡ true → entryAt b at soFar ≡ Faulty 2
+    unfolding entryAt
+    ended-early still = rw (le-leb (length b) at over, rw so-many at still)
 
-  pub ended : length b ≤ at → (soFar .areas ≡ 0 → ⊥) → entryAt b at soFar ≡ End
-  unfolding entryAt
-  ended over some = rw (le-leb (length b) at over, ne-eqb (soFar .areas) 0 some)
+    pub ended : stillDue soFar due ≡ false → entryAt b at soFar ≡ End
+    unfolding entryAt
+    ended still = rw (le-leb (length b) at over, rw so-many at still)
 
   pub broken-frame : at < length b → frameAt b at ≡ Broken → entryAt b at soFar ≡ Faulty 1
   unfolding entryAt
@@ -117,39 +176,67 @@ module _ (b : List ℕ) (at : ℕ) (soFar : Counts) where
   unfolding entryAt
   area-frame body e = rw (within 1 body e, e)
 
+  pub factor-frame : (body : ℕ) → frameAt b at ≡ Whole 5 body → entryAt b at soFar ≡ factorEntry b at soFar body
+  unfolding entryAt
+  factor-frame body e = rw (within 5 body e, e)
+
   pub stop-frame : (body : ℕ) → frameAt b at ≡ Whole 2 body → entryAt b at soFar ≡ stopEntry b at soFar body
   unfolding entryAt
   stop-frame body e = rw (within 2 body e, e)
 
   pub other-frame :
-      (kind body : ℕ) → frameAt b at ≡ Whole kind body → (kind ≡ 1 → ⊥) → (kind ≡ 2 → ⊥) → entryAt b at soFar ≡ Faulty 2
+      (kind body : ℕ) → frameAt b at ≡ Whole kind body → (kind ≡ 1 → ⊥) → (kind ≡ 5 → ⊥) → (kind ≡ 2 → ⊥) → entryAt b at soFar ≡ Faulty 2
   unfolding entryAt
-  other-frame kind body e not-one not-two = rw (within kind body e, e, ne-eqb kind 1 not-one, ne-eqb kind 2 not-two)
+  other-frame kind body e not-one not-five not-two =
+      rw (within kind body e, e, ne-eqb kind 1 not-one, ne-eqb kind 5 not-five, ne-eqb kind 2 not-two)
 
 -- Kind, body length, order and number, by the tests and by the rules' words.
 module _ (b : List ℕ) (at : ℕ) (soFar : Counts) where
   area-in : (body : ℕ) → frameAt b at ≡ Whole 1 body → areaDue body soFar ≡ true → AreaInPlace b at soFar
   area-in body frame due =
-      let facts = area-tests body soFar due in
-      record { frame = rw (facts .0) at frame; none = facts .1; few = facts .2 }
+      let (long, no-factor, no-stop, few) = area-tests body soFar due in
+      record { frame = rw long at frame; no-factor = no-factor; no-stop = no-stop; few = few }
 
   area-holds : AreaInPlace b at soFar → areaDue areaBody soFar ≡ true
-  area-holds here = rw (eq-eqb (soFar .stops) 0 (here .none), lt-ltb (soFar .areas) mostAreas (here .few))
+  area-holds here =
+      rw (
+        eq-eqb (soFar .factors) 0 (here .no-factor),
+        eq-eqb (soFar .stops) 0 (here .no-stop),
+        lt-ltb (soFar .areas) mostAreas (here .few),
+      )
 
   area-out : (body : ℕ) → frameAt b at ≡ Whole 1 body → areaDue body soFar ≡ false → AreaInPlace b at soFar → ⊥
   area-out body frame not-due here =
       let long : body ≡ areaBody = cc in
       false≢true (sym not-due ∙ rw long (area-holds here))
 
-  stop-in : (body : ℕ) → frameAt b at ≡ Whole 2 body → stopDue body soFar ≡ true → StopInPlace b at soFar
+  factor-in : (body : ℕ) → frameAt b at ≡ Whole 5 body → factorDue body soFar (factorsDue b soFar) ≡ true → FactorInPlace b at soFar
+  factor-in body frame due =
+      let (long, no-stop, few) = factor-tests body soFar (factorsDue b soFar) due in
+      record { frame = rw long at frame; no-stop = no-stop; few = few }
+
+  factor-holds : FactorInPlace b at soFar → factorDue factorBody soFar (factorsDue b soFar) ≡ true
+  factor-holds here = rw (eq-eqb (soFar .stops) 0 (here .no-stop), lt-ltb (soFar .factors) (factorsDue b soFar) (here .few))
+
+  factor-out : (body : ℕ) → frameAt b at ≡ Whole 5 body → factorDue body soFar (factorsDue b soFar) ≡ false → FactorInPlace b at soFar → ⊥
+  factor-out body frame not-due here =
+      let long : body ≡ factorBody = cc in
+      false≢true (sym not-due ∙ rw long (factor-holds here))
+
+  stop-in : (body : ℕ) → frameAt b at ≡ Whole 2 body → stopDue body soFar (factorsDue b soFar) ≡ true → StopInPlace b at soFar
   stop-in body frame due =
-      let facts = stop-tests body soFar due in
-      record { frame = rw (facts .0) at frame; some = facts .1; few = facts .2 }
+      let (long, some, all, few) = stop-tests body soFar (factorsDue b soFar) due in
+      record { frame = rw long at frame; some = some; all = all; few = few }
 
-  pub stop-holds : StopInPlace b at soFar → stopDue stopBody soFar ≡ true
-  stop-holds here = rw (lt-ltb 0 (soFar .areas) (here .some), lt-ltb (soFar .stops) mostStops (here .few))
+  pub stop-holds : StopInPlace b at soFar → stopDue stopBody soFar (factorsDue b soFar) ≡ true
+  stop-holds here =
+      rw (
+        lt-ltb 0 (soFar .areas) (here .some),
+        eq-eqb (soFar .factors) (factorsDue b soFar) (here .all),
+        lt-ltb (soFar .stops) mostStops (here .few),
+      )
 
-  stop-out : (body : ℕ) → frameAt b at ≡ Whole 2 body → stopDue body soFar ≡ false → StopInPlace b at soFar → ⊥
+  stop-out : (body : ℕ) → frameAt b at ≡ Whole 2 body → stopDue body soFar (factorsDue b soFar) ≡ false → StopInPlace b at soFar → ⊥
   stop-out body frame not-due here =
       let long : body ≡ stopBody = cc in
       false≢true (sym not-due ∙ rw long (stop-holds here))
@@ -158,8 +245,24 @@ module _ (b : List ℕ) (at : ℕ) (soFar : Counts) where
 other-area : (b : List ℕ) (at : ℕ) (soFar : Counts) (kind body : ℕ) → frameAt b at ≡ Whole kind body → (kind ≡ 1 → ⊥) → AreaInPlace b at soFar → ⊥
 other-area b at soFar kind body frame other here = other (cc)
 
+other-factor : (b : List ℕ) (at : ℕ) (soFar : Counts) (kind body : ℕ) → frameAt b at ≡ Whole kind body → (kind ≡ 5 → ⊥) → FactorInPlace b at soFar → ⊥
+other-factor b at soFar kind body frame other here = other (cc)
+
 other-stop : (b : List ℕ) (at : ℕ) (soFar : Counts) (kind body : ℕ) → frameAt b at ≡ Whole kind body → (kind ≡ 2 → ⊥) → StopInPlace b at soFar → ⊥
 other-stop b at soFar kind body frame other here = other (cc)
+
+-- at the tariff's end, by the tests and by the rules' words
+module _ (b : List ℕ) (at : ℕ) (soFar : Counts) (over : length b ≤ at) where
+  still-out : stillDue soFar (factorsDue b soFar) ≡ true → OutOfPlace b at soFar
+  still-out still =
+      one-of (eqb (soFar .areas) 0) (ltb (soFar .factors) (factorsDue b soFar)) still (λ none. no-area over (eqb-true (soFar .areas) 0 none))
+      (λ fewer. factor-due over (ltb-true (soFar .factors) (factorsDue b soFar) fewer))
+
+  no-area-holds : soFar .areas ≡ 0 → stillDue soFar (factorsDue b soFar) ≡ true
+  no-area-holds none = rw (eq-eqb (soFar .areas) 0 none)
+
+  factor-still-holds : soFar .factors < factorsDue b soFar → stillDue soFar (factorsDue b soFar) ≡ true
+  factor-still-holds fewer = rw (lt-ltb (soFar .factors) (factorsDue b soFar) fewer) (either-right (eqb (soFar .areas) 0))
 
 -- an answer that two tests give, by their cases
 answered :
@@ -171,8 +274,9 @@ answered P false right good whole-right value place = place refl
 
 -- What stands at a place, by the answer of `entryAt`.
 data Stands (b : List ℕ) (at : ℕ) (soFar : Counts) : Entry → Type 0 where
-  over : length b ≤ at → 0 < soFar .areas → Stands b at soFar End
+  over : length b ≤ at → 0 < soFar .areas → factorsDue b soFar ≤ soFar .factors → Stands b at soFar End
   area : AreaEntry b at soFar → Stands b at soFar Area
+  factor : FactorEntry b at soFar → Stands b at soFar Factor
   stop : StopEntry b at soFar → Stands b at soFar Stop
   fault : {number : ℕ} → FaultSays b at soFar number → Stands b at soFar (Faulty number)
 
@@ -184,36 +288,63 @@ module _ (b : List ℕ) (at : ℕ) (soFar : Counts) where
       (λ due right.
       let here = area-in b at soFar body frame due in
       let facts = whole b at 1 areaBody (here .frame) in
-      area (record { frame = here .frame; none = here .none; few = here .few; right = right; fits = omega arith }))
+      area
+      (record { frame = here .frame; no-factor = here .no-factor; no-stop = here .no-stop; few = here .few; right = right; fits = omega arith }))
       (λ due false-value.
       fault (three refl (area-value (area-in b at soFar body frame due) (area-wrong b soFar (areaFields b at) .0 false-value))))
       (λ not-due.
-      fault (two refl (wrong 1 body frame (area-out b at soFar body frame not-due) (other-stop b at soFar 1 body frame (λ e. omega arith)))))
+      fault
+      (two refl
+      (wrong 1 body frame (area-out b at soFar body frame not-due) (other-factor b at soFar 1 body frame (λ e. omega arith))
+      (other-stop b at soFar 1 body frame (λ e. omega arith)))))
+
+  factor-stands : (body : ℕ) → frameAt b at ≡ Whole 5 body → Stands b at soFar (factorEntry b at soFar body)
+  unfolding factorEntry
+  factor-stands body frame =
+      answered (Stands b at soFar) (factorDue body soFar (factorsDue b soFar)) (factorRight (factorFields b at) (soFar .factors)) Factor
+      (λ due right.
+      let here = factor-in b at soFar body frame due in
+      let facts = whole b at 5 factorBody (here .frame) in
+      factor (record { frame = here .frame; no-stop = here .no-stop; few = here .few; right = right; fits = omega arith }))
+      (λ due false-value.
+      fault
+      (three refl (factor-value (factor-in b at soFar body frame due) (factor-wrong (factorFields b at) (soFar .factors) .0 false-value))))
+      (λ not-due.
+      fault
+      (two refl
+      (wrong 5 body frame (other-area b at soFar 5 body frame (λ e. omega arith)) (factor-out b at soFar body frame not-due)
+      (other-stop b at soFar 5 body frame (λ e. omega arith)))))
 
   stop-stands : (body : ℕ) → frameAt b at ≡ Whole 2 body → Stands b at soFar (stopEntry b at soFar body)
   unfolding stopEntry
   stop-stands body frame =
-      answered (Stands b at soFar) (stopDue body soFar) (stopRight (stopFields b at) (soFar .areas)) Stop
+      answered (Stands b at soFar) (stopDue body soFar (factorsDue b soFar)) (stopRight (stopFields b at) (soFar .areas)) Stop
       (λ due right.
       let here = stop-in b at soFar body frame due in
       let facts = whole b at 2 stopBody (here .frame) in
-      stop (record { frame = here .frame; some = here .some; few = here .few; right = right; fits = omega arith }))
+      stop (record { frame = here .frame; some = here .some; all = here .all; few = here .few; right = right; fits = omega arith }))
       (λ due false-value.
       fault (three refl (stop-value (stop-in b at soFar body frame due) (stop-wrong (stopFields b at) (soFar .areas) .0 false-value))))
       (λ not-due.
-      fault (two refl (wrong 2 body frame (other-area b at soFar 2 body frame (λ e. omega arith)) (stop-out b at soFar body frame not-due))))
+      fault
+      (two refl
+      (wrong 2 body frame (other-area b at soFar 2 body frame (λ e. omega arith)) (other-factor b at soFar 2 body frame (λ e. omega arith))
+      (stop-out b at soFar body frame not-due))))
 
   stands : Stands b at soFar (entryAt b at soFar)
   stands =
       elim (decLt at (length b)) [
         | yes inside ↦ framed inside (frameAt b at) refl
-        | no past ↦
-            elim (ℕ-discrete (soFar .areas) 0) [
-              | yes none ↦ rw (ended-empty b at soFar (omega arith) none) (fault (two refl (no-area (omega arith) none)))
-              | no some ↦ rw (ended b at soFar (omega arith) some) (over (omega arith) (omega arith))
-            ]
+        | no past ↦ finished (omega arith) (stillDue soFar (factorsDue b soFar)) refl
       ]
     where
+      finished : length b ≤ at → (t : Bool) → stillDue soFar (factorsDue b soFar) ≡ t → Stands b at soFar (entryAt b at soFar)
+      finished past true still =
+          rw (ended-early b at soFar (factorsDue b soFar) refl past still) (fault (two refl (still-out b at soFar past still)))
+      finished past false still =
+          let (some, all) = none-due soFar (factorsDue b soFar) still in
+          rw (ended b at soFar (factorsDue b soFar) refl past still) (over past some all)
+
       framed : at < length b → (f : Frame) → frameAt b at ≡ f → Stands b at soFar (entryAt b at soFar)
       framed inside Broken e =
           rw (broken-frame b at soFar inside e) (fault (one refl (record { going-on = inside; frame = e })))
@@ -223,15 +354,22 @@ module _ (b : List ℕ) (at : ℕ) (soFar : Counts) where
                 let e′ : frameAt b at ≡ Whole 1 body = cc in
                 rw (area-frame b at soFar body e′) (area-stands body e′)
             | no not-one ↦
-                elim (ℕ-discrete kind 2) [
-                  | yes is-two ↦
-                      let e′ : frameAt b at ≡ Whole 2 body = cc in
-                      rw (stop-frame b at soFar body e′) (stop-stands body e′)
-                  | no not-two ↦
-                      rw (other-frame b at soFar kind body e not-one not-two)
-                      (fault
-                      (two refl
-                      (wrong kind body e (other-area b at soFar kind body e not-one) (other-stop b at soFar kind body e not-two))))
+                elim (ℕ-discrete kind 5) [
+                  | yes is-five ↦
+                      let e′ : frameAt b at ≡ Whole 5 body = cc in
+                      rw (factor-frame b at soFar body e′) (factor-stands body e′)
+                  | no not-five ↦
+                      elim (ℕ-discrete kind 2) [
+                        | yes is-two ↦
+                            let e′ : frameAt b at ≡ Whole 2 body = cc in
+                            rw (stop-frame b at soFar body e′) (stop-stands body e′)
+                        | no not-two ↦
+                            rw (other-frame b at soFar kind body e not-one not-five not-two)
+                            (fault
+                            (two refl
+                            (wrong kind body e (other-area b at soFar kind body e not-one) (other-factor b at soFar kind body e not-five)
+                            (other-stop b at soFar kind body e not-two))))
+                      ]
                 ]
           ]
 
@@ -241,17 +379,23 @@ module _ (b : List ℕ) (at : ℕ) (soFar : Counts) where
       meant : Stands b at soFar Area → AreaEntry b at soFar
       meant (area facts) = facts
 
+  pub factor-entry : entryAt b at soFar ≡ Factor → FactorEntry b at soFar
+  factor-entry e = meant (rw e at stands)
+    where
+      meant : Stands b at soFar Factor → FactorEntry b at soFar
+      meant (factor facts) = facts
+
   pub stop-entry : entryAt b at soFar ≡ Stop → StopEntry b at soFar
   stop-entry e = meant (rw e at stands)
     where
       meant : Stands b at soFar Stop → StopEntry b at soFar
       meant (stop facts) = facts
 
-  pub end-entry : entryAt b at soFar ≡ End → (length b ≤ at) × (0 < soFar .areas)
+  pub end-entry : entryAt b at soFar ≡ End → (length b ≤ at) × (0 < soFar .areas) × (factorsDue b soFar ≤ soFar .factors)
   end-entry e = meant (rw e at stands)
     where
-      meant : Stands b at soFar End → (length b ≤ at) × (0 < soFar .areas)
-      meant (over past some) = (past, some)
+      meant : Stands b at soFar End → (length b ≤ at) × (0 < soFar .areas) × (factorsDue b soFar ≤ soFar .factors)
+      meant (over past some all) = (past, some, all)
 
   pub fault-entry : (number : ℕ) → entryAt b at soFar ≡ Faulty number → FaultSays b at soFar number
   fault-entry number e = meant (rw e at stands)
@@ -262,8 +406,11 @@ module _ (b : List ℕ) (at : ℕ) (soFar : Counts) where
   -- The number that a fault's meaning has is the one that is given.
   pub fault-given : {number : ℕ} → FaultSays b at soFar number → entryAt b at soFar ≡ Faulty number
   fault-given (one e broken) = rw e (broken-frame b at soFar (broken .going-on) (broken .frame))
-  fault-given (two e (no-area past none)) = rw e (ended-empty b at soFar past none)
-  fault-given (two e (wrong kind body frame not-area not-stop)) =
+  fault-given (two e (no-area past none)) =
+      rw e (ended-early b at soFar (factorsDue b soFar) refl past (no-area-holds b at soFar past none))
+  fault-given (two e (factor-due past fewer)) =
+      rw e (ended-early b at soFar (factorsDue b soFar) refl past (factor-still-holds b at soFar past fewer))
+  fault-given (two e (wrong kind body frame not-area not-factor not-stop)) =
       rw e
       (elim (ℕ-discrete kind 1) [
         | yes is-one ↦
@@ -271,19 +418,34 @@ module _ (b : List ℕ) (at : ℕ) (soFar : Counts) where
             area-frame b at soFar body frame′
             ∙ area-not-due b at soFar body (refused (areaDue body soFar) (λ due. not-area (area-in b at soFar body frame′ due)))
         | no not-one ↦
-            elim (ℕ-discrete kind 2) [
-              | yes is-two ↦
-                  let frame′ : frameAt b at ≡ Whole 2 body = cc in
-                  stop-frame b at soFar body frame′
-                  ∙ stop-not-due b at soFar body (refused (stopDue body soFar) (λ due. not-stop (stop-in b at soFar body frame′ due)))
-              | no not-two ↦ other-frame b at soFar kind body frame not-one not-two
+            elim (ℕ-discrete kind 5) [
+              | yes is-five ↦
+                  let frame′ : frameAt b at ≡ Whole 5 body = cc in
+                  factor-frame b at soFar body frame′
+                  ∙ factor-not-due b at soFar body (factorsDue b soFar) refl
+                  (refused (factorDue body soFar (factorsDue b soFar)) (λ due. not-factor (factor-in b at soFar body frame′ due)))
+              | no not-five ↦
+                  elim (ℕ-discrete kind 2) [
+                    | yes is-two ↦
+                        let frame′ : frameAt b at ≡ Whole 2 body = cc in
+                        stop-frame b at soFar body frame′
+                        ∙ stop-not-due b at soFar body (factorsDue b soFar) refl
+                        (refused (stopDue body soFar (factorsDue b soFar)) (λ due. not-stop (stop-in b at soFar body frame′ due)))
+                    | no not-two ↦ other-frame b at soFar kind body frame not-one not-five not-two
+                  ]
             ]
       ])
   fault-given (three e (area-value here value)) =
       rw e
       (area-frame b at soFar areaBody (here .frame)
-      ∙ area-due b at soFar areaBody (area-holds b at soFar here) (area-wrong b soFar (areaFields b at) .1 value))
+      ∙ area-is-due b at soFar areaBody (area-holds b at soFar here) (area-wrong b soFar (areaFields b at) .1 value))
+  fault-given (three e (factor-value here value)) =
+      rw e
+      (factor-frame b at soFar factorBody (here .frame)
+      ∙ factor-is-due b at soFar factorBody (factorsDue b soFar) refl (factor-holds b at soFar here)
+      (factor-wrong (factorFields b at) (soFar .factors) .1 value))
   fault-given (three e (stop-value here value)) =
       rw e
       (stop-frame b at soFar stopBody (here .frame)
-      ∙ stop-due b at soFar stopBody (stop-holds b at soFar here) (stop-wrong (stopFields b at) (soFar .areas) .1 value))
+      ∙ stop-is-due b at soFar stopBody (factorsDue b soFar) refl (stop-holds b at soFar here)
+      (stop-wrong (stopFields b at) (soFar .areas) .1 value))

@@ -7,32 +7,41 @@ use mathlib.Core.Bool.{true}
 use mathlib.Core.List.{List}
 use lib.ListN.{length}
 use Rattle.tariff.specs.declared.Counts.{Counts}
-use Rattle.tariff.specs.Layout.{areaSize, stopSize, areaPlace, stopPlace, areasBefore, stopsBefore}
+use Rattle.tariff.specs.Layout.{factorSize, stopSize, areaPlace, factorPlace, stopPlace, areasBefore, factorsBefore, stopsBefore}
 use Rattle.tariff.specs.Fields.{areaFields}
-use Rattle.tariff.specs.Rules.{areaRight}
-use Rattle.tariff.specs.Areas.{areaAt, Read, FaultlessTariff}
+use Rattle.tariff.specs.Rules.{areaRight, levelOf}
+use Rattle.tariff.specs.Areas.{areaAt, factorAt, Read, FaultlessTariff}
 use Rattle.tariff.specs.Contracts.{AreaThere}
-use Rattle.tariff.proofs.Entries.{StopEntry, area-entry, stop-entry}
-use Rattle.tariff.proofs.Passed.{finished, few-stops}
-use Rattle.tariff.proofs.Values.{area-ranges, area-rank, stop-ranges}
+use Rattle.tariff.proofs.Entries.{FactorEntry, StopEntry, area-entry, factor-entry, stop-entry}
+use Rattle.tariff.proofs.Passed.{finished, few-factors, few-stops}
+use Rattle.tariff.proofs.Values.{state-level, area-ranges, area-rank, factor-ranges, stop-ranges}
+use Rattle.tariff.proofs.Wide.{wide-before}
 
 pub faultless : (b : List ℕ) (counts : Counts) → Read b counts → FaultlessTariff b counts
-unfolding areaAt
+unfolding areaAt factorAt
 faultless b counts e =
-    let (p, some) = finished b counts e in
+    let (p, some, factors) = finished b counts e in
     let right : (i : ℕ) → i < counts .areas → areaRight b (areasBefore i) (areaFields b (areaPlace counts i)) ≡ true =
     λ i h. area-entry b (areaPlace counts i) (areasBefore i) (p .area i h) .right
     in
+    let factor : (k : ℕ) → k < counts .factors → FactorEntry b (factorPlace counts k) (factorsBefore counts k) =
+    λ k h. factor-entry b (factorPlace counts k) (factorsBefore counts k) (p .factor k h)
+    in
+    let state = state-level b counts (right 0 some) in
     let stop : (j : ℕ) → j < counts .stops → StopEntry b (stopPlace counts j) (stopsBefore counts j) =
     λ j h. stop-entry b (stopPlace counts j) (stopsBefore counts j) (p .stop j h)
     in
     record {
       some = some;
       few-areas = p .reached .few;
+      factors = factors;
+      some-factor = omega (arith, wide-before (levelOf b counts) 0 (counts .areas) some (omega arith));
+      few-factors = omega (arith, few-factors b (length b) counts p, p .reached .few);
       few-stops = few-stops b (length b) counts p;
       size = p .reached .place;
       area = λ i h. area-ranges b (areasBefore i) _ (right i h);
       rank = λ i h. area-rank b counts i (right 0 some) (right i h);
+      factor = λ k h. factor-ranges _ k (factor k h .right);
       stop = λ j h. stop-ranges b counts j (stop j h .right);
     }
 
@@ -40,9 +49,12 @@ faultless b counts e =
 pub read-one : (b : List ℕ) (c c′ : Counts) → Read b c → Read b c′ → c ≡ c′
 read-one b c c′ e e′ = cc
 
--- An area's record and a stop's stand within the tariff.
+-- An area's record, a factor record and a stop's stand within the tariff.
 pub area-there : (b : List ℕ) (counts : Counts) (i : ℕ) → Read b counts × (i < counts .areas) → AreaThere b counts i
 area-there b counts i h = let t = faultless b counts (h .0) in record { few = omega arith; inside = omega arith }
+
+pub factor-inside : (b : List ℕ) (counts : Counts) (k : ℕ) → Read b counts × (k < counts .factors) → factorPlace counts k + factorSize ≤ length b
+factor-inside b counts k h = let t = faultless b counts (h .0) in omega arith
 
 pub stop-inside : (b : List ℕ) (counts : Counts) (j : ℕ) → Read b counts × (j < counts .stops) → stopPlace counts j + stopSize ≤ length b
 stop-inside b counts j h = let t = faultless b counts (h .0) in omega arith

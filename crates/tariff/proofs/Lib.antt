@@ -1,9 +1,11 @@
+pub mod Wide
 pub mod WrongValues
 pub mod Entries
 pub mod Values
 pub mod Turns
 pub mod Faultless
 pub mod Within
+pub mod FactorLaws
 pub mod LevelCaps
 pub mod Passed
 pub mod Faults

@@ -12,17 +12,35 @@ use Rattle.tariff.specs.declared.Counts.{Counts}
 use Rattle.tariff.specs.declared.Reading.{Reading}
 use Rattle.tariff.specs.declared.Reading.the-variants.{Fault, Faultless}
 use Rattle.tariff.specs.declared.scan.Entry.{Entry}
-use Rattle.tariff.specs.declared.scan.Entry.the-variants.{End, Area, Stop, Faulty}
-use Rattle.tariff.specs.Layout.{areaSize, stopSize, mostStops, longestTariff, areaPlace, stopPlace, areasBefore, stopsBefore, moreAreas, moreStops}
+use Rattle.tariff.specs.declared.scan.Entry.the-variants.{End, Area, Factor, Stop, Faulty}
+use Rattle.tariff.specs.Layout.{
+  areaSize,
+  factorSize,
+  stopSize,
+  mostStops,
+  longestTariff,
+  areaPlace,
+  factorPlace,
+  stopPlace,
+  areasBefore,
+  factorsBefore,
+  stopsBefore,
+  moreAreas,
+  moreFactors,
+  moreStops,
+}
+use Rattle.tariff.specs.Rules.{levelOf, factorsDue}
 use Rattle.tariff.specs.Scan.{entryAt, readFrom, readTariff, Passed, FirstFault}
-use Rattle.tariff.proofs.Turns.{turn-end, turn-fault, turn-area, turn-stop}
-use Rattle.tariff.proofs.Entries.{area-entry, stop-entry, end-entry}
+use Rattle.tariff.proofs.Turns.{turn-end, turn-fault, turn-area, turn-factor, turn-stop}
+use Rattle.tariff.proofs.Entries.{area-entry, factor-entry, stop-entry, end-entry}
+use Rattle.tariff.proofs.Wide.{wide-most}
 
 pub passed-none : (b : List ℕ) → Passed b 0 (areasBefore 0)
 passed-none b =
     record {
       reached = record { place = refl; inside = omega arith; few = omega arith };
       area = below-none _;
+      factor = below-none _;
       stop = below-none _;
     }
 
@@ -33,7 +51,19 @@ module _ (b : List ℕ) (at : ℕ) (soFar : Counts) (p : Passed b at soFar) wher
       let here : at ≡ areaPlace soFar (soFar .areas) = omega arith in
       record {
         reached = record { place = omega arith; inside = facts .fits; few = omega arith };
-        area = below-more _ _ (p .area) (rw (here, facts .none) at e);
+        area = below-more _ _ (p .area) (rw (here, facts .no-factor, facts .no-stop) at e);
+        factor = λ k h. absurd (omega arith);
+        stop = λ j h. absurd (omega arith);
+      }
+
+  pub passed-factor : entryAt b at soFar ≡ Factor → Passed b (at + factorSize) (moreFactors soFar 1)
+  passed-factor e =
+      let facts = factor-entry b at soFar e in
+      let here : at ≡ factorPlace soFar (soFar .factors) = omega arith in
+      record {
+        reached = record { place = omega arith; inside = facts .fits; few = p .reached .few };
+        area = p .area;
+        factor = below-more _ _ (p .factor) (rw (here, facts .no-stop) at e);
         stop = λ j h. absurd (omega arith);
       }
 
@@ -43,6 +73,7 @@ module _ (b : List ℕ) (at : ℕ) (soFar : Counts) (p : Passed b at soFar) wher
       record {
         reached = record { place = omega arith; inside = facts .fits; few = p .reached .few };
         area = p .area;
+        factor = p .factor;
         stop = below-more _ _ (p .stop) (rw (p .reached .place) at e);
       }
 
@@ -51,13 +82,21 @@ most : (n bound : ℕ) → ((j : ℕ) → j < n → j < bound) → n ≤ bound
 most zero bound each = omega arith
 most (suc n) bound each = each n (omega arith)
 
--- At most 1,000 stops go before a place, so it lies at 13,928 or before: where 32 areas and 1,000 stops end.
+-- At most so many factor records as are due and 1,000 stops go before a place, so it lies at 14,120 or before: where 32 areas with a factor
+-- record each and 1,000 stops end.
 module _ (b : List ℕ) (at : ℕ) (soFar : Counts) (p : Passed b at soFar) where
+  pub due-factors : soFar .factors ≤ factorsDue b soFar
+  due-factors =
+      most (soFar .factors) (factorsDue b soFar) (λ k h. factor-entry b (factorPlace soFar k) (factorsBefore soFar k) (p .factor k h) .few)
+
+  pub few-factors : soFar .factors ≤ soFar .areas
+  few-factors = omega (arith, due-factors, wide-most (levelOf b soFar) (soFar .areas))
+
   pub few-stops : soFar .stops ≤ mostStops
   few-stops = most (soFar .stops) mostStops (λ j h. stop-entry b (stopPlace soFar j) (stopsBefore soFar j) (p .stop j h) .few)
 
   pub early : at ≤ longestTariff
-  early = omega (arith, p .reached .place, p .reached .few, few-stops)
+  early = omega (arith, p .reached .place, p .reached .few, few-factors, few-stops)
 
 -- The reading of the tariff comes to a place, with so many turns left and one more.
 record Comes (b : List ℕ) (at : ℕ) (soFar : Counts) : Type 0 where
@@ -76,39 +115,50 @@ past b at soFar next soFar′ on within turn c = go (c .turns) (c .same) (c .eno
     go zero same enough = absurd (omega arith)
     go (suc turns) same enough = record { turns = turns; same = same ∙ turn (suc turns); enough = omega arith }
 
-module _ (b : List ℕ) where
-  after-areas :
-      (counts : Counts) (areas : ℕ) → ((i : ℕ) → i < areas → entryAt b (areaPlace counts i) (areasBefore i) ≡ Area)
-      → Comes b (areaPlace counts areas) (areasBefore areas)
-  unfolding readTariff
-  after-areas counts zero all = record { turns = length b; same = refl; enough = omega arith }
-  after-areas counts (suc areas) all =
-      let at = areaPlace counts areas in
-      let is = all areas (omega arith) in
-      let facts = area-entry b at (areasBefore areas) is in
-      let next : at + areaSize ≡ areaPlace counts (suc areas) = omega arith in
-      rw (next, add-one areas)
-      at (past b at (areasBefore areas) (at + areaSize) (areasBefore (areas + 1)) (omega arith) (facts .fits)
-      (λ turns. turn-area turns b at (areasBefore areas) is) (after-areas counts areas (λ i h. all i (omega arith))))
+-- so many records of one sort stand one after another: the reading comes past all of them
+after-many :
+    (b : List ℕ) (size : ℕ) → 0 < size → (place : ℕ → ℕ) → ((n : ℕ) → place n + size ≡ place (suc n)) → (before : ℕ → Counts) (many : ℕ)
+    → ((n : ℕ) → n < many
+    → (place n + size ≤ length b)
+    × ((turns : ℕ) → readFrom (suc turns) b (place n) (before n) ≡ readFrom turns b (place n + size) (before (n + 1))))
+    → Comes b (place 0) (before 0) → Comes b (place many) (before many)
+after-many b size some place next before zero each c = c
+after-many b size some place next before (suc many) each c =
+    let (fits, turn) = each many (omega arith) in
+    rw (next many, add-one many)
+    at (past b (place many) (before many) (place many + size) (before (many + 1)) (omega arith) fits turn
+    (after-many b size some place next before many (λ n h. each n (omega arith)) c))
 
-  after-stops :
-      (counts : Counts) (stops : ℕ) → ((j : ℕ) → j < stops → entryAt b (stopPlace counts j) (stopsBefore counts j) ≡ Stop)
-      → Comes b (stopPlace counts 0) (stopsBefore counts 0) → Comes b (stopPlace counts stops) (stopsBefore counts stops)
-  after-stops counts zero all c = c
-  after-stops counts (suc stops) all c =
-      let at = stopPlace counts stops in
-      let soFar = stopsBefore counts stops in
-      let is = all stops (omega arith) in
-      let facts = stop-entry b at soFar is in
-      let next : at + stopSize ≡ stopPlace counts (suc stops) = omega arith in
-      rw (next, add-one stops)
-      at (past b at soFar (at + stopSize) (stopsBefore counts (stops + 1)) (omega arith) (facts .fits) (λ turns. turn-stop turns b at soFar is)
-      (after-stops counts stops (λ j h. all j (omega arith)) c))
+comes-first : (b : List ℕ) → Comes b 0 (areasBefore 0)
+unfolding readTariff
+comes-first b = record { turns = length b; same = refl; enough = omega arith }
 
 comes : (b : List ℕ) (at : ℕ) (soFar : Counts) → Passed b at soFar → Comes b at soFar
 comes b at soFar p =
-    let first : areaPlace soFar (soFar .areas) ≡ stopPlace soFar 0 = omega arith in
-    rw (p .reached .place) (after-stops b soFar (soFar .stops) (p .stop) (rw first at (after-areas b soFar (soFar .areas) (p .area))))
+    let areas =
+    after-many b areaSize (omega arith) (areaPlace soFar) (λ n. omega arith) areasBefore (soFar .areas)
+    (λ i h.
+    let is = p .area i h in
+    (area-entry b (areaPlace soFar i) (areasBefore i) is .fits, λ turns. turn-area turns b (areaPlace soFar i) (areasBefore i) is))
+    (comes-first b)
+    in
+    let first-factor : areaPlace soFar (soFar .areas) ≡ factorPlace soFar 0 = omega arith in
+    let factors =
+    after-many b factorSize (omega arith) (factorPlace soFar) (λ n. omega arith) (factorsBefore soFar) (soFar .factors)
+    (λ k h.
+    let is = p .factor k h in (
+      factor-entry b (factorPlace soFar k) (factorsBefore soFar k) is .fits,
+      λ turns. turn-factor turns b (factorPlace soFar k) (factorsBefore soFar k) is,
+    ))
+    (rw first-factor at areas)
+    in
+    let first-stop : factorPlace soFar (soFar .factors) ≡ stopPlace soFar 0 = omega arith in
+    rw (p .reached .place)
+    (after-many b stopSize (omega arith) (stopPlace soFar) (λ n. omega arith) (stopsBefore soFar) (soFar .stops)
+    (λ j h.
+    let is = p .stop j h in
+    (stop-entry b (stopPlace soFar j) (stopsBefore soFar j) is .fits, λ turns. turn-stop turns b (stopPlace soFar j) (stopsBefore soFar j) is))
+    (rw first-stop at factors))
 
 -- Where all before is faultless, the end gives the counts, and a fault is what is given.
 pub at-end : (b : List ℕ) (at : ℕ) (soFar : Counts) → Passed b at soFar → entryAt b at soFar ≡ End
@@ -142,6 +192,10 @@ reads (suc turns) b at soFar p enough = go (reads turns b) (entryAt b at soFar) 
         let facts = area-entry b at soFar is in
         rw (turn-area turns b at soFar is)
         (on (at + areaSize) (moreAreas soFar 1) (passed-area b at soFar p is) (omega arith))
+    go on Factor is =
+        let facts = factor-entry b at soFar is in
+        rw (turn-factor turns b at soFar is)
+        (on (at + factorSize) (moreFactors soFar 1) (passed-factor b at soFar p is) (omega arith))
     go on Stop is =
         let facts = stop-entry b at soFar is in
         rw (turn-stop turns b at soFar is)
@@ -153,12 +207,14 @@ pub ends : (b : List ℕ) → Ends b (readTariff b)
 unfolding readTariff
 ends b = reads (suc (length b)) b 0 (areasBefore 0) (passed-none b) (omega arith)
 
--- The counts are given at the tariff's end, every record before it faultless, and an area among them.
-pub finished : (b : List ℕ) (counts : Counts) → readTariff b ≡ Faultless counts → Passed b (length b) counts × (0 < counts .areas)
+-- The counts are given at the tariff's end, every record before it faultless, an area among them, and each factor record that is due.
+pub finished :
+    (b : List ℕ) (counts : Counts) → readTariff b ≡ Faultless counts
+    → Passed b (length b) counts × (0 < counts .areas) × (counts .factors ≡ factorsDue b counts)
 finished b counts e = meant (rw e at (ends b))
   where
-    meant : Ends b (Faultless counts) → Passed b (length b) counts × (0 < counts .areas)
+    meant : Ends b (Faultless counts) → Passed b (length b) counts × (0 < counts .areas) × (counts .factors ≡ factorsDue b counts)
     meant (finish at p is) =
-        let over = end-entry b at counts is in
+        let (over, some, all) = end-entry b at counts is in
         let here : at ≡ length b = omega arith in
-        (rw here at p, over .1)
+        (rw here at p, some, omega (arith, due-factors b at counts p))

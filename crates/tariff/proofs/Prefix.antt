@@ -1,4 +1,5 @@
--- The first 14,954 bytes of a tariff decide what reading it comes to: 32 areas, 1,000 stops, and the frame of one record too many.
+-- The first 15,146 bytes of a tariff decide what reading it comes to: 32 areas with a factor record each, 1,000 stops, and the frame of one
+-- record too many.
 -- Assumes nothing.
 use Prim.Native.Nat.{ℕ, _+_, _*_, _≤_}
 use native.Mathlib.Omega.{arith}
@@ -16,12 +17,25 @@ use Rattle.wire.proofs.Frames.{frame-take}
 use Rattle.tariff.specs.declared.Counts.{Counts}
 use Rattle.tariff.specs.declared.fields.AreaFields.{AreaFields}
 use Rattle.tariff.specs.declared.Reading.{Reading}
-use Rattle.tariff.specs.Layout.{areaSize, stopSize, mostAreas, decidingBytes, areaPlace, stopPlace, areasBefore, stopsBefore}
-use Rattle.tariff.specs.Fields.{areaFields, stopFields}
-use Rattle.tariff.specs.Rules.{placeRight, levelOf, flatOf}
-use Rattle.tariff.specs.Scan.{areaEntry, stopEntry, entryAt, readTariff, Passed}
-use Rattle.tariff.proofs.Entries.{broken-frame, area-frame, stop-frame, other-frame, end-entry}
-use Rattle.tariff.proofs.Passed.{Ends, fault, finish, ends, at-fault, few-stops, early}
+use Rattle.tariff.specs.Layout.{
+  areaSize,
+  factorSize,
+  stopSize,
+  mostAreas,
+  decidingBytes,
+  areaPlace,
+  factorPlace,
+  stopPlace,
+  areasBefore,
+  factorsBefore,
+  stopsBefore,
+}
+use Rattle.tariff.specs.Fields.{areaFields, factorFields, stopFields}
+use Rattle.tariff.specs.Rules.{placeRight, levelOf, flatOf, factorsDue}
+use Rattle.tariff.specs.Scan.{areaEntry, factorEntry, stopEntry, entryAt, readTariff, Passed}
+use Rattle.tariff.proofs.Entries.{broken-frame, area-frame, factor-frame, stop-frame, other-frame, end-entry}
+use Rattle.tariff.proofs.Wide.{wide-same}
+use Rattle.tariff.proofs.Passed.{Ends, fault, finish, ends, at-fault, few-factors, few-stops, early}
 
 -- ---- What stands at a place is decided by the longest record's bytes from there on, and by the areas before it.
 
@@ -50,6 +64,10 @@ module _ (n : ℕ) (b : List ℕ) (there : n ≤ length b) where
         get-take 2 n b (at + 27) (omega arith),
       )
 
+  first-factor : (at : ℕ) → at + factorSize ≤ n → factorFields (take n b) at ≡ factorFields b at
+  unfolding factorFields
+  first-factor at fits = rw (get-take 1 n b (at + 4) (omega arith), get-take 1 n b (at + 5) (omega arith))
+
   first-stop : (at : ℕ) → at + stopSize ≤ n → stopFields (take n b) at ≡ stopFields b at
   unfolding stopFields
   first-stop at fits =
@@ -72,14 +90,23 @@ module _ (n : ℕ) (b : List ℕ) (there : n ≤ length b) where
         | no later ↦ rw (le-ltb (f .parent) (soFar .areas) (omega arith))
       ]
 
+  first-due : (soFar : Counts) → soFar .areas ≤ mostAreas → areaSize * mostAreas ≤ n → factorsDue (take n b) soFar ≡ factorsDue b soFar
+  first-due soFar few wide =
+      wide-same (levelOf (take n b) soFar) (levelOf b soFar) (soFar .areas)
+      (λ i h. ap (λ (g : AreaFields). g .level) (first-area (areaPlace soFar i) (omega arith)))
+
   module _ (at : ℕ) (soFar : Counts) (fits : at + longestRecord ≤ n) (few : soFar .areas ≤ mostAreas) (wide : areaSize * mostAreas ≤ n) where
     first-area-entry : (body : ℕ) → areaEntry (take n b) at soFar body ≡ areaEntry b at soFar body
     unfolding areaEntry
     first-area-entry body = rw (first-area at (omega arith), first-place soFar (areaFields b at) few wide)
 
+    first-factor-entry : (body : ℕ) → factorEntry (take n b) at soFar body ≡ factorEntry b at soFar body
+    unfolding factorEntry
+    first-factor-entry body = rw (first-factor at (omega arith), first-due soFar few wide)
+
     first-stop-entry : (body : ℕ) → stopEntry (take n b) at soFar body ≡ stopEntry b at soFar body
     unfolding stopEntry
-    first-stop-entry body = rw (first-stop at (omega arith))
+    first-stop-entry body = rw (first-stop at (omega arith), first-due soFar few wide)
 
     first-entry : entryAt (take n b) at soFar ≡ entryAt b at soFar
     first-entry = go (frameAt b at) refl
@@ -95,14 +122,21 @@ module _ (n : ℕ) (b : List ℕ) (there : n ≤ length b) where
                   area-frame (take n b) at soFar body (frame-take n b at there fits ∙ e′) ∙ first-area-entry body
                   ∙ sym (area-frame b at soFar body e′)
               | no not-one ↦
-                  elim (ℕ-discrete kind 2) [
-                    | yes is-two ↦
-                        let e′ : frameAt b at ≡ Whole 2 body = cc in
-                        stop-frame (take n b) at soFar body (frame-take n b at there fits ∙ e′) ∙ first-stop-entry body
-                        ∙ sym (stop-frame b at soFar body e′)
-                    | no not-two ↦
-                        other-frame (take n b) at soFar kind body (frame-take n b at there fits ∙ e) not-one not-two
-                        ∙ sym (other-frame b at soFar kind body e not-one not-two)
+                  elim (ℕ-discrete kind 5) [
+                    | yes is-five ↦
+                        let e′ : frameAt b at ≡ Whole 5 body = cc in
+                        factor-frame (take n b) at soFar body (frame-take n b at there fits ∙ e′) ∙ first-factor-entry body
+                        ∙ sym (factor-frame b at soFar body e′)
+                    | no not-five ↦
+                        elim (ℕ-discrete kind 2) [
+                          | yes is-two ↦
+                              let e′ : frameAt b at ≡ Whole 2 body = cc in
+                              stop-frame (take n b) at soFar body (frame-take n b at there fits ∙ e′) ∙ first-stop-entry body
+                              ∙ sym (stop-frame b at soFar body e′)
+                          | no not-two ↦
+                              other-frame (take n b) at soFar kind body (frame-take n b at there fits ∙ e) not-one not-five not-two
+                              ∙ sym (other-frame b at soFar kind body e not-one not-five not-two)
+                        ]
                   ]
             ]
 
@@ -113,9 +147,11 @@ module _ (n : ℕ) (b : List ℕ) (there : n ≤ length b) (wide : decidingBytes
   first-passed =
       let few = p .reached .few in
       let few-of = few-stops b at soFar p in
+      let few-between = few-factors b at soFar p in
       record {
         reached = record { place = p .reached .place; inside = omega (arith, first-length n b there, early b at soFar p); few = few };
         area = λ i h. first-entry n b there (areaPlace soFar i) (areasBefore i) (omega arith) (omega arith) (omega arith) ∙ p .area i h;
+        factor = λ k h. first-entry n b there (factorPlace soFar k) (factorsBefore soFar k) (omega arith) few (omega arith) ∙ p .factor k h;
         stop = λ j h. first-entry n b there (stopPlace soFar j) (stopsBefore soFar j) (omega arith) few (omega arith) ∙ p .stop j h;
       }
 

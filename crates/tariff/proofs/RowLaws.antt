@@ -19,12 +19,12 @@ use Rattle.wire.proofs.Frames.{whole-back}
 use Rattle.tariff.specs.declared.Counts.{Counts}
 use Rattle.tariff.specs.Layout.{stopBody, stopSize, mostStops, moreStops}
 use Rattle.tariff.specs.Fields.{stopFields}
-use Rattle.tariff.specs.Rules.{stopRight}
+use Rattle.tariff.specs.Rules.{factorsDue, stopRight}
 use Rattle.tariff.specs.Contracts.{rowSize, stopStands, rowStands, rowsStanding}
 use Rattle.tariff.specs.Scan.{entryAt, Passed}
 use Rattle.tariff.specs.declared.scan.Entry.the-variants.{Stop}
 use Rattle.wire.proofs.Tests.{told}
-use Rattle.tariff.proofs.Entries.{stop-frame, stop-due, stop-holds}
+use Rattle.tariff.proofs.Entries.{stop-frame, stop-is-due, stop-holds}
 use Rattle.tariff.proofs.Passed.{passed-stop}
 
 -- Where a row stands it counts, and those after it; where none stands, or none is asked for, there are none.
@@ -96,42 +96,45 @@ module _ (b : List ℕ) where
   stop-head at fits long kind =
       whole-back b at 2 stopBody (record { kind-is = omega arith; length-is = omega arith; fits = omega arith; short = omega arith })
 
-  -- What the tests of `stopStands` let through, an area before it, is a faultless stop.
+  -- What the tests of `stopStands` let through, an area and the factor records due before it, is a faultless stop.
   stop-stands :
-      (at : ℕ) (soFar : Counts) → 0 < soFar .areas → at + stopSize ≤ length b → soFar .stops < mostStops → stopStands b at (soFar .areas) ≡ true
-      → entryAt b at soFar ≡ Stop
+      (at : ℕ) (soFar : Counts) → 0 < soFar .areas → soFar .factors ≡ factorsDue b soFar → at + stopSize ≤ length b → soFar .stops < mostStops
+      → stopStands b at (soFar .areas) ≡ true → entryAt b at soFar ≡ Stop
   unfolding stopStands
-  stop-stands at soFar some fits few e =
+  stop-stands at soFar some all fits few e =
       let frame = stop-head at fits (search told) (search told) in
       let right : stopRight (stopFields b at) (soFar .areas) ≡ true = search told in
-      stop-frame b at soFar stopBody frame ∙ stop-due b at soFar stopBody (stop-holds b at soFar (record { frame = frame; some = some; few = few })) right
+      stop-frame b at soFar stopBody frame
+      ∙ stop-is-due b at soFar stopBody (factorsDue b soFar) refl
+      (stop-holds b at soFar (record { frame = frame; some = some; all = all; few = few })) right
 
   -- a stop that stands is passed; so is a row
   passed-next :
-      (at : ℕ) (soFar : Counts) → 0 < soFar .areas → at + stopSize ≤ length b → soFar .stops < mostStops → stopStands b at (soFar .areas) ≡ true
-      → Passed b at soFar → Passed b (at + stopSize) (moreStops soFar 1)
-  passed-next at soFar some fits few e p = passed-stop b at soFar p (stop-stands at soFar some fits few e)
+      (at : ℕ) (soFar : Counts) → 0 < soFar .areas → soFar .factors ≡ factorsDue b soFar → at + stopSize ≤ length b → soFar .stops < mostStops
+      → stopStands b at (soFar .areas) ≡ true → Passed b at soFar → Passed b (at + stopSize) (moreStops soFar 1)
+  passed-next at soFar some all fits few e p = passed-stop b at soFar p (stop-stands at soFar some all fits few e)
 
   passed-row :
-      (at : ℕ) (soFar : Counts) → 0 < soFar .areas → at + rowSize ≤ length b → soFar .stops + 4 ≤ mostStops → rowStands b at (soFar .areas) ≡ true
-      → Passed b at soFar → Passed b (at + rowSize) (moreStops soFar 4)
+      (at : ℕ) (soFar : Counts) → 0 < soFar .areas → soFar .factors ≡ factorsDue b soFar → at + rowSize ≤ length b
+      → soFar .stops + 4 ≤ mostStops → rowStands b at (soFar .areas) ≡ true → Passed b at soFar → Passed b (at + rowSize) (moreStops soFar 4)
   unfolding rowStands
-  passed-row at soFar some fits few e p =
-      let one = passed-next at soFar some (omega arith) (omega arith) (search told) p in
-      let two = simp add-assoc at (passed-next (at + stopSize) (moreStops soFar 1) some (omega arith) (omega arith) (search told) one) in
-      let three = simp add-assoc at (passed-next (at + 2 * stopSize) (moreStops soFar 2) some (omega arith) (omega arith) (search told) two) in
-      simp add-assoc at (passed-next (at + 3 * stopSize) (moreStops soFar 3) some (omega arith) (omega arith) (search told) three)
+  passed-row at soFar some all fits few e p =
+      let one = passed-next at soFar some all (omega arith) (omega arith) (search told) p in
+      let two = simp add-assoc at (passed-next (at + stopSize) (moreStops soFar 1) some all (omega arith) (omega arith) (search told) one) in
+      let three = simp add-assoc at (passed-next (at + 2 * stopSize) (moreStops soFar 2) some all (omega arith) (omega arith) (search told) two) in
+      simp add-assoc at (passed-next (at + 3 * stopSize) (moreStops soFar 3) some all (omega arith) (omega arith) (search told) three)
 
   -- Where all before a place is faultless, it is so past the rows that stand there too.
   pub passed-rows :
-      (most at : ℕ) (soFar : Counts) → 0 < soFar .areas → at + rowSize * most ≤ length b → soFar .stops + 4 * most ≤ mostStops → Passed b at soFar
+      (most at : ℕ) (soFar : Counts) → 0 < soFar .areas → soFar .factors ≡ factorsDue b soFar → at + rowSize * most ≤ length b
+      → soFar .stops + 4 * most ≤ mostStops → Passed b at soFar
       → Passed b (at + rowSize * rowsStanding most b at (soFar .areas)) (moreStops soFar (4 * rowsStanding most b at (soFar .areas)))
-  passed-rows zero at soFar some fits few p = rw (rows-zero b at (soFar .areas)) (simp unary-clauses p)
-  passed-rows (suc most) at soFar some fits few p =
+  passed-rows zero at soFar some all fits few p = rw (rows-zero b at (soFar .areas)) (simp unary-clauses p)
+  passed-rows (suc most) at soFar some all fits few p =
       go (rowStands b at (soFar .areas)) refl
       (λ row.
-      passed-rows most (at + rowSize) (moreStops soFar 4) some (omega arith) (omega arith)
-      (passed-row at soFar some (omega arith) (omega arith) row p))
+      passed-rows most (at + rowSize) (moreStops soFar 4) some all (omega arith) (omega arith)
+      (passed-row at soFar some all (omega arith) (omega arith) row p))
     where
       go :
           (t : Bool) → rowStands b at (soFar .areas) ≡ t

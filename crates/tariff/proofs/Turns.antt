@@ -5,8 +5,8 @@ use mathlib.Core.Path.{_≡_}
 use mathlib.Core.List.{List}
 use Rattle.tariff.specs.declared.Counts.{Counts}
 use Rattle.tariff.specs.declared.Reading.the-variants.{Fault, Faultless}
-use Rattle.tariff.specs.declared.scan.Entry.the-variants.{End, Area, Stop, Faulty}
-use Rattle.tariff.specs.Layout.{areaSize, stopSize, moreAreas, moreStops}
+use Rattle.tariff.specs.declared.scan.Entry.the-variants.{End, Area, Factor, Stop, Faulty}
+use Rattle.tariff.specs.Layout.{areaSize, factorSize, stopSize, moreAreas, moreFactors, moreStops}
 use Rattle.tariff.specs.Scan.{entryAt, readFrom}
 
 module _ (turns : ℕ) (b : List ℕ) (at : ℕ) (soFar : Counts) where
@@ -21,6 +21,10 @@ module _ (turns : ℕ) (b : List ℕ) (at : ℕ) (soFar : Counts) where
   pub turn-area : entryAt b at soFar ≡ Area → readFrom (suc turns) b at soFar ≡ readFrom turns b (at + areaSize) (moreAreas soFar 1)
   unfolding readFrom
   turn-area e = rw (e, readFrom)
+
+  pub turn-factor : entryAt b at soFar ≡ Factor → readFrom (suc turns) b at soFar ≡ readFrom turns b (at + factorSize) (moreFactors soFar 1)
+  unfolding readFrom
+  turn-factor e = rw (e, readFrom)
 
   pub turn-stop : entryAt b at soFar ≡ Stop → readFrom (suc turns) b at soFar ≡ readFrom turns b (at + stopSize) (moreStops soFar 1)
   unfolding readFrom

@@ -1,4 +1,5 @@
--- What the value rules give: an area whose values are right has each in its range and has its rank, and a stop has its ranges.
+-- What the value rules give: an area whose values are right has each in its range and has its rank, a factor record and a stop have their
+-- ranges.
 -- Assumes nothing.
 use Prim.Native.Nat.{ℕ, zero, suc, _≤_, _<_}
 use native.Mathlib.Omega.{arith}
@@ -6,14 +7,15 @@ use native.Mathlib.Decide.{ℕ-discrete}
 use mathlib.Core.Path.{_≡_, refl, ap}
 use mathlib.Core.Bool.{true, _&&_, _||_}
 use mathlib.Core.List.{List}
-use borrow.Author.Tests.{leb-true, eq-eqb, ne-eqb}
-use lib.Dec.{eqb}
+use borrow.Author.Tests.{leb-true, eqb-true, eq-eqb, ne-eqb}
+use lib.Dec.{ltb, eqb}
 use Rattle.tariff.specs.declared.Counts.{Counts}
+use Rattle.tariff.specs.declared.Factor.{Factor}
 use Rattle.tariff.specs.declared.fields.AreaFields.{AreaFields}
 use Rattle.tariff.specs.Layout.{areaPlace, stopPlace, areasBefore}
 use Rattle.tariff.specs.Fields.{areaFields, stopFields}
-use Rattle.tariff.specs.Rules.{tripCapRight, money, unused, capsRight, placeRight, stopRight, areaRight, levelOf, flatOf}
-use Rattle.tariff.specs.Areas.{tripCapOf, dayCapOf, areaOf, areaAt, stopAt, TripCapRange, DayCapRange, AreaRanges, AreaRank, state, region, city, StopRanges}
+use Rattle.tariff.specs.Rules.{tripCapRight, money, unused, capsRight, placeRight, factorRight, stopRight, areaRight, levelOf, flatOf}
+use Rattle.tariff.specs.Areas.{tripCapOf, dayCapOf, areaOf, areaAt, stopAt, TripCapRange, DayCapRange, AreaRanges, AreaRank, state, region, city, FactorRanges, StopRanges}
 use Rattle.wire.proofs.Tests.{told, one-of, one-of-three}
 
 -- Each sort's own numbers are in their ranges.
@@ -66,7 +68,7 @@ area-ranges b soFar f e =
     }
 
 -- area 0 has level 0
-state-level : (b : List ℕ) (counts : Counts) → areaRight b (areasBefore 0) (areaFields b (areaPlace counts 0)) ≡ true → levelOf b counts 0 ≡ 0
+pub state-level : (b : List ℕ) (counts : Counts) → areaRight b (areasBefore 0) (areaFields b (areaPlace counts 0)) ≡ true → levelOf b counts 0 ≡ 0
 unfolding placeRight
 state-level b counts e = search told
 
@@ -97,6 +99,18 @@ area-rank b counts number first e =
           let level : levelOf b counts (f .parent) ≡ 1 = search told in
           city (f .parent) (not-state b counts (f .parent) (state-level b counts first) level) (search told) (search told) refl level flat)
     ]
+
+-- A factor record whose values are right has them in their ranges: a mark of 1 is not the first one's.
+pub factor-ranges : (f : Factor) (number : ℕ) → factorRight f number ≡ true → FactorRanges number f
+factor-ranges f number e =
+    let marks : eqb (f .mark) 0 || eqb (f .mark) 1 && ltb 0 number ≡ true = search told in
+    record {
+      least = search told;
+      most = search told;
+      mark = one-of _ _ marks (λ none. omega (arith, eqb-true (f .mark) 0 none)) (λ marked. let one : f .mark ≡ 1 = search told in omega arith);
+      state-mark = λ first.
+          one-of _ _ marks (λ none. eqb-true (f .mark) 0 none) (λ marked. let later : 0 < number = search told in absurd (omega arith));
+    }
 
 -- A stop whose values are right has them in their ranges.
 pub stop-ranges :

@@ -10,6 +10,7 @@ use mathlib.Core.List.{List, [], _∷_}
 use borrow.Author.Tests.{leb-false, lt-leb, ltb-false, le-ltb, eqb-false, ne-eqb, eq-eqb}
 use lib.Dec.{leb, ltb, eqb}
 use Rattle.tariff.specs.declared.Counts.{Counts}
+use Rattle.tariff.specs.declared.Factor.{Factor}
 use Rattle.tariff.specs.declared.fields.AreaFields.{AreaFields}
 use Rattle.tariff.specs.declared.fields.StopFields.{StopFields}
 use Rattle.tariff.specs.Rules.{
@@ -20,6 +21,7 @@ use Rattle.tariff.specs.Rules.{
   mostPercent,
   mostMoney,
   noDayCap,
+  mostFactor,
   mostMetres,
   pricesRight,
   unused,
@@ -29,6 +31,7 @@ use Rattle.tariff.specs.Rules.{
   flatOf,
   placeRight,
   areaRight,
+  factorRight,
   stopRight,
 }
 use Rattle.tariff.specs.WrongValues.{
@@ -64,6 +67,11 @@ use Rattle.tariff.specs.WrongValues.{
   high-day-cap,
   high-flat,
   wrong-place,
+  WrongFactor,
+  low-factor,
+  high-factor,
+  high-mark,
+  state-marked,
   WrongStop,
   lacking-area,
   far-x,
@@ -357,6 +365,32 @@ module _ (b : List ℕ) (soFar : Counts) (f : AreaFields) where
   -- An area's values are refused exactly when one is wrong.
   pub area-wrong : areaRight b soFar f ≡ false ↔ WrongArea b soFar f
   area-wrong = (λ e. ⊎-elim (⊎-elim prices-words caps-words) wrong-place (area-fails .0 e), λ w. area-fails .1 (words-area w))
+
+-- what the test of a factor record fails for
+abbrev FactorWrong : Factor → ℕ → Type 0
+FactorWrong f before =
+    ((f .factor < 1) ⊎ (mostFactor < f .factor)) ⊎ (NotZero (f .mark) × ((f .mark ≡ 1 → ⊥) ⊎ (before ≤ 0)))
+
+-- So are a factor record's.
+pub factor-wrong : (f : Factor) (before : ℕ) → factorRight f before ≡ false ↔ WrongFactor f before
+factor-wrong f before = (λ e. to (fails .0 e), λ w. fails .1 (back w))
+  where
+    fails : Fails (factorRight f before) (FactorWrong f before)
+    fails =
+        both _ _ (both _ _ (above 1 (f .factor)) (above (f .factor) mostFactor))
+        (either _ _ (other (f .mark) 0) (both _ _ (other (f .mark) 1) (not-below 0 before)))
+
+    to : FactorWrong f before → WrongFactor f before
+    to (inl (inl w)) = low-factor w
+    to (inl (inr w)) = high-factor w
+    to (inr (marked, inl not-one)) = high-mark (omega arith)
+    to (inr (marked, inr first)) = state-marked (omega arith) marked
+
+    back : WrongFactor f before → FactorWrong f before
+    back (low-factor w) = inl (inl w)
+    back (high-factor w) = inl (inr w)
+    back (high-mark w) = inr (λ e. omega arith, inl (λ e. omega arith))
+    back (state-marked first marked) = inr (marked, inr (omega arith))
 
 -- And so are a stop's.
 pub stop-wrong : (f : StopFields) (areas : ℕ) → stopRight f areas ≡ false ↔ WrongStop f areas

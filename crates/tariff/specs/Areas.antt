@@ -1,4 +1,4 @@
--- Areas and stops by number, of a faultless tariff; what every faultless tariff has; the areas above an area.
+-- Areas, factor records and stops by number, of a faultless tariff; what every faultless tariff has; the areas above an area.
 use Prim.Native.Nat.{ℕ, _≤_, _<_}
 use mathlib.Core.Path.{_≡_}
 use mathlib.Core.List.{List}
@@ -12,12 +12,13 @@ use Rattle.tariff.specs.declared.fields.AreaFields.{AreaFields}
 use Rattle.tariff.specs.declared.TripCap.{TripCap}
 use Rattle.tariff.specs.declared.TripCap.the-variants as trip
 use Rattle.tariff.specs.declared.Area.{Area}
+use Rattle.tariff.specs.declared.Factor.{Factor}
 use Rattle.tariff.specs.declared.Stop.{Stop}
 use Rattle.tariff.specs.declared.Counts.{Counts}
 use Rattle.tariff.specs.declared.Reading.the-variants.{Faultless}
-use Rattle.tariff.specs.Layout.{mostAreas, mostStops, areaPlace, stopPlace}
-use Rattle.tariff.specs.Fields.{areaFields, stopFields}
-use Rattle.tariff.specs.Rules.{mostBasePrice, mostPricePerKm, leastMinutes, mostMinutes, mostPercent, mostMoney, noDayCap, mostMetres}
+use Rattle.tariff.specs.Layout.{mostAreas, mostStops, areaPlace, factorPlace, stopPlace}
+use Rattle.tariff.specs.Fields.{areaFields, factorFields, stopFields}
+use Rattle.tariff.specs.Rules.{mostBasePrice, mostPricePerKm, leastMinutes, mostMinutes, mostPercent, mostMoney, noDayCap, mostFactor, mostMetres, factorsDue}
 use Rattle.tariff.specs.Scan.{readTariff}
 
 -- the sort of trip cap, with that sort's own numbers
@@ -52,6 +53,10 @@ areaOf f =
 -- the area of a number
 unfoldable pub areaAt : List ℕ → Counts → ℕ → Area
 areaAt b counts number = areaOf (areaFields b (areaPlace counts number))
+
+-- the factor record of a number
+unfoldable pub factorAt : List ℕ → Counts → ℕ → Factor
+factorAt b counts number = factorFields b (factorPlace counts number)
 
 -- the stop of a number
 unfoldable pub stopAt : List ℕ → Counts → ℕ → Stop
@@ -115,6 +120,13 @@ pub data AreaRank (b : List ℕ) (counts : Counts) (number : ℕ) : Type 0 where
   city : (r : ℕ) → 0 < r → r < number → areaAt b counts number .level ≡ 2 → areaAt b counts number .parent ≡ r → areaAt b counts r .level ≡ 1
       → areaAt b counts number .«bicycle_flat» .0 ≤ areaAt b counts r .«bicycle_flat» .0 → AreaRank b counts number
 
+-- what each factor record has; the state's, which is the first, has the mark 0
+pub record FactorRanges (number : ℕ) (f : Factor) : Type 0 where
+  pub least : 1 ≤ f .factor
+  pub most : f .factor ≤ mostFactor
+  pub mark : f .mark ≤ 1
+  pub state-mark : number ≡ 0 → f .mark ≡ 0
+
 pub record StopRanges (areas : ℕ) (stop : Stop) : Type 0 where
   pub area : stop .area < areas
   pub x : stop .x .0 ≤ mostMetres
@@ -124,8 +136,12 @@ pub record StopRanges (areas : ℕ) (stop : Stop) : Type 0 where
 pub record FaultlessTariff (b : List ℕ) (counts : Counts) : Type 0 where
   pub some : 1 ≤ counts .areas
   pub few-areas : counts .areas ≤ mostAreas
+  pub factors : counts .factors ≡ factorsDue b counts
+  pub some-factor : 1 ≤ counts .factors
+  pub few-factors : counts .factors ≤ mostAreas
   pub few-stops : counts .stops ≤ mostStops
   pub size : length b ≡ stopPlace counts (counts .stops)
   pub area : (i : ℕ) → i < counts .areas → AreaRanges (areaAt b counts i)
   pub rank : (i : ℕ) → i < counts .areas → AreaRank b counts i
+  pub factor : (k : ℕ) → k < counts .factors → FactorRanges k (factorAt b counts k)
   pub stop : (j : ℕ) → j < counts .stops → StopRanges (counts .areas) (stopAt b counts j)

@@ -8,10 +8,12 @@ use lib.ListN.{length}
 use lib.Dec.{eqb}
 use Rattle.wire.specs.Number.{getLe}
 use Rattle.tariff.specs.declared.Counts.{Counts}
+use Rattle.tariff.specs.declared.Factor.{Factor}
 use Rattle.tariff.specs.Layout.{areaSize, stopBody, stopSize, mostAreas, areaPlace}
 use Rattle.tariff.specs.Fields.{stopFields}
-use Rattle.tariff.specs.Rules.{mostMoney, flatOf, stopRight}
+use Rattle.tariff.specs.Rules.{mostMoney, mostFactor, levelOf, flatOf, stopRight}
 use Rattle.tariff.specs.Areas.{parentOf}
+use Rattle.tariff.specs.Factors.{regionOf, factorOf}
 
 -- an area's record is there, whatever follows it: so it is while the tariff is still being read
 pub record AreaThere (b : List ℕ) (counts : Counts) (number : ℕ) : Type 0 where
@@ -25,6 +27,20 @@ pub record ParentOf (b : List ℕ) (counts : Counts) (number r : ℕ) : Type 0 w
 pub record FlatOf (b : List ℕ) (counts : Counts) (number r : ℕ) : Type 0 where
   pub value : r ≡ flatOf b counts number
   pub range : r ≤ mostMoney
+
+-- the region of an area, which is no city
+pub record RegionOf (b : List ℕ) (counts : Counts) (area r : ℕ) : Type 0 where
+  pub value : r ≡ regionOf b counts area
+  pub there : r < counts .areas
+  pub wide : levelOf b counts r < 2
+
+-- the factor record of an area, in its ranges; the state's mark is 0
+pub record FactorOf (b : List ℕ) (counts : Counts) (area : ℕ) (r : Factor) : Type 0 where
+  pub value : r ≡ factorOf b counts area
+  pub least : 1 ≤ r .factor
+  pub most : r .factor ≤ mostFactor
+  pub mark : r .mark ≤ 1
+  pub state-mark : regionOf b counts area ≡ 0 → r .mark ≡ 0
 
 -- a stop record: its length and kind, and its values are right
 unfoldable pub stopStands : List ℕ → ℕ → ℕ → Bool

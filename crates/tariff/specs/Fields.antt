@@ -1,7 +1,8 @@
--- Rules, section 4: where the fields of an area record (kind 1) and of a stop record (kind 2) stand.
+-- Rules, section 4: where the fields of an area record (kind 1), of a factor record (kind 5) and of a stop record (kind 2) stand.
 use Prim.Native.Nat.{ℕ, _+_}
 use mathlib.Core.List.{List}
 use Rattle.wire.specs.Number.{getLe}
+use Rattle.tariff.specs.declared.Factor.{Factor}
 use Rattle.tariff.specs.declared.fields.AreaFields.{AreaFields}
 use Rattle.tariff.specs.declared.fields.StopFields.{StopFields}
 
@@ -26,6 +27,10 @@ areaFields b at =
       «day_cap» = getLe 2 b (at + 25);
       «bicycle_flat» = getLe 2 b (at + 27);
     }
+
+-- factor 1, mark 1
+unfoldable pub factorFields : List ℕ → ℕ → Factor
+factorFields b at = record { factor = getLe 1 b (at + 4); mark = getLe 1 b (at + 5) }
 
 -- area 1, x 4, y 4
 unfoldable pub stopFields : List ℕ → ℕ → StopFields

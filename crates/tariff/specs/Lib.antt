@@ -4,5 +4,6 @@ pub mod Rules
 pub mod WrongValues
 pub mod Scan
 pub mod Areas
+pub mod Factors
 pub mod Levels
 pub mod Contracts

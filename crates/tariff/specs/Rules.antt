@@ -1,17 +1,18 @@
 -- Rules, section 4: the ranges, and what one record's values have to do with another's.
-use Prim.Native.Nat.{ℕ}
+use Prim.Native.Nat.{ℕ, zero, suc, _+_}
 use mathlib.Core.List.{List}
 use mathlib.Core.Bool.{Bool, cond, _&&_, _||_}
 use lib.Dec.{leb, ltb, eqb}
 use Rattle.units.specs.Day.{dayMinutes}
 use Rattle.tariff.specs.declared.Counts.{Counts}
+use Rattle.tariff.specs.declared.Factor.{Factor}
 use Rattle.tariff.specs.declared.fields.AreaFields.{AreaFields}
 use Rattle.tariff.specs.declared.fields.StopFields.{StopFields}
 use Rattle.tariff.specs.Layout.{areaPlace}
 use Rattle.tariff.specs.Fields.{areaFields}
 
 -- base 0..10,000; km price 0..1,000; validity and flat-cap minutes 30..1,440; percentages 0..100; all other money 0..60,000; day cap
--- 65,535 means none; x and y 0..1,000,000
+-- 65,535 means none; factor 1..9; x and y 0..1,000,000
 abbrev pub mostBasePrice : ℕ
 mostBasePrice = 10000
 
@@ -32,6 +33,9 @@ mostMoney = 60000
 
 abbrev pub noDayCap : ℕ
 noDayCap = 65535
+
+abbrev pub mostFactor : ℕ
+mostFactor = 9
 
 abbrev pub mostMetres : ℕ
 mostMetres = 1000000
@@ -80,6 +84,22 @@ placeRight b soFar f =
 -- every rule about an area's values
 abbrev pub areaRight : List ℕ → Counts → AreaFields → Bool
 areaRight b soFar f = pricesRight f && capsRight f && placeRight b soFar f
+
+-- how many of the first n areas are the state or a region, by their levels
+unfoldable pub wideAmong : (ℕ → ℕ) → ℕ → ℕ
+wideAmong level zero = 0
+wideAmong level (suc n) = wideAmong level n + cond (ltb (level n) 2) 1 0
+
+abbrev pub wideAreas : List ℕ → Counts → ℕ → ℕ
+wideAreas b counts n = wideAmong (levelOf b counts) n
+
+-- the state and each region have a factor record: so many are due for the areas so far
+abbrev pub factorsDue : List ℕ → Counts → ℕ
+factorsDue b soFar = wideAreas b soFar (soFar .areas)
+
+-- the next factor record after so many: the factor; the mark is 0, or 1 where it is not the state's, which is the first
+abbrev pub factorRight : Factor → ℕ → Bool
+factorRight f before = leb 1 (f .factor) && leb (f .factor) mostFactor && (eqb (f .mark) 0 || eqb (f .mark) 1 && ltb 0 before)
 
 -- a stop's area exists; x and y lie on the plane
 abbrev pub stopRight : StopFields → ℕ → Bool

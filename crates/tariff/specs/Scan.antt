@@ -1,53 +1,82 @@
--- Rules, section 4: a tariff is 1 to 32 area records, then 0 to 1,000 stop records, nothing else;
--- the first faulty record decides.
+-- Rules, section 4: a tariff is 1 to 32 area records, then a factor record for the state and for each region, then 0 to 1,000 stop records,
+-- nothing else; the first faulty record decides.
 use Prim.Native.Nat.{ℕ, zero, suc, _+_, _≤_, _<_}
 use mathlib.Core.Path.{_≡_}
 use mathlib.Core.List.{List}
-use mathlib.Core.Bool.{cond, _&&_}
+use mathlib.Core.Bool.{cond, _&&_, _||_}
 use lib.ListN.{length}
 use lib.Dec.{leb, ltb, eqb}
 use Rattle.wire.specs.Frame.{frameAt}
 use Rattle.wire.specs.declared.Frame.the-variants.{Whole, Broken}
 use Rattle.tariff.specs.declared.Counts.{Counts}
 use Rattle.tariff.specs.declared.scan.Entry.{Entry}
-use Rattle.tariff.specs.declared.scan.Entry.the-variants.{End, Area, Stop, Faulty}
+use Rattle.tariff.specs.declared.scan.Entry.the-variants.{End, Area, Factor, Stop, Faulty}
 use Rattle.tariff.specs.declared.Reading.{Reading}
 use Rattle.tariff.specs.declared.Reading.the-variants.{Fault, Faultless}
-use Rattle.tariff.specs.Layout.{areaBody, areaSize, stopBody, stopSize, mostAreas, mostStops, areaPlace, stopPlace, areasBefore, stopsBefore, moreAreas, moreStops}
-use Rattle.tariff.specs.Fields.{areaFields, stopFields}
-use Rattle.tariff.specs.Rules.{areaRight, stopRight}
-use Rattle.tariff.specs.WrongValues.{WrongArea, WrongStop}
+use Rattle.tariff.specs.Layout.{
+  areaBody,
+  areaSize,
+  factorBody,
+  factorSize,
+  stopBody,
+  stopSize,
+  mostAreas,
+  mostStops,
+  areaPlace,
+  factorPlace,
+  stopPlace,
+  areasBefore,
+  factorsBefore,
+  stopsBefore,
+  moreAreas,
+  moreFactors,
+  moreStops,
+}
+use Rattle.tariff.specs.Fields.{areaFields, factorFields, stopFields}
+use Rattle.tariff.specs.Rules.{areaRight, factorsDue, factorRight, stopRight}
+use Rattle.tariff.specs.WrongValues.{WrongArea, WrongFactor, WrongStop}
 
--- a place that so many areas and stops reach
+-- a place that so many areas, factor records and stops reach
 pub record Reached (b : List ℕ) (at : ℕ) (soFar : Counts) : Type 0 where
   pub place : at ≡ stopPlace soFar (soFar .stops)
   pub inside : at ≤ length b
   pub few : soFar .areas ≤ mostAreas
 
--- an area record: its body is 25 bytes, no stop goes before it and fewer than 32 areas do, or it is 2; its values are right, or it is 3
+-- an area record: its body is 25 bytes, no factor record and no stop goes before it and fewer than 32 areas do, or it is 2; its values are
+-- right, or it is 3
 unfoldable pub areaEntry : List ℕ → ℕ → Counts → ℕ → Entry
 areaEntry b at soFar body =
-    cond (eqb body areaBody && eqb (soFar .stops) 0 && ltb (soFar .areas) mostAreas)
+    cond (eqb body areaBody && eqb (soFar .factors) 0 && eqb (soFar .stops) 0 && ltb (soFar .areas) mostAreas)
     (cond (areaRight b soFar (areaFields b at)) Area (Faulty 3))
     (Faulty 2)
 
--- a stop record: its body is 9 bytes, an area goes before it and fewer than 1,000 stops do, or it is 2; its values are right, or it is 3
+-- a factor record: its body is 2 bytes, no stop goes before it and fewer factor records do than are due, or it is 2; its values are right,
+-- or it is 3
+unfoldable pub factorEntry : List ℕ → ℕ → Counts → ℕ → Entry
+factorEntry b at soFar body =
+    cond (eqb body factorBody && eqb (soFar .stops) 0 && ltb (soFar .factors) (factorsDue b soFar))
+    (cond (factorRight (factorFields b at) (soFar .factors)) Factor (Faulty 3))
+    (Faulty 2)
+
+-- a stop record: its body is 9 bytes, an area goes before it, as many factor records do as are due and fewer than 1,000 stops do, or it is 2;
+-- its values are right, or it is 3
 unfoldable pub stopEntry : List ℕ → ℕ → Counts → ℕ → Entry
 stopEntry b at soFar body =
-    cond (eqb body stopBody && ltb 0 (soFar .areas) && ltb (soFar .stops) mostStops)
+    cond (eqb body stopBody && ltb 0 (soFar .areas) && eqb (soFar .factors) (factorsDue b soFar) && ltb (soFar .stops) mostStops)
     (cond (stopRight (stopFields b at) (soFar .areas)) Stop (Faulty 3))
     (Faulty 2)
 
--- what stands at a place, after so many areas and stops. At the tariff's end an area may still be due: 2. A broken frame is 1.
--- A kind that is neither an area's nor a stop's is 2
+-- what stands at a place, after so many areas, factor records and stops. At the tariff's end an area or a factor record may still be due: 2.
+-- A broken frame is 1. A kind that is neither an area's nor a factor record's nor a stop's is 2
 unfoldable pub entryAt : List ℕ → ℕ → Counts → Entry
 entryAt b at soFar =
-    cond (leb (length b) at) (cond (eqb (soFar .areas) 0) (Faulty 2) End)
+    cond (leb (length b) at) (cond (eqb (soFar .areas) 0 || ltb (soFar .factors) (factorsDue b soFar)) (Faulty 2) End)
     (elim (frameAt b at) [
       | Broken ↦ Faulty 1
       | Whole kind body ↦
           cond (eqb kind 1) (areaEntry b at soFar body)
-          (cond (eqb kind 2) (stopEntry b at soFar body) (Faulty 2))
+          (cond (eqb kind 5) (factorEntry b at soFar body)
+          (cond (eqb kind 2) (stopEntry b at soFar body) (Faulty 2)))
     ])
 
 -- the records from a place on, one after another, until the first fault or the end. A record is at least a byte long, so as many
@@ -59,16 +88,18 @@ readFrom (suc turns) b at soFar =
       | End ↦ Faultless soFar
       | Faulty number ↦ Fault number at
       | Area ↦ readFrom turns b (at + areaSize) (moreAreas soFar 1)
+      | Factor ↦ readFrom turns b (at + factorSize) (moreFactors soFar 1)
       | Stop ↦ readFrom turns b (at + stopSize) (moreStops soFar 1)
     ]
 
 unfoldable pub readTariff : List ℕ → Reading
 readTariff b = readFrom (suc (length b)) b 0 (areasBefore 0)
 
--- every record before a place that so many areas and stops reach is faultless
+-- every record before a place that so many areas, factor records and stops reach is faultless
 pub record Passed (b : List ℕ) (at : ℕ) (soFar : Counts) : Type 0 where
   pub reached : Reached b at soFar
   pub area : (i : ℕ) → i < soFar .areas → entryAt b (areaPlace soFar i) (areasBefore i) ≡ Area
+  pub factor : (k : ℕ) → k < soFar .factors → entryAt b (factorPlace soFar k) (factorsBefore soFar k) ≡ Factor
   pub stop : (j : ℕ) → j < soFar .stops → entryAt b (stopPlace soFar j) (stopsBefore soFar j) ≡ Stop
 
 -- the first faulty record, or the place of a record that is due and missing: all before it is faultless, and it is not
@@ -79,13 +110,21 @@ pub record FirstFault (b : List ℕ) (number at : ℕ) (soFar : Counts) : Type 0
 -- kind, body length, order and number of an area record are right
 pub record AreaInPlace (b : List ℕ) (at : ℕ) (soFar : Counts) : Type 0 where
   pub frame : frameAt b at ≡ Whole 1 areaBody
-  pub none : soFar .stops ≡ 0
+  pub no-factor : soFar .factors ≡ 0
+  pub no-stop : soFar .stops ≡ 0
   pub few : soFar .areas < mostAreas
+
+-- kind, body length, order and number of a factor record are right
+pub record FactorInPlace (b : List ℕ) (at : ℕ) (soFar : Counts) : Type 0 where
+  pub frame : frameAt b at ≡ Whole 5 factorBody
+  pub no-stop : soFar .stops ≡ 0
+  pub few : soFar .factors < factorsDue b soFar
 
 -- kind, body length, order and number of a stop record are right
 pub record StopInPlace (b : List ℕ) (at : ℕ) (soFar : Counts) : Type 0 where
   pub frame : frameAt b at ≡ Whole 2 stopBody
   pub some : 0 < soFar .areas
+  pub all : soFar .factors ≡ factorsDue b soFar
   pub few : soFar .stops < mostStops
 
 -- fault 1: the tariff has not ended, and the frame is broken
@@ -93,15 +132,18 @@ pub record BrokenFrame (b : List ℕ) (at : ℕ) : Type 0 where
   pub going-on : at < length b
   pub frame : frameAt b at ≡ Broken
 
--- fault 2: the tariff has ended with no area at all; or the frame is whole, and kind, body length, order or number is wrong
+-- fault 2: the tariff has ended with no area at all, or with a factor record still due; or the frame is whole, and kind, body length, order
+-- or number is wrong
 pub data OutOfPlace (b : List ℕ) (at : ℕ) (soFar : Counts) : Type 0 where
   no-area : length b ≤ at → soFar .areas ≡ 0 → OutOfPlace b at soFar
-  wrong : (kind body : ℕ) → frameAt b at ≡ Whole kind body → (AreaInPlace b at soFar → ⊥) → (StopInPlace b at soFar → ⊥)
-      → OutOfPlace b at soFar
+  factor-due : length b ≤ at → soFar .factors < factorsDue b soFar → OutOfPlace b at soFar
+  wrong : (kind body : ℕ) → frameAt b at ≡ Whole kind body → (AreaInPlace b at soFar → ⊥) → (FactorInPlace b at soFar → ⊥)
+      → (StopInPlace b at soFar → ⊥) → OutOfPlace b at soFar
 
 -- fault 3: the frame is whole, kind, body length, order and number are right, and a value breaks a rule
 pub data WrongValue (b : List ℕ) (at : ℕ) (soFar : Counts) : Type 0 where
   area-value : AreaInPlace b at soFar → WrongArea b soFar (areaFields b at) → WrongValue b at soFar
+  factor-value : FactorInPlace b at soFar → WrongFactor (factorFields b at) (soFar .factors) → WrongValue b at soFar
   stop-value : StopInPlace b at soFar → WrongStop (stopFields b at) (soFar .areas) → WrongValue b at soFar
 
 -- what the number of a fault says; there is no other number

@@ -3,6 +3,7 @@ use Prim.Native.Nat.{ℕ, _≤_, _<_}
 use mathlib.Core.Path.{_≡_}
 use mathlib.Core.List.{List, [], _∷_}
 use Rattle.tariff.specs.declared.Counts.{Counts}
+use Rattle.tariff.specs.declared.Factor.{Factor}
 use Rattle.tariff.specs.declared.fields.AreaFields.{AreaFields}
 use Rattle.tariff.specs.declared.fields.StopFields.{StopFields}
 use Rattle.tariff.specs.Rules.{
@@ -13,6 +14,7 @@ use Rattle.tariff.specs.Rules.{
   mostPercent,
   mostMoney,
   noDayCap,
+  mostFactor,
   mostMetres,
   levelOf,
   flatOf,
@@ -66,6 +68,13 @@ pub data WrongArea (b : List ℕ) (soFar : Counts) (f : AreaFields) : Type 0 whe
   high-day-cap : TooMuch (f .«day_cap») → (f .«day_cap» ≡ noDayCap → ⊥) → WrongArea b soFar f
   high-flat : TooMuch (f .«bicycle_flat») → WrongArea b soFar f
   wrong-place : WrongPlace b soFar f → WrongArea b soFar f
+
+-- a factor record after so many: factor 1..9; mark 0 or 1; the state's, which is the first, 0
+pub data WrongFactor (f : Factor) (before : ℕ) : Type 0 where
+  low-factor : f .factor < 1 → WrongFactor f before
+  high-factor : mostFactor < f .factor → WrongFactor f before
+  high-mark : 1 < f .mark → WrongFactor f before
+  state-marked : before ≡ 0 → NotZero (f .mark) → WrongFactor f before
 
 -- a stop's area exists; x and y are 0..1,000,000
 pub data WrongStop (f : StopFields) (areas : ℕ) : Type 0 where

@@ -5,6 +5,7 @@ use crate::Stop;
 use crate::TripCap;
 use crate::fields::AREA_SIZE;
 use crate::fields::AreaFields;
+use crate::fields::FACTOR_SIZE;
 use crate::fields::FLAT;
 use crate::fields::LEVEL;
 use crate::fields::NO_DAY_CAP;
@@ -79,10 +80,10 @@ fn area_place(counts: Counts, number: usize) -> usize
 }
 
 fn stop_place(counts: Counts, number: usize) -> usize
-    requires { ⌜ (counts .areas ≤ mostAreas) × (number < mostStops) ⌝ }
+    requires { ⌜ (counts .areas ≤ mostAreas) × (counts .factors ≤ mostAreas) × (number < mostStops) ⌝ }
     ensures { λ r. ⌜ r ≡ stopPlace counts number ⌝ }
 {
-    AREA_SIZE * counts.areas + STOP_SIZE * number
+    AREA_SIZE * counts.areas + FACTOR_SIZE * counts.factors + STOP_SIZE * number
 }
 
 pub fn area(tariff: &[u8], counts: Counts, number: usize) -> Area

@@ -1,4 +1,5 @@
-// Where the fields of an area record and of a stop record stand: the layout of the records, once.
+// Where the fields of an area record, of a factor record and of a stop record stand: the layout of the records, once.
+use crate::Factor;
 use wire::HEAD;
 use wire::LONGEST_RECORD;
 use wire::four_at;
@@ -7,14 +8,20 @@ use wire::two_at;
 ghost use mathlib.Core.Path.{_≡_};
 ghost use Prim.Native.Nat.{_+_, _≤_};
 ghost use lib.ListN.{length};
-ghost use Rattle.tariff.specs.Layout.{areaSize, stopSize};
-ghost use Rattle.tariff.specs.Fields.{areaFields, stopFields};
+ghost use Rattle.tariff.specs.Layout.{areaSize, factorSize, stopSize};
+ghost use Rattle.tariff.specs.Fields.{areaFields, factorFields, stopFields};
 
 pub const AREA_KIND: u16 = 1;
 
 pub const AREA_BODY: usize = 25;
 // The whole record, with its length and kind.
 pub const AREA_SIZE: usize = HEAD + AREA_BODY;
+
+pub const FACTOR_KIND: u16 = 5;
+
+pub const FACTOR_BODY: usize = 2;
+
+pub const FACTOR_SIZE: usize = HEAD + FACTOR_BODY;
 
 pub const STOP_KIND: u16 = 2;
 
@@ -25,8 +32,12 @@ pub const STOP_SIZE: usize = HEAD + STOP_BODY;
 pub const MOST_AREAS: usize = 32;
 
 pub const MOST_STOPS: usize = 1_000;
-// No tariff is decided by more than its first so many bytes: the most areas and stops, and the longest record, which is one too many.
-pub const DECIDING_BYTES: usize = AREA_SIZE * MOST_AREAS + STOP_SIZE * MOST_STOPS + LONGEST_RECORD;
+// No tariff is decided by more than its first so many bytes: the most areas, each with a factor record, the most stops, and the longest
+// record, which is one too many.
+pub const DECIDING_BYTES: usize = AREA_SIZE * MOST_AREAS
+    + FACTOR_SIZE * MOST_AREAS
+    + STOP_SIZE * MOST_STOPS
+    + LONGEST_RECORD;
 // Where an area's level, its parent and its bicycle flat stand in its record: what is asked for alone.
 pub const LEVEL: usize = 4;
 
@@ -82,6 +93,16 @@ pub fn area_fields(b: &[u8], at: usize) -> AreaFields
         cap5: two_at(b, at + 23),
         day_cap: two_at(b, at + 25),
         bicycle_flat: two_at(b, at + FLAT),
+    }
+}
+
+pub fn factor_fields(b: &[u8], at: usize) -> Factor
+    requires { ⌜ at + factorSize ≤ length (now b) ⌝ }
+    ensures { λ r. ⌜ r ≡ factorFields (now (b .entry)) at ⌝ }
+{
+    Factor {
+        factor: one_at(b, at + 4),
+        mark: one_at(b, at + 5),
     }
 }
 

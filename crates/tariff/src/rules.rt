@@ -1,5 +1,6 @@
 // Which values a record may have: the ranges, the trip-cap sorts and their zeros, levels, parents and flats.
 use crate::Counts;
+use crate::Factor;
 use crate::areas::flat_there;
 use crate::areas::level_there;
 use crate::fields::AreaFields;
@@ -9,7 +10,7 @@ ghost use mathlib.Core.Path.{_≡_};
 ghost use Prim.Native.Nat.{_≤_};
 ghost use lib.ListN.{length};
 ghost use Rattle.tariff.specs.Layout.{mostAreas, areaPlace};
-ghost use Rattle.tariff.specs.Rules.{pricesRight, tripCapRight, capsRight, placeRight, stopRight};
+ghost use Rattle.tariff.specs.Rules.{pricesRight, tripCapRight, capsRight, placeRight, factorRight, stopRight};
 
 const MOST_BASE_PRICE: u16 = 10_000;
 
@@ -22,6 +23,8 @@ const MOST_MINUTES: u16 = 1_440;
 const MOST_PERCENT: u8 = 100;
 // All other money.
 const MONEY: u16 = 60_000;
+
+const MOST_FACTOR: u8 = 9;
 
 const MOST_METRES: u32 = 1_000_000;
 
@@ -82,6 +85,13 @@ pub fn place_right(b: &[u8], so_far: Counts, f: AreaFields) -> bool
     let region = (f.level == 1) & (f.parent == 0);
     let city = (f.level == 2) & (level_there(b, so_far, parent) == 1);
     (region | city) & (f.bicycle_flat <= flat_there(b, so_far, parent))
+}
+
+// The next factor record after so many: its factor, and its mark, which is 0 in the state's, the first.
+pub fn factor_right(f: Factor, before: usize) -> bool
+    ensures { λ r. ⌜ r ≡ factorRight f before ⌝ }
+{
+    (1 <= f.factor) & (f.factor <= MOST_FACTOR) & ((f.mark == 0) | ((f.mark == 1) & (0 < before)))
 }
 
 // A stop's area exists; x and y lie on the plane.

@@ -1,20 +1,26 @@
 // The loop over a tariff's records: in a tariff the first faulty record decides.
 use crate::Counts;
 use crate::Reading;
+use crate::factors::wide_with;
 use crate::fields::AREA_BODY;
 use crate::fields::AREA_KIND;
 use crate::fields::AREA_SIZE;
+use crate::fields::FACTOR_BODY;
+use crate::fields::FACTOR_KIND;
+use crate::fields::FACTOR_SIZE;
 use crate::fields::MOST_AREAS;
 use crate::fields::MOST_STOPS;
 use crate::fields::STOP_BODY;
 use crate::fields::STOP_KIND;
 use crate::fields::STOP_SIZE;
 use crate::fields::area_fields;
+use crate::fields::factor_fields;
 use crate::fields::stop_fields;
 use crate::rows::ROW_SIZE;
 use crate::rows::ROW_STOPS;
 use crate::rows::rows_standing;
 use crate::rules::caps_right;
+use crate::rules::factor_right;
 use crate::rules::place_right;
 use crate::rules::prices_right;
 use crate::rules::stop_right;
@@ -24,13 +30,15 @@ ghost use mathlib.Core.Path.{_≡_};
 ghost use Prim.Native.Nat.{_+_, _-_, _/_, _≤_, min};
 ghost use lib.ListN.{length};
 ghost use Rattle.tariff.specs.Layout.{mostStops};
+ghost use Rattle.tariff.specs.Rules.{factorsDue};
 ghost use Rattle.tariff.specs.Contracts.{rowStops, rowSize};
-ghost use Rattle.tariff.specs.Scan.{Reached, areaEntry, stopEntry, entryAt, readTariff};
+ghost use Rattle.tariff.specs.Scan.{Reached, areaEntry, factorEntry, stopEntry, entryAt, readTariff};
 
-// What stands at a place of the tariff: its end, a faultless area or stop, or a record with a fault (1, 2 or 3).
+// What stands at a place of the tariff: its end, a faultless area, factor record or stop, or a record with a fault (1, 2 or 3).
 pub enum Entry {
     End,
     Area,
+    Factor,
     Stop,
     Faulty(u8),
 }
@@ -40,7 +48,11 @@ fn area_entry(b: &[u8], at: usize, so_far: Counts, body: usize) -> Entry
     requires { ⌜ Reached (now b) at «so_far» × (at + 4 + body ≤ length (now b)) ⌝ }
     ensures { λ r. ⌜ r ≡ areaEntry (now (b .entry)) at «so_far» body ⌝ }
 {
-    if (body == AREA_BODY) & (so_far.stops == 0) & (so_far.areas < MOST_AREAS) {
+    if (body == AREA_BODY)
+        & (so_far.factors == 0)
+        & (so_far.stops == 0)
+        & (so_far.areas < MOST_AREAS)
+    {
         let f = area_fields(b, at);
         if prices_right(f) & caps_right(f) & place_right(b, so_far, f) {
             Entry::Area
@@ -52,12 +64,32 @@ fn area_entry(b: &[u8], at: usize, so_far: Counts, body: usize) -> Entry
     }
 }
 
-// A stop record with a whole frame, after those so far.
-fn stop_entry(b: &[u8], at: usize, so_far: Counts, body: usize) -> Entry
-    requires { ⌜ at + 4 + body ≤ length (now b) ⌝ }
+// A factor record with a whole frame, after those so far, of so many that are due.
+fn factor_entry(b: &[u8], at: usize, so_far: Counts, due: usize, body: usize) -> Entry
+    requires { ⌜ (due ≡ factorsDue (now b) «so_far») × (at + 4 + body ≤ length (now b)) ⌝ }
+    ensures { λ r. ⌜ r ≡ factorEntry (now (b .entry)) at «so_far» body ⌝ }
+{
+    if (body == FACTOR_BODY) & (so_far.stops == 0) & (so_far.factors < due) {
+        if factor_right(factor_fields(b, at), so_far.factors) {
+            Entry::Factor
+        } else {
+            Entry::Faulty(3)
+        }
+    } else {
+        Entry::Faulty(2)
+    }
+}
+
+// A stop record with a whole frame, after those so far, with so many factor records due.
+fn stop_entry(b: &[u8], at: usize, so_far: Counts, due: usize, body: usize) -> Entry
+    requires { ⌜ (due ≡ factorsDue (now b) «so_far») × (at + 4 + body ≤ length (now b)) ⌝ }
     ensures { λ r. ⌜ r ≡ stopEntry (now (b .entry)) at «so_far» body ⌝ }
 {
-    if (body == STOP_BODY) & (0 < so_far.areas) & (so_far.stops < MOST_STOPS) {
+    if (body == STOP_BODY)
+        & (0 < so_far.areas)
+        & (so_far.factors == due)
+        & (so_far.stops < MOST_STOPS)
+    {
         if stop_right(stop_fields(b, at), so_far.areas) {
             Entry::Stop
         } else {
@@ -68,13 +100,13 @@ fn stop_entry(b: &[u8], at: usize, so_far: Counts, body: usize) -> Entry
     }
 }
 
-// What stands at the place that the areas and stops so far reach.
-pub fn entry_at(b: &[u8], at: usize, so_far: Counts) -> Entry
-    requires { ⌜ Reached (now b) at «so_far» ⌝ }
+// What stands at the place that the records so far reach, with so many factor records due.
+pub fn entry_at(b: &[u8], at: usize, so_far: Counts, due: usize) -> Entry
+    requires { ⌜ Reached (now b) at «so_far» × (due ≡ factorsDue (now b) «so_far») ⌝ }
     ensures { λ r. ⌜ r ≡ entryAt (now (b .entry)) at «so_far» ⌝ }
 {
     if b.len() <= at {
-        if so_far.areas == 0 {
+        if (so_far.areas == 0) | (so_far.factors < due) {
             return Entry::Faulty(2);
         }
         return Entry::End;
@@ -84,8 +116,10 @@ pub fn entry_at(b: &[u8], at: usize, so_far: Counts) -> Entry
         Frame::Whole { kind, body } => {
             if kind == AREA_KIND {
                 area_entry(b, at, so_far, body)
+            } else if kind == FACTOR_KIND {
+                factor_entry(b, at, so_far, due, body)
             } else if kind == STOP_KIND {
-                stop_entry(b, at, so_far, body)
+                stop_entry(b, at, so_far, due, body)
             } else {
                 Entry::Faulty(2)
             }
@@ -108,9 +142,14 @@ pub fn read_tariff(tariff: &[u8]) -> Reading
     ensures { λ r. ⌜ r ≡ readTariff (now (tariff .entry)) ⌝ }
 {
     let mut at = 0;
-    let mut so_far = Counts { areas: 0, stops: 0 };
+    let mut so_far = Counts {
+        areas: 0,
+        factors: 0,
+        stops: 0,
+    };
+    let mut due = 0;
     loop {
-        match entry_at(tariff, at, so_far) {
+        match entry_at(tariff, at, so_far, due) {
             Entry::End => {
                 break Reading::Faultless(so_far);
             }
@@ -118,8 +157,13 @@ pub fn read_tariff(tariff: &[u8]) -> Reading
                 break Reading::Fault { number, at };
             }
             Entry::Area => {
+                due = wide_with(tariff, so_far, so_far.areas, due);
                 at += AREA_SIZE;
                 so_far.areas += 1;
+            }
+            Entry::Factor => {
+                at += FACTOR_SIZE;
+                so_far.factors += 1;
             }
             Entry::Stop => {
                 at += STOP_SIZE;

@@ -7,11 +7,11 @@ use Rattle.tariff.specs.declared.Area.{Area}
 use Rattle.tariff.specs.declared.Counts.{Counts}
 use Rattle.tariff.specs.Areas.{Read, areaAt}
 use Rattle.tariff.proofs.Faultless.{faultless}
-use Rattle.trip.specs.declared.Trip.{Trip}
 use Rattle.fare.specs.declared.Ride.{Ride}
-use Rattle.fare.specs.Contracts.{RideOf, Priceable}
+use Rattle.fare.specs.Contracts.{RideIs, Priceable}
 
-pub priceable : (tariff : List ℕ) (counts : Counts) (bytes : List ℕ) (trip : Trip) (ride : Ride) (area : Area) → Read tariff counts
-    → RideOf tariff counts bytes trip ride → area ≡ areaAt tariff counts (ride .area) → Priceable area ride
-priceable tariff counts bytes trip ride area read is here =
+pub priceable :
+    (tariff : List ℕ) (counts : Counts) (ride : Ride) (area : Area) → Read tariff counts → RideIs counts ride ride
+    → area ≡ areaAt tariff counts (ride .area) → Priceable area ride
+priceable tariff counts ride area read is here =
     record { ranges = rw here (faultless tariff counts read .area (ride .area) (is .there)); minutes = is .minutes; km = is .km }

@@ -2,6 +2,10 @@
 // line or two. A section is a tag byte, a length in 4 bytes, and that many bytes. samples/vectors.txt is the readable source of input and
 // output.
 use book::words::SIZE;
+use fare::Breaking;
+use fare::Ride;
+use fare::parts::first_part;
+use fare::parts::second_part;
 use fare::prices::price;
 use fare::rides::ride_of;
 use libc::STDIN_FILENO;
@@ -11,13 +15,14 @@ use settle::decide::Decision;
 use settle::decide::decide;
 use settle::refusals::number;
 use settle::settle;
-use statement::LARGEST;
+use statement::LARGEST_STATEMENT;
 use statement::reading::area_at;
 use statement::reading::charge_at;
 use statement::reading::count_at;
 use statement::reading::km_at;
 use statement::reading::minutes_at;
 use statement::reading::opening_at;
+use statement::reading::size_at;
 use tariff::Counts;
 use tariff::Reading;
 use tariff::areas::area;
@@ -26,9 +31,10 @@ use trip::Trip;
 use wire::four_at;
 ghost use mathlib.Core.Path.{_≡_};
 ghost use Rattle.tariff.specs.Areas.{Read};
-ghost use Rattle.trip.specs.Trips.{tripOf};
-ghost use Rattle.trip.specs.Contracts.{GoodTrip};
+ghost use Rattle.fare.specs.Parts.{breakOf};
+ghost use Rattle.fare.specs.Contracts.{Riding, InOrder, RideIs};
 ghost use Rattle.statement.specs.Contracts.{RecordAt};
+ghost use Rattle.roll.specs.Contracts.{Readable};
 
 const TARIFF: u8 = 84;
 
@@ -71,10 +77,9 @@ fn say_ride(at: u64, km: u64, minutes: u64, adult: u64, child: u64) {
 }
 
 // A ride's area, kilometres and minutes, its price and the child's.
-fn show_ride(tariff: &[u8], counts: Counts, bytes: &[u8], fields: Trip)
-    requires { ⌜ Read (now tariff) counts × (GoodTrip (now bytes) (counts .stops) × (fields ≡ tripOf (now bytes))) ⌝ }
+fn show_ride(tariff: &[u8], counts: Counts, ride: Ride)
+    requires { ⌜ Read (now tariff) counts × RideIs counts ride ride ⌝ }
 {
-    let ride = ride_of(tariff, counts, bytes, fields);
     let at = ride.area;
     let km = ride.km;
     let minutes = ride.minutes;
@@ -90,6 +95,25 @@ fn show_ride(tariff: &[u8], counts: Counts, bytes: &[u8], fields: Trip)
     );
 }
 
+// Each part of a trip, in order: the whole ride, or the two that it is broken into.
+fn show_rides(tariff: &[u8], counts: Counts, bytes: &[u8], fields: Trip, breaking: Breaking)
+    requires { ⌜ Riding (now tariff) counts (now bytes) (fields .stops) × (InOrder fields × (breaking ≡ breakOf (now tariff) counts (now bytes) (fields .stops))) ⌝ }
+{
+    match breaking {
+        Breaking::Unbroken => {
+            show_ride(tariff, counts, ride_of(tariff, counts, bytes, fields));
+        }
+        Breaking::At(c) => {
+            show_ride(tariff, counts, first_part(tariff, counts, bytes, fields, c));
+            show_ride(
+                tariff,
+                counts,
+                second_part(tariff, counts, bytes, fields, c),
+            );
+        }
+    }
+}
+
 // A trip's price does not go by the book: it is tested as the first on a fresh one.
 fn show_price(tariff: &[u8], trip: &[u8]) {
     let Reading::Faultless(counts) = read_tariff(tariff) else {
@@ -97,8 +121,8 @@ fn show_price(tariff: &[u8], trip: &[u8]) {
         return;
     };
     let fresh = [0u8; SIZE];
-    match decide(tariff, counts, &fresh, trip, LARGEST) {
-        Decision::Clear(fields, _) => show_ride(tariff, counts, trip, fields),
+    match decide(tariff, counts, &fresh, trip, LARGEST_STATEMENT) {
+        Decision::Clear(fields, _, breaking) => show_rides(tariff, counts, trip, fields, breaking),
         Decision::Refused(why) => {
             say_number(b"refused ", number(why) as u64);
             say(b"\n");
@@ -106,31 +130,42 @@ fn show_price(tariff: &[u8], trip: &[u8]) {
     }
 }
 
-fn show_charges(statement: &[u8])
-    requires { ⌜ RecordAt (now statement) 0 ⌝ }
+fn show_charges(statement: &[u8], place: usize)
+    requires { ⌜ RecordAt (now statement) place ⌝ }
 {
-    for i in 0..count_at(statement, 0) {
-        say_number(b" ", charge_at(statement, 0, i) as u64);
+    for i in 0..count_at(statement, place) {
+        say_number(b" ", charge_at(statement, place, i) as u64);
     }
 }
 
-// A charge record: the window's opening, area, kilometres, minutes, and each charge.
-fn show_record(statement: &[u8])
-    requires { ⌜ RecordAt (now statement) 0 ⌝ }
+// The charge record at a place: the window's opening, area, kilometres, minutes, and each charge.
+fn show_record(statement: &[u8], place: usize)
+    requires { ⌜ RecordAt (now statement) place ⌝ }
 {
-    say_number(b"open ", opening_at(statement, 0) as u64);
-    say_number(b" area ", area_at(statement, 0) as u64);
-    say_number(b" km ", km_at(statement, 0) as u64);
-    say_number(b" min ", minutes_at(statement, 0) as u64);
+    say_number(b"open ", opening_at(statement, place) as u64);
+    say_number(b" area ", area_at(statement, place) as u64);
+    say_number(b" km ", km_at(statement, place) as u64);
+    say_number(b" min ", minutes_at(statement, place) as u64);
     say(b" cents");
-    show_charges(statement);
+    show_charges(statement, place);
     say(b"\n");
 }
 
+// The records of a statement of so many bytes: there is a second one where they go on behind the first.
+fn show_records(statement: &[u8], size: usize)
+    requires { ⌜ Readable (now statement) size ⌝ }
+{
+    show_record(statement, 0);
+    let behind = size_at(statement, 0);
+    if behind < size {
+        show_record(statement, behind);
+    }
+}
+
 fn show_settled(tariff: &[u8], book: &mut [u8], trip: &[u8]) {
-    let mut statement = [0u8; LARGEST];
+    let mut statement = [0u8; LARGEST_STATEMENT];
     match settle(tariff, book, trip, &mut statement) {
-        Answer::Written(_) => show_record(&statement),
+        Answer::Written(size) => show_records(&statement, size),
         Answer::Refused { number, place } => {
             say_number(b"refused ", number as u64);
             say_number(b" at ", place as u64);

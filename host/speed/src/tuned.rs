@@ -1,24 +1,27 @@
 //! Settling tuned for speed, without `unsafe`: what the proved library is measured against.
 //!
 //! - [`numbers`]: little-endian numbers, and the ranges of several at once;
-//! - [`tariff`]: the tariff as it lies in its bytes, its areas, its first fault; [`stops`]: many stops at once;
+//! - [`tariff`]: the tariff as it lies in its bytes, its areas, its first fault; [`factors`]: factor records; [`stops`]:
+//!   many stops at once;
 //! - [`book`]: the book as it lies in its bytes, when it is sound, its window;
-//! - [`calendar`]: stamps and minute numbers; [`trip`]: the trip record;
+//! - [`calendar`]: stamps and minute numbers; [`trip`]: the trip record; [`parts`]: its way, broken or not;
 //! - [`fare`]: kilometres and the price; [`charge`]: caps, charges, bicycles; [`record`]: the charge record;
 //! - [`roll`]: the program; [`lines`]: what it prints; [`line`]: a line and its numbers.
 //!
 //! Nothing is copied: tariff and book are views of the bytes that were lent. Whether all is well is asked of many
-//! fields at once, in as few steps as can be; what is not well is found out only then. Most trips are not refused, most
-//! account holders travel alone, most of a book is 0: that comes first, and all else stands out of its way.
+//! fields at once, in as few steps as can be; what is not well is found out only then. Most trips are neither refused nor
+//! broken, most account holders travel alone, most of a book is 0: that comes first, and all else stands out of its way.
 #![forbid(unsafe_code)]
 
 mod book;
 mod calendar;
 mod charge;
+mod factors;
 mod fare;
 mod line;
 mod lines;
 mod numbers;
+mod parts;
 mod record;
 mod roll;
 mod stops;
@@ -32,6 +35,7 @@ pub use roll::settle_roll;
 use book::Book;
 use charge::charge_party;
 use fare::Ride;
+use parts::Part;
 use record::{head_of, record_bytes};
 use tariff::Tariff;
 use trip::Trip;
@@ -85,15 +89,33 @@ fn try_to_settle(tariff: &[u8], book: &mut [u8], trip: &[u8], statement: &mut [u
 /// Settles under a tariff without fault, on a book that is sound.
 #[inline(never)]
 fn settle_next(tariff: &Tariff, book: &mut Book, trip: &[u8], statement: &mut [u8]) -> Result<usize, Refusal> {
-    let trip = Trip::read(trip, tariff)?;
-    let window = book.window_for(&trip)?;
-    let written = record_bytes(&trip);
-    let Some((head, slots)) = statement.get_mut(..written).and_then(|record| record.split_first_chunk_mut()) else {
+    let (trip, parts) = Trip::read(trip, tariff)?;
+    let window = book.window_for(&trip, parts.many())?;
+    let bytes = record_bytes(&trip);
+    let written = bytes * parts.many();
+    let Some((first, second)) = statement.get_mut(..written).map(|records| records.split_at_mut(bytes)) else {
         return Err(Refusal::new(12));
     };
-    let ride = Ride::of(tariff, &trip);
     book.enter(&window, trip.check_out);
-    *head = head_of(written, window.opening, &ride);
-    charge_party(tariff, &trip, &ride, book, slots.as_chunks_mut().0);
+    charge_part(tariff, &trip, &parts.first, window.opening, book, first);
+    if let Some(part) = parts.second {
+        charge_second_part(tariff, &trip, part, window.opening, book, second);
+    }
     Ok(written)
+}
+
+/// Charges a part, and writes its record.
+#[inline(always)]
+fn charge_part(tariff: &Tariff, trip: &Trip, part: &Part, opening: Minutes, book: &mut Book, record: &mut [u8]) {
+    let ride = Ride::of(tariff, trip, part);
+    let bytes = record.len();
+    let (head, slots) = record.split_first_chunk_mut().expect("a record has a head");
+    *head = head_of(bytes, opening, &ride);
+    charge_party(tariff, trip, &ride, book, slots.as_chunks_mut().0);
+}
+
+/// Few trips have one: it stands out of the way.
+#[inline(never)]
+fn charge_second_part(tariff: &Tariff, trip: &Trip, part: Part, opening: Minutes, book: &mut Book, record: &mut [u8]) {
+    charge_part(tariff, trip, &part, opening, book, record);
 }

@@ -20,13 +20,27 @@ fn it_settles_as_the_model_does() {
     }
 }
 
-/// Stops are looked at in groups: each bit of many of them is flipped, and the tariff is cut everywhere.
+/// Stops are looked at in groups.
 #[test]
 fn faults_among_many_stops() {
     let mut tariff = TARIFF.to_vec();
     for stop in 28..64 {
         tariff.extend(made(&format!("stop {} {} {}\n", stop % 7, 15_625 * stop, 1_000_000 - stop % 2)));
     }
+    faults_are_the_same(tariff);
+}
+
+/// As many factor records as there may be.
+#[test]
+fn faults_among_many_factors() {
+    let (prices, factor) = ("base 1 km 1 valid 30 first 0 child 0 cap none day none bike 0\n", "factor 9 mark 1\n");
+    let areas = format!("area state parent 0 {prices}") + &format!("area region parent 0 {prices}").repeat(31);
+    let text = areas + "factor 1 mark 0\n" + &factor.repeat(31) + "stop 31 0 0\n";
+    faults_are_the_same(made(&text));
+}
+
+/// Each bit is flipped, and the tariff is cut everywhere.
+fn faults_are_the_same(mut tariff: Vec<u8>) {
     for byte in 0..tariff.len() {
         for bit in 0..8 {
             tariff[byte] ^= 1 << bit;
@@ -95,11 +109,25 @@ fn long_rolls() {
     prints_the_same(TARIFF, &month.repeat(4));
 }
 
+/// Two lines a trip, until no more fit into the window: as a whole, or but for one that is not broken.
+#[test]
+fn broken_trips() {
+    let trip = |stops| {
+        let text = "trip 2026-05-04 08:00 to 2026-05-04 08:00 class 2 level 0 adults 1 children 1 bikes 1 stops";
+        made(&format!("{text} {stops}\n"))
+    };
+    let (whole, broken) = (trip("14 20"), trip("14 20 14"));
+    prints_the_same(TARIFF, &broken.repeat(130));
+    prints_the_same(TARIFF, &[&broken.repeat(127), &whole[..], &broken, &whole, &whole, &broken].concat());
+    let lines = settle_roll(TARIFF, &broken.repeat(130)).lines().count();
+    assert_eq!(lines, 1 + 2 * 128 + 2 + 1, "128 are accepted");
+}
+
 #[test]
 fn as_many_records_as_there_may_be() {
     let tariff = made(
         "area state parent 0 base 10000 km 1000 valid 30 first 100 child 0 cap none day none bike 0\n\
-         stop 0 0 0\nstop 0 1000000 1000000\n",
+         factor 1 mark 0\nstop 0 0 0\nstop 0 1000000 1000000\n",
     );
     let trip = "trip 2026-05-04 08:00 to 2026-05-04 08:00 class 1 level 0 adults 10 children 10 bikes 0 stops 0 1\n";
     let (trip, other) = (made(trip), made("record 9\n"));

@@ -1,5 +1,6 @@
 //! A case, and the draft of one.
 
+use super::fields::Layout;
 use super::trips::Plan;
 
 /// What is given to both sides: three slices, and the length of the fourth.
@@ -18,7 +19,15 @@ pub struct Case {
 #[derive(Clone, Debug)]
 pub struct Draft {
     pub case: Case,
-    pub areas: usize,
-    pub stops: usize,
+    pub layout: Layout,
     pub plan: Plan,
+    /// In how many parts the trip is charged.
+    pub parts: usize,
+}
+
+impl Draft {
+    /// The bytes of the charge records.
+    pub fn statement_bytes(&self) -> usize {
+        self.parts * self.plan.record_bytes()
+    }
 }

@@ -3,6 +3,7 @@
 use super::books::{fresh, sound_at_the_edges};
 use super::cases::{Case, Draft};
 use super::damage::damage;
+use super::fields::Layout;
 use super::random::Random;
 use super::run::{Difference, Run};
 use super::tariffs::tariff;
@@ -49,8 +50,12 @@ pub fn chain(random: &mut Random, run: &mut Run) -> Result<(), Difference> {
 impl Chain {
     fn start(random: &mut Random) -> Chain {
         let now = start(random);
-        let mut chain =
-            Chain { bytes: Vec::new(), tariff: Tariff { areas: vec![], stops: vec![] }, book: fresh(), now };
+        let mut chain = Chain {
+            bytes: Vec::new(),
+            tariff: Tariff { areas: vec![], factors: vec![], stops: vec![] },
+            book: fresh(),
+            now,
+        };
         chain.change_tariff(random);
         if random.chance(25) {
             chain.book = sound_at_the_edges(random, chain.tariff.areas.len(), now);
@@ -66,14 +71,16 @@ impl Chain {
     /// The next trip, as a case.
     fn draft(&self, random: &mut Random) -> Draft {
         let plan = plan(random, &self.tariff, &self.book, self.now);
-        let room = plan.record_bytes() + random.pick(&[0, 0, 1, 2, 5, 120]);
+        let parts = plan.parts(&self.tariff);
         let case = Case {
             tariff: self.bytes.clone(),
             book: self.book.clone(),
             trip: plan.bytes(),
-            room,
+            room: 0,
             story: vec!["a trip in a chain"],
         };
-        Draft { case, areas: self.tariff.areas.len(), stops: self.tariff.stops.len(), plan }
+        let mut draft = Draft { case, layout: Layout::of(&self.tariff), plan, parts };
+        draft.case.room = draft.statement_bytes() + random.pick(&[0, 0, 1, 2, 5, 120]);
+        draft
     }
 }

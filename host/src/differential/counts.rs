@@ -1,9 +1,12 @@
 //! How many cases ended in each refusal and in each kind of acceptance.
 
+use super::books::{word, TRIPS};
 use super::cases::Case;
 use super::kinds::{kinds_of, KINDS};
 use crate::answer::Refusal;
+use crate::model::book::TRIPS_IN_A_WINDOW;
 use crate::model::charge::ChargeRecord;
+use crate::model::trip::Trip;
 use std::fmt;
 
 #[derive(Default)]
@@ -13,18 +16,28 @@ pub struct Counts {
     kinds: [u64; KINDS.len()],
     /// By number, from 1.
     refusals: [u64; 13],
+    /// Those of 11 and of 12 that hold of the second part alone.
+    by_second_part: [u64; 2],
 }
 
 impl Counts {
-    pub fn count_accepted(&mut self, case: &Case, record: &ChargeRecord) {
+    pub fn count_accepted(&mut self, case: &Case, records: &[ChargeRecord]) {
         self.accepted += 1;
-        for (count, is_of_it) in self.kinds.iter_mut().zip(kinds_of(case, record)) {
+        for (count, is_of_it) in self.kinds.iter_mut().zip(kinds_of(case, records)) {
             *count += u64::from(is_of_it);
         }
     }
 
-    pub fn count_refused(&mut self, number: u32) {
+    pub fn count_refused(&mut self, case: &Case, number: u32) {
         self.refusals[number as usize] += 1;
+        let [full, no_room] = &mut self.by_second_part;
+        match number {
+            11 => *full += u64::from(word(&case.book, TRIPS) < TRIPS_IN_A_WINDOW),
+            12 => {
+                *no_room += u64::from(Trip::read(&case.trip).is_some_and(|trip| ChargeRecord::size(&trip) <= case.room))
+            }
+            _ => (),
+        }
     }
 
     pub fn refused(&self) -> u64 {
@@ -35,13 +48,18 @@ impl Counts {
         self.accepted + self.refused()
     }
 
-    /// The refusals and kinds that fewer than 1 % of their half ended in.
+    /// The refusals and kinds that fewer than 1 % of their half ended in, and what was not met at all.
     pub fn too_few(&self) -> Vec<String> {
         let refusals =
             Refusal::ALL.into_iter().filter(|&refusal| self.refusals[refusal as usize] * 100 < self.refused());
         let kinds = KINDS.iter().zip(self.kinds).filter(|&(_, count)| count * 100 < self.accepted);
         let refusals = refusals.map(|refusal| format!("refusal {}", refusal as u32));
         let mut all: Vec<String> = refusals.chain(kinds.map(|(kind, _)| kind.to_string())).collect();
+        for (number, count) in [11, 12].into_iter().zip(self.by_second_part) {
+            if count == 0 {
+                all.push(format!("refusal {number} by the second part"));
+            }
+        }
         if self.accepted == 0 {
             all.push("accepted cases".to_string());
         }
@@ -61,6 +79,9 @@ impl fmt::Display for Counts {
         for refusal in Refusal::ALL {
             let what = format!("{:>2} {}", refusal as u32, refusal.text());
             line(out, self.refusals[refusal as usize], self.refused(), &what)?;
+        }
+        for (number, count) in [11, 12].into_iter().zip(self.by_second_part) {
+            line(out, count, self.refused(), &format!("{number} by the second part alone"))?;
         }
         writeln!(out, "accepted {}; one case may be of several kinds", self.accepted)?;
         for (kind, count) in KINDS.iter().zip(self.kinds) {

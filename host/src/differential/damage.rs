@@ -7,16 +7,17 @@ mod trip;
 
 use super::books::{self, set_word, word, LAST_CHECK_OUT, OPENING, TRIPS};
 use super::cases::Draft;
-use super::fields::{Field, AREA, AREA_FIELDS, STOP, STOP_FIELDS};
+use super::fields::{Field, AREA, AREA_FIELDS, FACTOR, FACTOR_FIELDS, STOP, STOP_FIELDS};
 use super::random::Random;
 
 /// A way to damage a case, and what to call it.
 pub type Damage = (&'static str, fn(&mut Random, &mut Draft));
 
 /// In the order of the refusals that they aim at; the last three may end in any.
-pub const DAMAGES: [Damage; 19] = [
+pub const DAMAGES: [Damage; 20] = [
     ("the tariff's frames", tariff::frames),
     ("the tariff's shape", tariff::shape),
+    ("the tariff's factor records", tariff::factors),
     ("a tariff's value", tariff::value),
     ("a tariff's value", tariff::value),
     ("an unsound book", unsound_book),
@@ -52,11 +53,11 @@ fn unsound_book(random: &mut Random, draft: &mut Draft) {
     if random.chance(50) {
         edge_book(random, draft);
     }
-    books::spoil(random, &mut draft.case.book, draft.areas);
+    books::spoil(random, &mut draft.case.book, draft.layout.areas);
 }
 
 fn edge_book(random: &mut Random, draft: &mut Draft) {
-    draft.case.book = books::sound_at_the_edges(random, draft.areas, draft.plan.check_in);
+    draft.case.book = books::sound_at_the_edges(random, draft.layout.areas, draft.plan.check_in);
 }
 
 /// The book's last check-out at the trip's check-in, or a minute or more after it.
@@ -69,21 +70,21 @@ fn last_check_out(random: &mut Random, draft: &mut Draft) {
     set_word(book, LAST_CHECK_OUT, last);
 }
 
-/// The window has 255 or 256 trips; the trip ends before it does, with it, or after it.
+/// The window has 254 to 256 trips; the trip ends before it does, with it, or after it.
 fn trips_in_the_window(random: &mut Random, draft: &mut Draft) {
     let opening = match random.below(4) {
         0 => (draft.plan.check_out + random.below(3)).saturating_sub(1_441),
         _ => draft.plan.check_in.saturating_sub(random.below(600)),
     };
     let book = &mut draft.case.book;
-    set_word(book, TRIPS, random.pick(&[255, 256, 256, 256, 256]));
+    set_word(book, TRIPS, random.pick(&[254, 255, 255, 256, 256, 256]));
     set_word(book, OPENING, opening.min(draft.plan.check_in));
     set_word(book, LAST_CHECK_OUT, draft.plan.check_in.min(opening + 1_440));
 }
 
-/// Every length near the record's, and some others.
+/// Every length near that of the records or of one of them, and some others.
 fn statement_length(random: &mut Random, draft: &mut Draft) {
-    let due = draft.plan.record_bytes();
+    let due = if random.chance(50) { draft.plan.record_bytes() } else { draft.statement_bytes() };
     draft.case.room = match random.below(10) {
         0..4 => due - 1,
         4..8 => (due + random.index(9)).saturating_sub(6),
@@ -92,11 +93,12 @@ fn statement_length(random: &mut Random, draft: &mut Draft) {
     };
 }
 
-/// An area or a stop of the tariff as it was made: its offset, its bytes, its fields.
+/// A record of the tariff as it was made: its offset, its bytes, its fields.
 fn some_record(random: &mut Random, draft: &Draft) -> (usize, usize, &'static [Field]) {
-    if draft.stops == 0 || random.chance(60) {
-        (AREA * random.index(draft.areas), AREA, &AREA_FIELDS)
-    } else {
-        (AREA * draft.areas + STOP * random.index(draft.stops), STOP, &STOP_FIELDS)
+    let layout = draft.layout;
+    match random.below(10) {
+        0..2 => (layout.factor(random.index(layout.factors)), FACTOR, &FACTOR_FIELDS),
+        2..5 if layout.stops > 0 => (layout.stop(random.index(layout.stops)), STOP, &STOP_FIELDS),
+        _ => (AREA * random.index(layout.areas), AREA, &AREA_FIELDS),
     }
 }

@@ -1,11 +1,36 @@
 //! Where each field of a record stands, and the values just inside and just outside its range.
 
+use crate::model::tariff::Tariff;
 use crate::numbers::number;
 
-/// Bytes of an area record, of a stop record, and of a trip record before its stops.
+/// Bytes of an area record, of a factor record, of a stop record, and of a trip record before its stops.
 pub const AREA: usize = 29;
+pub const FACTOR: usize = 6;
 pub const STOP: usize = 13;
 pub const TRIP_HEAD: usize = 22;
+
+/// How many records of each kind a tariff has; they stand in this order.
+#[derive(Clone, Copy, Debug)]
+pub struct Layout {
+    pub areas: usize,
+    pub factors: usize,
+    pub stops: usize,
+}
+
+impl Layout {
+    pub fn of(tariff: &Tariff) -> Layout {
+        Layout { areas: tariff.areas.len(), factors: tariff.factors.len(), stops: tariff.stops.len() }
+    }
+
+    /// Where the factor record of this number begins; that behind the last one is where the stops begin.
+    pub fn factor(self, number: usize) -> usize {
+        AREA * self.areas + FACTOR * number
+    }
+
+    pub fn stop(self, number: usize) -> usize {
+        self.factor(self.factors) + STOP * number
+    }
+}
 
 /// A field of a record, counted from the record's first byte.
 pub struct Field {
@@ -19,8 +44,8 @@ const fn field(place: usize, width: usize, edges: &'static [u64]) -> Field {
     Field { place, width, edges }
 }
 
-pub const LENGTHS: Field = field(0, 2, &[0, 1, 2, 3, 11, 27, 1_023, 1_024, 1_025, 65_535]);
-pub const KINDS: Field = field(2, 2, &[0, 1, 2, 3, 4, 5, 256, 257, 258, 259, 65_535]);
+pub const LENGTHS: Field = field(0, 2, &[0, 1, 2, 3, 4, 11, 27, 1_023, 1_024, 1_025, 65_535]);
+pub const KINDS: Field = field(2, 2, &[0, 1, 2, 3, 4, 5, 6, 256, 257, 258, 259, 261, 65_535]);
 
 const PERCENTAGE: &[u64] = &[0, 1, 99, 100, 101, 255];
 const MINUTES: &[u64] = &[0, 29, 30, 31, 1_439, 1_440, 1_441, 65_535];
@@ -47,6 +72,9 @@ pub static AREA_FIELDS: [Field; 17] = [
     field(25, 2, MONEY),
     field(27, 2, MONEY),
 ];
+
+pub static FACTOR_FIELDS: [Field; 4] =
+    [LENGTHS, KINDS, field(4, 1, &[0, 1, 2, 8, 9, 10, 255]), field(5, 1, &[0, 1, 2, 255])];
 
 pub static STOP_FIELDS: [Field; 5] =
     [LENGTHS, KINDS, field(4, 1, &[0, 1, 31, 32, 255]), field(5, 4, METRES), field(9, 4, METRES)];

@@ -68,11 +68,11 @@ impl Run {
         }
         match answer {
             Ok(written) => {
-                let record = &outcome.statement[..written];
-                let record = ChargeRecord::read(record).expect("the model writes a charge record");
-                self.counts.count_accepted(case, &record);
+                let records = &outcome.statement[..written];
+                let records = ChargeRecord::read_all(records).expect("the model writes charge records");
+                self.counts.count_accepted(case, &records);
             }
-            Err(refusal) => self.counts.count_refused(refusal.number),
+            Err(refusal) => self.counts.count_refused(case, refusal.number),
         }
         Ok(outcome)
     }

@@ -1,10 +1,11 @@
-//! One good case, and all that lie one step away from it: each field at each of its edges, each bit flipped, each cut,
-//! each word of the book a little off, each length of the statement.
+//! Two good cases, one of them with a broken trip, and all that lie one step away from each: each field at each of its
+//! edges, each record of the tariff left out or put in once more anywhere, each bit flipped, each cut, each word of the
+//! book a little off, each length of the statement.
 
 use super::books::{fresh, set_word, word, BICYCLES, WORDS};
 use super::cases::Case;
-use super::fields::{set, stop_field, value, values, Field, AREA, AREA_FIELDS, COUNT_FIELDS};
-use super::fields::{KINDS, LENGTHS, NUMBER_OF_STOPS, STAMP_FIELDS, STOP, STOP_FIELDS};
+use super::fields::{set, stop_field, value, values, Field, Layout, AREA, AREA_FIELDS, COUNT_FIELDS, FACTOR};
+use super::fields::{FACTOR_FIELDS, KINDS, LENGTHS, NUMBER_OF_STOPS, STAMP_FIELDS, STOP, STOP_FIELDS};
 use super::random::Random;
 use super::run::{Difference, Run};
 use super::tariffs::ordinary_tariff;
@@ -16,34 +17,41 @@ const STOPS: usize = 12;
 const TRIPS_BEFORE: usize = 6;
 
 pub fn sweep(random: &mut Random, run: &mut Run) -> Result<(), Difference> {
-    let good = good_case(random, run)?;
-    tariff_fields(run, &good)?;
-    trip_fields(run, &good)?;
-    bits_and_cuts(run, &good, |case| &mut case.tariff, "tariff")?;
-    bits_and_cuts(run, &good, |case| &mut case.trip, "trip")?;
-    book_words(run, &good)?;
-    book_lengths(run, &good)?;
-    statement_lengths(run, &good)?;
-    month_ends(run, &good)
+    for parts in [1, 2] {
+        let good = good_case(random, run, parts)?;
+        tariff_fields(run, &good)?;
+        tariff_records(run, &good)?;
+        trip_fields(run, &good)?;
+        bits_and_cuts(run, &good, |case| &mut case.tariff, "tariff")?;
+        bits_and_cuts(run, &good, |case| &mut case.trip, "trip")?;
+        book_words(run, &good)?;
+        book_lengths(run, &good)?;
+        statement_lengths(run, &good)?;
+        month_ends(run, &good)?;
+    }
+    Ok(())
 }
 
-/// A trip with some of everything, after a few others on the same book.
-fn good_case(random: &mut Random, run: &mut Run) -> Result<Case, Difference> {
+/// A trip with some of everything that is charged in so many parts, after a few others on the same book.
+fn good_case(random: &mut Random, run: &mut Run, parts: usize) -> Result<Case, Difference> {
     let bytes = ordinary_tariff(random, AREAS, STOPS);
     let tariff = read_tariff(&bytes).expect("the makers of tariffs make no faults");
     let (mut book, now) = (fresh(), start(random) / 2);
     for _ in 0..TRIPS_BEFORE {
         let plan = Plan { party: [2, 2, 2], ..plan(random, &tariff, &book, now) };
-        let case = case_of(&bytes, &book, &plan);
-        book = run.check(&case)?.book;
+        book = run.check(&case_of(&bytes, &book, &plan, plan.parts(&tariff)))?.book;
     }
-    let plan = Plan { party: [1, 2, 3], ..plan(random, &tariff, &book, now) };
-    Ok(case_of(&bytes, &book, &plan))
+    loop {
+        let plan = Plan { party: [1, 2, 3], ..plan(random, &tariff, &book, now) };
+        if plan.parts(&tariff) == parts {
+            return Ok(case_of(&bytes, &book, &plan, parts));
+        }
+    }
 }
 
-fn case_of(tariff: &[u8], book: &[u8], plan: &Plan) -> Case {
+fn case_of(tariff: &[u8], book: &[u8], plan: &Plan, parts: usize) -> Case {
     let (tariff, book, trip) = (tariff.to_vec(), book.to_vec(), plan.bytes());
-    Case { tariff, book, trip, room: plan.record_bytes(), story: vec!["the good case of a sweep"] }
+    Case { tariff, book, trip, room: parts * plan.record_bytes(), story: vec!["the good case of a sweep"] }
 }
 
 /// The good case with one change.
@@ -59,16 +67,39 @@ fn check_with(
     run.check(&case).map(drop)
 }
 
+fn layout(good: &Case) -> Layout {
+    Layout::of(&read_tariff(&good.tariff).expect("a good case"))
+}
+
 fn tariff_fields(run: &mut Run, good: &Case) -> Result<(), Difference> {
+    let layout = layout(good);
     let areas = (0..AREAS).map(|area| (area, AREA * area, &AREA_FIELDS[..]));
-    let stops = (0..STOPS).map(|stop| (0, AREA * AREAS + STOP * stop, &STOP_FIELDS[..]));
-    for (number, record, fields) in areas.chain(stops) {
+    let factors = (0..layout.factors).map(|factor| (0, layout.factor(factor), &FACTOR_FIELDS[..]));
+    let stops = (0..STOPS).map(|stop| (0, layout.stop(stop), &STOP_FIELDS[..]));
+    for (number, record, fields) in areas.chain(factors).chain(stops) {
         for field in fields {
             let present = value(&good.tariff, record, field).expect("a field of the tariff");
             for value in values(field, present, &[AREAS, number]) {
                 let change = |case: &mut Case| set(&mut case.tariff, record, field, value);
                 check_with(run, good, "a field of the tariff at an edge", change)?;
             }
+        }
+    }
+    Ok(())
+}
+
+/// Each record left out, and each put in once more at each place.
+fn tariff_records(run: &mut Run, good: &Case) -> Result<(), Difference> {
+    let layout = layout(good);
+    let areas = (0..AREAS).map(|area| AREA * area);
+    let factors = (0..layout.factors).map(|factor| layout.factor(factor));
+    let places: Vec<usize> = areas.chain(factors).chain((0..=STOPS).map(|stop| layout.stop(stop))).collect();
+    for ends in places.windows(2) {
+        let record = good.tariff[ends[0]..ends[1]].to_vec();
+        check_with(run, good, "a record left out", |case| drop(case.tariff.drain(ends[0]..ends[1])))?;
+        for &place in &places {
+            let change = |case: &mut Case| drop(case.tariff.splice(place..place, record.clone()));
+            check_with(run, good, "a record once more", change)?;
         }
     }
     Ok(())
@@ -101,7 +132,7 @@ fn bits_and_cuts(
         }
         check_with(run, good, "cut", |case| slice(case).truncate(place))?;
     }
-    for more in 1..=STOP + AREA {
+    for more in 1..=STOP + AREA + FACTOR {
         // Zeros, and the same bytes once more.
         check_with(run, good, what, |case| slice(case).resize(length + more, 0))?;
         check_with(run, good, what, |case| {
@@ -137,7 +168,7 @@ fn book_lengths(run: &mut Run, good: &Case) -> Result<(), Difference> {
 }
 
 fn statement_lengths(run: &mut Run, good: &Case) -> Result<(), Difference> {
-    for length in 0..2 * good.room + 4 {
+    for length in 0..good.room + 40 {
         check_with(run, good, "a statement of another length", |case| case.room = length)?;
     }
     Ok(())

@@ -1,6 +1,6 @@
 //! Faultless tariffs of all sorts.
 
-use super::fields::{AREA, STOP};
+use super::fields::{AREA, FACTOR, STOP};
 use super::random::Random;
 use crate::numbers::put;
 
@@ -63,26 +63,77 @@ pub fn ordinary_tariff(random: &mut Random, areas: usize, stops: usize) -> Vec<u
 }
 
 fn tariff_with(random: &mut Random, areas: usize, stops: usize, numbers: Numbers) -> Vec<u8> {
-    let mut bytes = Vec::with_capacity(AREA * areas + STOP * stops);
+    let mut bytes = Vec::with_capacity((AREA + FACTOR) * areas + STOP * stops);
+    let per_cent_regions = random.pick(&[30, 30, 30, 30, 30, 100]);
     let mut earlier: Vec<Area> = Vec::new();
     for _ in 0..areas {
-        let area = next_area(random, &earlier, numbers);
+        let area = next_area(random, &earlier, per_cent_regions, numbers);
         put_area(&mut bytes, &area);
         earlier.push(area);
     }
-    let mut last = [500_000, 500_000];
-    for _ in 0..stops {
-        last = next_position(random, last);
-        put_stop(&mut bytes, random.below(areas as u64), last);
-    }
+    let factors = put_factors(random, &mut bytes, &earlier, numbers);
+    put_stops(random, &mut bytes, &factors, stops);
     bytes
 }
 
-fn next_area(random: &mut Random, earlier: &[Area], numbers: Numbers) -> Area {
+/// Puts one for the state and one for each region; the answer is that of each area, and a city's is its region's.
+fn put_factors(random: &mut Random, bytes: &mut Vec<u8>, areas: &[Area], numbers: Numbers) -> Vec<u64> {
+    let mut factors: Vec<u64> = Vec::new();
+    for area in areas {
+        if area.level == 2 {
+            factors.push(factors[area.parent]);
+        } else {
+            let factor = factor(random, numbers);
+            put_factor(bytes, factor, random.below(1 + area.level));
+            factors.push(factor);
+        }
+    }
+    factors
+}
+
+/// Puts so many stops, at times three in one area that are just at its factor.
+fn put_stops(random: &mut Random, bytes: &mut Vec<u8>, factors: &[u64], stops: usize) {
+    let mut last = [500_000, 500_000];
+    let mut many = 0;
+    while many < stops {
+        let area = random.index(factors.len());
+        last = next_position(random, last);
+        let group = if random.chance(25) { at_the_factor(random, last, factors[area]) } else { vec![last] };
+        for &position in group.iter().take(stops - many) {
+            put_stop(bytes, area as u64, position);
+        }
+        many += group.len();
+    }
+}
+
+/// As in the published papers or near it, or any.
+fn factor(random: &mut Random, numbers: Numbers) -> u64 {
+    match numbers {
+        Numbers::Ordinary => random.pick(&[1, 2, 3, 3, 4]),
+        Numbers::Wide => random.within(1, 9),
+        Numbers::Ends => random.pick(&[1, 9]),
+    }
+}
+
+/// Three stops: the third is the factor times as far from the first as the second is, or a metre more or less. The first
+/// is this one, or one from which the others stay in the plane.
+fn at_the_factor(random: &mut Random, [x, y]: [u64; 2], factor: u64) -> Vec<[u64; 2]> {
+    let [x, y] = if x.max(y) < 800_000 { [x, y] } else { [500_000, 500_000] };
+    let [dx, dy] = random.pick(&[[1, 0], [1_000, 0], [0, 1_000], [3_000, 4_000], [5_000, 12_000], [777, 333]]);
+    let third = [x + factor * dx, y + factor * dy];
+    let third = match random.below(5) {
+        0 => [third[0] + 1, third[1]],
+        1 => [third[0].saturating_sub(1), third[1]],
+        _ => third,
+    };
+    vec![[x, y], [x + dx, y + dy], third]
+}
+
+fn next_area(random: &mut Random, earlier: &[Area], per_cent_regions: u64, numbers: Numbers) -> Area {
     let regions: Vec<usize> = (0..earlier.len()).filter(|&area| earlier[area].level == 1).collect();
     let (level, parent) = if earlier.is_empty() {
         (0, 0)
-    } else if regions.is_empty() || random.chance(30) {
+    } else if regions.is_empty() || random.chance(per_cent_regions) {
         (1, 0)
     } else {
         (2, random.pick(&regions))
@@ -187,6 +238,13 @@ fn put_area(bytes: &mut Vec<u8>, area: &Area) {
     put(bytes, 2, area.flat);
 }
 
+fn put_factor(bytes: &mut Vec<u8>, factor: u64, mark: u64) {
+    put(bytes, 2, 4);
+    put(bytes, 2, 5);
+    put(bytes, 1, factor);
+    put(bytes, 1, mark);
+}
+
 fn put_stop(bytes: &mut Vec<u8>, area: u64, [x, y]: [u64; 2]) {
     put(bytes, 2, 11);
     put(bytes, 2, 2);
@@ -198,6 +256,7 @@ fn put_stop(bytes: &mut Vec<u8>, area: u64, [x, y]: [u64; 2]) {
 #[cfg(test)]
 mod tests {
     use super::*;
+    use crate::differential::fields::Layout;
     use crate::model::read_tariff;
 
     #[test]
@@ -206,7 +265,7 @@ mod tests {
         for _ in 0..2_000 {
             let bytes = tariff(&mut random);
             let read = read_tariff(&bytes).expect("a faultless tariff");
-            assert_eq!(bytes.len(), AREA * read.areas.len() + STOP * read.stops.len());
+            assert_eq!(bytes.len(), Layout::of(&read).stop(read.stops.len()));
         }
     }
 }

@@ -3,6 +3,8 @@
 use super::books::{word, LAST_CHECK_OUT, OPENING, TRIPS};
 use super::fields::TRIP_HEAD;
 use super::random::Random;
+use crate::model::fare::squared_distance;
+use crate::model::parts::parts_of;
 use crate::model::tariff::{Tariff, TripCap};
 use crate::numbers::put;
 
@@ -41,9 +43,19 @@ impl Plan {
         bytes
     }
 
-    /// The bytes of its charge record.
+    /// The bytes of the charge record of one part.
     pub fn record_bytes(&self) -> usize {
         17 + 4 * self.party.iter().sum::<u64>() as usize
+    }
+
+    /// In how many parts the trip is charged; one where the tariff lacks a stop.
+    pub fn parts(&self, tariff: &Tariff) -> usize {
+        let known = self.stops.iter().all(|&stop| stop < tariff.stops.len());
+        if known {
+            parts_of(tariff, &self.stops, 0).len()
+        } else {
+            1
+        }
     }
 }
 
@@ -141,18 +153,28 @@ fn near(random: &mut Random, minute: u64) -> u64 {
 /// Mostly alone or few; at times as many as there may be.
 fn party(random: &mut Random) -> [u64; 3] {
     match random.below(20) {
-        0..8 => [0; 3],
-        8 => [10; 3],
+        0..7 => [0; 3],
+        7..9 => [10; 3],
         9 => [0; 3].map(|_| random.within(0, 10)),
         _ => [0; 3].map(|_| random.pick(&[0, 0, 1, 1, 2])),
     }
 }
 
-/// Two or more stops, mostly all in one area or within it. A tariff without stops lacks them.
+/// Two or more stops; at times out and back, or where a trip is just broken or just not. A tariff without stops lacks
+/// them.
 fn stops(random: &mut Random, tariff: &Tariff) -> Vec<usize> {
     if tariff.stops.is_empty() {
         return vec![0, 0];
     }
+    match random.below(20) {
+        0..4 => out_and_back(random, tariff),
+        4..7 => at_the_factor(random, tariff),
+        _ => some_stops(random, tariff),
+    }
+}
+
+/// Mostly all in one area or within it.
+fn some_stops(random: &mut Random, tariff: &Tariff) -> Vec<usize> {
     let home = tariff.stops[random.index(tariff.stops.len())].area;
     let within = match random.below(10) {
         0..6 => home,
@@ -167,6 +189,41 @@ fn stops(random: &mut Random, tariff: &Tariff) -> Vec<usize> {
         _ => random.pick(&[2, 2, 2, 3, 4]),
     };
     (0..many).map(|_| random.pick(&possible)).collect()
+}
+
+/// Ends where it begins: at the same stop, or at any that is at the same point.
+fn out_and_back(random: &mut Random, tariff: &Tariff) -> Vec<usize> {
+    let mut stops = some_stops(random, tariff);
+    stops.truncate(31);
+    let point = |stop: usize| (tariff.stops[stop].x, tariff.stops[stop].y);
+    let there: Vec<usize> = (0..tariff.stops.len()).filter(|&stop| point(stop) == point(stops[0])).collect();
+    let any = random.pick(&there);
+    stops.push(random.pick(&[stops[0], any]));
+    stops
+}
+
+/// The change is the factor times as far from the first stop as the last one is, but for a metre or so. The makers of
+/// tariffs put such stops behind each other: first, last, change.
+fn at_the_factor(random: &mut Random, tariff: &Tariff) -> Vec<usize> {
+    let firsts: Vec<usize> =
+        (0..tariff.stops.len().saturating_sub(2)).filter(|&first| is_at_the_factor(tariff, first)).collect();
+    if firsts.is_empty() {
+        return some_stops(random, tariff);
+    }
+    let first = random.pick(&firsts);
+    let (last, change) = (first + 1, first + 2);
+    match random.below(4) {
+        0 => vec![first, last, change, first, last],
+        1 => vec![first, change, last, change, last],
+        _ => vec![first, change, last],
+    }
+}
+
+fn is_at_the_factor(tariff: &Tariff, first: usize) -> bool {
+    let (last, change) = (first + 1, first + 2);
+    let factor = tariff.factor_for(tariff.area_of_stops(&[first, last, change])).factor;
+    let metres = |to: usize| (squared_distance(&tariff.stops[first], &tariff.stops[to]) as f64).sqrt();
+    (metres(change) - factor as f64 * metres(last)).abs() < 2.0
 }
 
 #[cfg(test)]

@@ -37,9 +37,10 @@
 //! trip ..
 //! ```
 //!
-//! `but` offers the section once more with texts of it replaced, instead of it: on the tariff and the book that it
-//! found, and without a trace. `then` offers it after what stands before. Each text stands once in the section. Of such
-//! a line's answer only the end is given, or `accepted` for any that is no refusal.
+//! A broken trip has two lines, one for each part. `but` offers the section once more with texts of it replaced, instead
+//! of it: on the tariff and the book that it found, and without a trace. `then` offers it after what stands before. Each
+//! text stands once in the section. Of the answer to these only the end is given, with ` / ` between two lines, or
+//! `accepted` for any that is no refusal.
 
 use super::records::Records;
 use super::words::Words;

@@ -1,8 +1,8 @@
-//! The lines that give bytes: `area`, `stop`, `trip`, `record`, `bytes` and `repeat`.
+//! The lines that give bytes: `area`, `factor`, `stop`, `trip`, `record`, `bytes` and `repeat`.
 
 use super::words::{fitting, hexadecimal, whole, Words};
 use super::Fault;
-use crate::model::record::{KIND_AREA, KIND_STOP, KIND_TRIP};
+use crate::model::record::{KIND_AREA, KIND_FACTOR, KIND_STOP, KIND_TRIP};
 use crate::numbers::put;
 
 /// The most that `repeat` repeats.
@@ -78,6 +78,7 @@ fn content_of(text: &str) -> Result<Content, String> {
     };
     let content = match name {
         "area" => record(KIND_AREA, area_body(&mut words)?)?,
+        "factor" => record(KIND_FACTOR, factor_body(&mut words)?)?,
         "stop" => record(KIND_STOP, stop_body(&mut words)?)?,
         "trip" => record(KIND_TRIP, trip_body(&mut words)?)?,
         "record" => record(words.number("the kind", 2)?, hexadecimal(&words.all())?)?,
@@ -162,6 +163,13 @@ fn day_cap(words: &mut Words) -> Result<u64, String> {
         "none" => Ok(NO_DAY_CAP),
         word => fitting("the day cap", word, 2),
     }
+}
+
+fn factor_body(words: &mut Words) -> Result<Vec<u8>, String> {
+    let mut body = Vec::new();
+    put(&mut body, 1, words.number("the factor", 1)?);
+    put(&mut body, 1, words.field("mark", 1)?);
+    Ok(body)
 }
 
 fn stop_body(words: &mut Words) -> Result<Vec<u8>, String> {

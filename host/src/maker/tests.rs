@@ -45,6 +45,12 @@ fn levels_and_caps_of_an_area() {
 }
 
 #[test]
+fn a_factor() {
+    assert_eq!(bytes("factor 3 mark 1"), [4, 0, 5, 0, 3, 1]);
+    assert_eq!(bytes("factor 255 mark 255"), [4, 0, 5, 0, 255, 255]);
+}
+
+#[test]
 fn a_stop() {
     assert_eq!(bytes("stop 2 300000 4294967295"), [11, 0, 2, 0, 2, 0xe0, 0x93, 4, 0, 255, 255, 255, 255]);
 }
@@ -106,6 +112,8 @@ fn faults_name_their_line() {
         ("area state parent 0 base 65536", "line 1: base 65536 does not fit in 2 bytes"),
         ("area state parent 0 base -1", "line 1: base '-1' is not a number"),
         ("area state parent 0 base +1", "line 1: base '+1' is not a number"),
+        ("factor 256 mark 0", "line 1: the factor 256 does not fit in 1 byte"),
+        ("factor 3 1", "line 1: the word 'mark' is due, not '1'"),
         ("stop 0 0", "line 1: y is missing"),
         ("stop 0 0 4294967296", "line 1: y 4294967296 does not fit in 4 bytes"),
         ("stop 0 99999999999999999999 0", "line 1: x '99999999999999999999' is not a number"),

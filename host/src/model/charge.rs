@@ -35,8 +35,8 @@ fn riders_of(trip: &Trip) -> Vec<Rider> {
     holder.into_iter().chain(adults).chain(children).collect()
 }
 
-/// All charges of the trip in the record's order: account holder, adults, children, bicycles. Each is posted in the
-/// book.
+/// All charges of a part of the trip in the record's order: account holder, adults, children, bicycles. Each is posted in
+/// the book.
 pub fn charges_of(tariff: &Tariff, trip: &Trip, ride: &Ride, book: &mut Book) -> Vec<Cents> {
     let mut charges = Vec::new();
     for rider in riders_of(trip) {
@@ -133,7 +133,7 @@ pub struct ChargeRecord {
 }
 
 impl ChargeRecord {
-    /// The bytes that the record of this trip takes.
+    /// The bytes that the record of one part of this trip takes.
     pub fn size(trip: &Trip) -> usize {
         let m = 1 + trip.adults + trip.children + trip.bicycles;
         HEAD + BODY_HEAD + 4 * m
@@ -152,6 +152,18 @@ impl ChargeRecord {
             put(&mut bytes, 4, charge);
         }
         bytes
+    }
+
+    /// The records that stand one after another in these bytes, or nothing where something else stands there.
+    pub fn read_all(bytes: &[u8]) -> Option<Vec<ChargeRecord>> {
+        let mut records = Vec::new();
+        let mut place = 0;
+        while place < bytes.len() {
+            let size = record_at(bytes, place)?.size();
+            records.push(ChargeRecord::read(&bytes[place..place + size])?);
+            place += size;
+        }
+        Some(records)
     }
 
     /// The record in these bytes, or nothing where they are no charge record.

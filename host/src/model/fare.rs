@@ -1,10 +1,11 @@
 //! Kilometres, and the price in its four steps.
 
+use super::parts::Part;
 use super::tariff::{Area, Stop, Tariff, TripCap};
 use super::trip::Trip;
 use super::{Cents, Km, Minutes};
 
-/// What the price of a trip depends on.
+/// What the price of a part of a trip depends on.
 #[derive(Clone, Debug, PartialEq, Eq)]
 pub struct Ride {
     pub area: usize,
@@ -15,14 +16,14 @@ pub struct Ride {
 }
 
 impl Ride {
-    /// The area looks at all stops, the kilometres at the first and the last.
-    pub fn of(tariff: &Tariff, trip: &Trip, minutes: Minutes) -> Ride {
-        let stops: Vec<&Stop> = trip.stops.iter().map(|&stop| &tariff.stops[stop]).collect();
-        let areas: Vec<usize> = stops.iter().map(|stop| stop.area).collect();
+    /// The area looks at all stops of the part, the kilometres at the first and the last. Class and level are the
+    /// trip's.
+    pub fn of(tariff: &Tariff, trip: &Trip, part: &Part) -> Ride {
+        let (first, last) = (part.stops[0], part.stops[part.stops.len() - 1]);
         Ride {
-            area: tariff.smallest_containing(&areas),
-            km: kilometres(stops[0], stops[stops.len() - 1]),
-            minutes,
+            area: tariff.area_of_stops(&part.stops),
+            km: kilometres(&tariff.stops[first], &tariff.stops[last]),
+            minutes: part.minutes,
             class: trip.class,
             ticket_level: trip.ticket_level,
         }
@@ -31,13 +32,18 @@ impl Ride {
 
 /// The least k with dx² + dy² ≤ (1,000k)².
 pub fn kilometres(first: &Stop, last: &Stop) -> Km {
-    let dx = first.x.abs_diff(last.x);
-    let dy = first.y.abs_diff(last.y);
     let mut k = 0;
-    while dx * dx + dy * dy > (1_000 * k) * (1_000 * k) {
+    while squared_distance(first, last) > (1_000 * k) * (1_000 * k) {
         k += 1;
     }
     k
+}
+
+/// dx² + dy², in square metres.
+pub fn squared_distance(one: &Stop, other: &Stop) -> u64 {
+    let dx = one.x.abs_diff(other.x);
+    let dy = one.y.abs_diff(other.y);
+    dx * dx + dy * dy
 }
 
 /// Steps 1 to 3: the price of the holder and of each adult carried. `area` is the ride's own.

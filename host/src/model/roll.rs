@@ -1,4 +1,5 @@
-//! The program: it settles a roll of trips one after another on one book, and prints a line for each.
+//! The program: it settles a roll of trips one after another on one book, and prints a line for each, two where a trip is
+//! broken.
 
 use super::book::BOOK_BYTES;
 use super::charge::ChargeRecord;
@@ -8,8 +9,8 @@ use super::{read_tariff, settle, Cents};
 /// The run stops after so many records.
 pub const MOST_RECORDS: u64 = 65_535;
 
-/// Room for the largest charge record, with 31 charges.
-const STATEMENT_BYTES: usize = 137;
+/// Room for the two charge records of a broken trip, each with 31 charges.
+pub const LARGEST_STATEMENT: usize = 274;
 
 /// The text that the program prints for this tariff and this roll.
 pub fn settle_roll(tariff: &[u8], roll: &[u8]) -> String {
@@ -30,13 +31,15 @@ pub fn settle_roll(tariff: &[u8], roll: &[u8]) -> String {
             break;
         };
         let next = place + record.size();
-        let mut statement = [0; STATEMENT_BYTES];
+        let mut statement = [0; LARGEST_STATEMENT];
         match settle(tariff, &mut book, &roll[place..next], &mut statement) {
             Ok(written) => {
-                let charge = ChargeRecord::read(&statement[..written]).expect("settling writes a charge record");
-                text += &accepted_line(number, &charge);
+                let records = ChargeRecord::read_all(&statement[..written]).expect("settling writes charge records");
+                for charge in &records {
+                    text += &accepted_line(number, charge);
+                    total += charge.total();
+                }
                 accepted += 1;
-                total += charge.total();
             }
             Err(refusal) => {
                 text += &refused_line(number, refusal.number);

@@ -1,12 +1,14 @@
-//! A tariff: 1 to 32 areas, then 0 to 1,000 stops, nothing else. Refusals 1 to 3.
+//! A tariff: 1 to 32 areas, then a factor record for the state and for each region, then 0 to 1,000 stops, nothing
+//! else. Refusals 1 to 3.
 
-use super::record::{record_at, Fields, Record, KIND_AREA, KIND_STOP};
+use super::record::{record_at, Fields, Record, KIND_AREA, KIND_FACTOR, KIND_STOP};
 use super::{Cents, Metres, Minutes, Refusal};
 
 pub const MOST_AREAS: usize = 32;
 pub const MOST_STOPS: usize = 1_000;
 
 const AREA_BODY: usize = 25;
+const FACTOR_BODY: usize = 2;
 const STOP_BODY: usize = 9;
 
 /// The day cap that means none.
@@ -43,6 +45,15 @@ pub struct Area {
     pub bicycle_flat: Cents,
 }
 
+/// What a factor record says: when a trip is broken.
+#[derive(Clone, Debug, PartialEq, Eq)]
+pub struct Factor {
+    /// 1 to 9.
+    pub factor: u64,
+    /// Whether trips inside a city of the region are never broken.
+    pub keeps_city_trips: bool,
+}
+
 #[derive(Clone, Debug, PartialEq, Eq)]
 pub struct Stop {
     pub area: usize,
@@ -50,16 +61,18 @@ pub struct Stop {
     pub y: Metres,
 }
 
-/// Areas and stops, each numbered from 0 in order.
+/// Areas and stops, each numbered from 0 in order. The factors are those of the state and the regions, in the order of
+/// the areas; cities have none.
 #[derive(Clone, Debug, PartialEq, Eq)]
 pub struct Tariff {
     pub areas: Vec<Area>,
+    pub factors: Vec<Factor>,
     pub stops: Vec<Stop>,
 }
 
 /// The tariff, or the fault of its first faulty record and that record's place.
 pub fn read_tariff(bytes: &[u8]) -> Result<Tariff, Refusal> {
-    let mut tariff = Tariff { areas: Vec::new(), stops: Vec::new() };
+    let mut tariff = Tariff { areas: Vec::new(), factors: Vec::new(), stops: Vec::new() };
     let mut place = 0;
     while place < bytes.len() {
         let fault = |number| Refusal { number, place: place as u32 };
@@ -67,16 +80,24 @@ pub fn read_tariff(bytes: &[u8]) -> Result<Tariff, Refusal> {
         if !tariff.may_go_on_with(&record) {
             return Err(fault(2));
         }
-        if record.kind == KIND_AREA {
-            let area = read_area(record.body, &tariff.areas).ok_or(fault(3))?;
-            tariff.areas.push(area);
-        } else {
-            let stop = read_stop(record.body, tariff.areas.len()).ok_or(fault(3))?;
-            tariff.stops.push(stop);
+        match record.kind {
+            KIND_AREA => {
+                let area = read_area(record.body, &tariff.areas).ok_or(fault(3))?;
+                tariff.areas.push(area);
+            }
+            KIND_FACTOR => {
+                let factor = read_factor(record.body, tariff.factors.is_empty()).ok_or(fault(3))?;
+                tariff.factors.push(factor);
+            }
+            _ => {
+                let stop = read_stop(record.body, tariff.areas.len()).ok_or(fault(3))?;
+                tariff.stops.push(stop);
+            }
         }
         place += record.size();
     }
-    if tariff.areas.is_empty() {
+    // A record is still due: an area, or a factor record.
+    if tariff.areas.is_empty() || tariff.factors.len() < tariff.factors_due() {
         return Err(Refusal { number: 2, place: place as u32 });
     }
     Ok(tariff)
@@ -85,11 +106,35 @@ pub fn read_tariff(bytes: &[u8]) -> Result<Tariff, Refusal> {
 impl Tariff {
     /// Whether kind, body length, order and number let this record come next.
     fn may_go_on_with(&self, record: &Record) -> bool {
+        let length = record.body.len();
         match record.kind {
-            KIND_AREA => record.body.len() == AREA_BODY && self.stops.is_empty() && self.areas.len() < MOST_AREAS,
-            KIND_STOP => record.body.len() == STOP_BODY && !self.areas.is_empty() && self.stops.len() < MOST_STOPS,
+            KIND_AREA => {
+                length == AREA_BODY && self.factors.is_empty() && self.stops.is_empty() && self.areas.len() < MOST_AREAS
+            }
+            KIND_FACTOR => length == FACTOR_BODY && self.stops.is_empty() && self.factors.len() < self.factors_due(),
+            KIND_STOP => {
+                length == STOP_BODY
+                    && !self.areas.is_empty()
+                    && self.factors.len() == self.factors_due()
+                    && self.stops.len() < MOST_STOPS
+            }
             _ => false,
         }
+    }
+
+    /// One factor record for the state and one for each region.
+    fn factors_due(&self) -> usize {
+        self.areas.iter().filter(|area| area.level != Level::City).count()
+    }
+
+    /// The factor record that an area goes by: that of the region which contains it, else the state's.
+    pub fn factor_for(&self, area: usize) -> &Factor {
+        let owner = match self.areas[area].level {
+            Level::City => self.areas[area].parent,
+            Level::Region | Level::State => area,
+        };
+        let earlier = self.areas[..owner].iter().filter(|area| area.level != Level::City).count();
+        &self.factors[earlier]
     }
 
     /// The area itself, then every area above it up to the state.
@@ -114,6 +159,12 @@ impl Tariff {
             .into_iter()
             .find(|&outer| areas.iter().all(|&inner| self.contains(outer, inner)))
             .expect("the state contains every area")
+    }
+
+    /// The smallest area containing the areas of all these stops.
+    pub fn area_of_stops(&self, stops: &[usize]) -> usize {
+        let areas: Vec<usize> = stops.iter().map(|&stop| self.stops[stop].area).collect();
+        self.smallest_containing(&areas)
     }
 }
 
@@ -200,6 +251,14 @@ fn is_parent(level: Level, parent: usize, earlier: &[Area]) -> bool {
         Level::Region => !earlier.is_empty() && parent == 0,
         Level::City => earlier.get(parent).is_some_and(|above| above.level == Level::Region),
     }
+}
+
+/// The factor is 1 to 9, the mark 0 or 1. The first record is the state's, and its mark is 0.
+fn read_factor(body: &[u8], is_states: bool) -> Option<Factor> {
+    let mut fields = Fields::of(body);
+    let (factor, mark) = (fields.next(1), fields.next(1));
+    let well = (1..=9).contains(&factor) && mark <= if is_states { 0 } else { 1 };
+    well.then_some(Factor { factor, keeps_city_trips: mark == 1 })
 }
 
 /// A stop's area exists; x and y are 0..1,000,000.

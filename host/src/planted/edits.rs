@@ -7,7 +7,7 @@ pub struct Planted {
     pub edits: &'static [(&'static str, &'static str, &'static str)],
 }
 
-pub const PLANTED: [Planted; 4] = [
+pub const PLANTED: [Planted; 7] = [
     // Promise 1: a refusal changes nothing, and the refusals are tried in their order.
     Planted {
         name: "refusal_12_writes_the_book",
@@ -52,5 +52,22 @@ pub const PLANTED: [Planted; 4] = [
              let charge = if area == ride.area { charge } else { price };
              book.add_to_all_classes(rider.number, area, charge);",
         )],
+    },
+    // Out and back: where a trip is broken, and what its parts are.
+    Planted {
+        name: "broken_at_the_factor",
+        edits: &[(
+            "parts.rs",
+            "squared_distance(first, far) > rule.factor",
+            "squared_distance(first, far) >= rule.factor",
+        )],
+    },
+    Planted {
+        name: "last_of_equals",
+        edits: &[("parts.rs", "distance(change) > distance(before)", "distance(change) >= distance(before)")],
+    },
+    Planted {
+        name: "second_part_with_the_duration",
+        edits: &[("parts.rs", "minutes: 0 },", "minutes: duration },")],
     },
 ];

@@ -14,19 +14,19 @@ settle-next-requires c κs = search needs
 enum-known-number : tie.Need-enum-known-number
 enum-known-number c = search needs
 
-cast-t13 : tie.Need-cast-t13
-cast-t13 c = search needs
+cast-t14 : tie.Need-cast-t14
+cast-t14 c = search needs
 
-enum-told : tie.Need-enum-told
-enum-told c = search needs
+enum-known-size : tie.Need-enum-known-size
+enum-known-size c = search needs
 
 slice-aggregate-charged-line : tie.Need-slice-aggregate-charged-line
 slice-aggregate-charged-line c = search needs
 
 charged-line-requires : tie.Need-charged-line-requires
 charged-line-requires c κs =
-    let start = c .before .before .before .before .before .before .before .before .before .before .before .before in
-    readable (start .args .trip .now) (start .pre) (c .before .before .before .before .before .before .settle-next .ensures) (c .before .enum-told .given .1)
+    let start = c .before .before .before .before .before .before .before .before .before .before .before .before .before in
+    readable (start .args .trip .now) (start .pre) (c .before .before .before .before .before .before .before .settle-next .ensures) (c .before .before .size .given .1)
 
 same-length : tie.Need-same-length
 same-length c = search needs
@@ -41,8 +41,8 @@ same-length-2 c = search needs
 
 returns-2 : tie.Need-returns-2
 returns-2 c =
-    let start = c .before .before .before .before .before .before .before .before .before .before .before .before .before in
-    charged-settled (start .args .trip .now) (start .pre) (c .before .before .before .before .before .before .before .settle-next .ensures) (c .before .before .enum-told .given .1) (c .charged-line .ensures)
+    let start = c .before .before .before .before .before .before .before .before .before .before .before .before .before .before in
+    charged-settled (start .args .trip .now) (start .pre) (c .before .before .before .before .before .before .before .before .settle-next .ensures) (c .before .before .before .size .given .1) (c .charged-line .ensures)
 
 pub settle-line-spec : {M : Type 1} → statement M
 settle-line-spec =
@@ -51,8 +51,8 @@ settle-line-spec =
     slice-aggregate-settle-next
     settle-next-requires
     enum-known-number
-    cast-t13
-    enum-told
+    cast-t14
+    enum-known-size
     slice-aggregate-charged-line
     charged-line-requires
     same-length

@@ -21,7 +21,7 @@ enum-known-fields c = search needs
 
 write-requires : tie.Need-write-requires
 write-requires c κs =
-    all-clear _ _ _ _ _ _ _ (c .before .before .before .before .before .before .before .before .before .before .before .pre) (sym (c .before .before .before .before .before .decide .ensures) ∙ c .before .before .before .fields .given .1)
+    all-clear _ _ _ _ _ _ _ _ (c .before .before .before .before .before .before .before .before .before .before .before .pre) (sym (c .before .before .before .before .before .decide .ensures) ∙ c .before .before .before .fields .given .1)
 
 same-length : tie.Need-same-length
 same-length c = search needs

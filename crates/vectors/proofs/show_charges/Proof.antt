@@ -1,6 +1,6 @@
 -- `vectors::show_charges` is safe and ends: the record goes as far as its charges do.
 -- Assumes nothing.
-use Prim.Native.Nat.{_≤_, _-_}
+use Prim.Native.Nat.{_+_, _-_, _≤_}
 use native.Mathlib.Omega.{arith}
 use lib.ListN.{length}
 use borrow.Author.Needs.{needs}
@@ -9,10 +9,10 @@ use Rattle.vectors.proofs.show_charges.Statement.{statement}
 use Rattle.vectors.proofs.show_charges.Tie as tie
 
 abbrev Inv-loop : tie.InvT-loop
-Inv-loop statement i₀ t3 i-end i = (i ≤ i-end) × (i-end ≤ mostCharges) × (sizeWith i-end ≤ length statement)
+Inv-loop statement place i₀ t4 i-end i = (i ≤ i-end) × (i-end ≤ mostCharges) × (place + sizeWith i-end ≤ length statement)
 
 abbrev μ-loop : tie.MeasureT-loop
-μ-loop statement i₀ t3 i-end i = i-end - i
+μ-loop statement place i₀ t4 i-end i = i-end - i
 
 count-at-requires : tie.Need-count-at-requires Inv-loop μ-loop
 count-at-requires c κs = search needs

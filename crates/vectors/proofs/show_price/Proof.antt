@@ -2,6 +2,7 @@
 -- Assumes nothing.
 use mathlib.Core.Path.{sym, _∙_}
 use borrow.Author.Needs.{needs}
+use Rattle.fare.proofs.GoodTrips.{riding, in-order}
 use Rattle.book.proofs.SoundLaws.{fresh-sound}
 use Rattle.settle.proofs.Ways.{clear-found, no-row}
 use Rattle.vectors.proofs.show_price.Statement.{statement}
@@ -29,17 +30,21 @@ slice-aggregate-decide : tie.Need-slice-aggregate-decide
 slice-aggregate-decide c = search needs
 
 decide-requires : tie.Need-decide-requires
-decide-requires c κs = fresh-sound _
+decide-requires c κs =
+    let start = c .before .before in
+    record { read = sym (start .before .before .read-tariff .ensures) ∙ start .counts .given .1; sound-book = fresh-sound _ }
 
 enum-known-fields : tie.Need-enum-known-fields
 enum-known-fields c = search needs
 
-show-ride-requires : tie.Need-show-ride-requires
-show-ride-requires c κs =
-    let read = c .before .before .before .before .before .before in
+show-rides-requires : tie.Need-show-rides-requires
+show-rides-requires c κs =
+    let start = c .before .before .before .before .before .before in
+    let read = sym (start .before .before .read-tariff .ensures) ∙ start .counts .given .1 in
     let decision = sym (c .before .before .before .decide .ensures) ∙ c .before .fields .given .1 in
-    let (none, (trip-is, window-is)) = clear-found _ _ _ _ _ decision in
-    (sym (read .before .before .read-tariff .ensures) ∙ read .counts .given .1, (no-row _ _ _ _ _ none .good, trip-is))
+    let (none, (trip-is, (window-is, breaking-is))) = clear-found _ _ _ _ _ decision in
+    let good = no-row _ _ _ _ _ none .good in
+    (rw trip-is (riding read good), (rw trip-is (in-order good), rw trip-is breaking-is))
 
 enum-known-why : tie.Need-enum-known-why
 enum-known-why c = search needs
@@ -81,7 +86,7 @@ show-price-spec =
     slice-aggregate-decide
     decide-requires
     enum-known-fields
-    show-ride-requires
+    show-rides-requires
     enum-known-why
     slice-aggregate-say-number
     number-requires

@@ -1,25 +1,20 @@
--- `vectors::show_ride` is safe and ends: a good trip under a faultless tariff can be priced.
+-- `vectors::show_ride` is safe and ends: a ride under a faultless tariff can be priced.
 -- Assumes nothing.
 use borrow.Author.Needs.{needs}
-use Rattle.fare.proofs.GoodTrips.{riding, in-order}
 use Rattle.vectors.proofs.Priced.{priceable}
 use Rattle.vectors.proofs.show_ride.Statement.{statement}
 use Rattle.vectors.proofs.show_ride.Tie as tie
-
-ride-of-requires : tie.Need-ride-of-requires
-ride-of-requires c κs =
-    let (read, (good, is)) = c .before .before .pre in (rw is (riding read good), rw is (in-order good))
 
 area-requires : tie.Need-area-requires
 area-requires c κs = search needs
 
 price-requires : tie.Need-price-requires
 price-requires c κs =
-    priceable _ _ _ _ _ _ (c .before .before .before .before .before .before .pre .0) (c .before .before .before .ride-of .ensures) (c .area .ensures)
+    let (read, is) = c .before .before .before .before .pre in priceable _ _ _ _ read is (c .area .ensures)
 
 price-requires-2 : tie.Need-price-requires-2
 price-requires-2 c κs =
-    priceable _ _ _ _ _ _ (c .before .before .before .before .before .before .before .pre .0) (c .before .before .before .before .ride-of .ensures) (c .before .area .ensures)
+    let (read, is) = c .before .before .before .before .before .pre in priceable _ _ _ _ read is (c .before .area .ensures)
 
 cast-say-ride : tie.Need-cast-say-ride
 cast-say-ride c = search needs
@@ -43,7 +38,6 @@ pub show-ride-spec : {M : Type 1} → statement M
 show-ride-spec =
     tie.close
     (tie.spec
-    ride-of-requires
     area-requires
     price-requires
     price-requires-2

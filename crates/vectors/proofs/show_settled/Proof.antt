@@ -1,7 +1,7 @@
--- `vectors::show_settled` is safe and ends: where a size is told, a record stands at the start of the statement.
+-- `vectors::show_settled` is safe and ends: where a size is told, the statement's records can be read.
 -- Assumes nothing.
 use borrow.Author.Needs.{needs}
-use Rattle.settle.proofs.Parts.{settled-readable}
+use Rattle.roll.proofs.Outcomes.{settled-readable}
 use Rattle.vectors.proofs.show_settled.Statement.{statement}
 use Rattle.vectors.proofs.show_settled.Tie as tie
 
@@ -11,16 +11,16 @@ slice-aggregate-settle c = search needs
 settle-requires : tie.Need-settle-requires
 settle-requires c κs = search needs
 
-enum-told : tie.Need-enum-told
-enum-told c = search needs
+enum-known-size : tie.Need-enum-known-size
+enum-known-size c = search needs
 
-slice-aggregate-show-record : tie.Need-slice-aggregate-show-record
-slice-aggregate-show-record c = search needs
+slice-aggregate-show-records : tie.Need-slice-aggregate-show-records
+slice-aggregate-show-records c = search needs
 
-show-record-requires : tie.Need-show-record-requires
-show-record-requires c κs =
-    let entered = c .before .before .before .before .before .before .before .before .before .before .before .before .args in
-    settled-readable (entered .tariff .now) (entered .book .now) (entered .trip .now) _ (c .before .before .before .before .before .before .settle .ensures) (c .before .enum-told .given .1)
+show-records-requires : tie.Need-show-records-requires
+show-records-requires c κs =
+    let entered = c .before .before .before .before .before .before .before .before .before .before .before .before .before .args in
+    settled-readable (entered .tariff .now) (entered .book .now) (entered .trip .now) _ (c .before .before .before .before .before .before .before .settle .ensures) (c .before .before .size .given .1)
 
 enum-known-number : tie.Need-enum-known-number
 enum-known-number c = search needs
@@ -64,9 +64,9 @@ show-settled-spec =
     (tie.spec
     slice-aggregate-settle
     settle-requires
-    enum-told
-    slice-aggregate-show-record
-    show-record-requires
+    enum-known-size
+    slice-aggregate-show-records
+    show-records-requires
     enum-known-number
     slice-aggregate-say-number
     cast-say-number

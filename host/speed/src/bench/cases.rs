@@ -5,6 +5,7 @@ use milecopper_host::differential::books::{fresh, set_word, BICYCLES, TRIPS};
 use milecopper_host::differential::random::Random;
 use milecopper_host::differential::trips::Plan;
 use milecopper_host::model;
+use milecopper_host::model::roll::LARGEST_STATEMENT;
 
 /// In which table a case stands.
 #[derive(Clone, Copy, Debug, PartialEq, Eq)]
@@ -37,8 +38,8 @@ pub struct Case {
     pub refusal: u64,
 }
 
-/// The largest charge record.
-pub const LARGEST_RECORD: usize = 137;
+/// The charge record of a party of 31.
+const LARGEST_RECORD: usize = 137;
 
 /// The opening of the used books' window: 2026-05-04 07:00.
 const OPENING: u64 = 13_853_220;
@@ -62,10 +63,13 @@ pub fn all() -> Vec<Case> {
     cases
 }
 
-/// A trip of 25 minutes.
+/// A trip of 25 minutes from one stop to another.
 fn plan(network: &Network, reach: Reach, check_in: u64, party: [u64; 3]) -> Plan {
-    let stops = (network.stops)(&mut Random::of(SEED, 3_000), reach, 2);
-    Plan { check_in, check_out: check_in + 25, class: 2, level: 3, party, stops }
+    Plan { check_in, check_out: check_in + 25, class: 2, level: 3, party, stops: stops(network, reach, 2) }
+}
+
+fn stops(network: &Network, reach: Reach, many: usize) -> Vec<usize> {
+    (network.stops)(&mut Random::of(SEED, 3_000), reach, many)
 }
 
 /// A book after four trips of a party of 31 in the open window.
@@ -73,7 +77,7 @@ fn used(network: &Network) -> Vec<u8> {
     let mut book = fresh();
     for (number, reach) in (0..).zip([Reach::City, Reach::Region, Reach::State, Reach::City]) {
         let trip = Plan { class: 1 + number % 2, ..plan(network, reach, OPENING + 60 * number, FULL) };
-        let answer = model::settle(&network.tariff, &mut book, &trip.bytes(), &mut [0; LARGEST_RECORD]);
+        let answer = model::settle(&network.tariff, &mut book, &trip.bytes(), &mut [0; LARGEST_STATEMENT]);
         answer.expect("an earlier trip is accepted");
     }
     book
@@ -81,22 +85,24 @@ fn used(network: &Network) -> Vec<u8> {
 
 fn case(group: Group, name: String, network: &Network, book: &[u8], plan: &Plan) -> Case {
     let (tariff, book, trip) = (network.tariff.clone(), book.to_vec(), plan.bytes());
-    Case { group, name, size: 0, tariff, book, trip, room: LARGEST_RECORD, refusal: 0 }
+    Case { group, name, size: 0, tariff, book, trip, room: LARGEST_STATEMENT, refusal: 0 }
 }
 
 fn settled(network: &Network) -> Vec<Case> {
     let ways = [
-        ("fresh book", "in a city", fresh(), LATER, Reach::City),
-        ("used book", "in a city", used(network), LATER, Reach::City),
-        ("used book", "across regions", used(network), LATER, Reach::State),
-        ("next window", "in a city", used(network), NEXT_WINDOW, Reach::City),
+        ("fresh book", "in a city", fresh(), LATER, Reach::City, 2),
+        ("used book", "in a city", used(network), LATER, Reach::City, 2),
+        ("used book", "across regions", used(network), LATER, Reach::State, 2),
+        ("used book", "across regions and back", used(network), LATER, Reach::State, 3),
+        ("next window", "in a city", used(network), NEXT_WINDOW, Reach::City, 2),
     ];
     let mut cases = Vec::new();
-    for (state, where_to, book, check_in, reach) in ways {
+    for (state, where_to, book, check_in, reach, many) in ways {
         for party in [ALONE, FULL] {
             let riders = 1 + party.iter().sum::<u64>();
             let name = format!("{}, {state}, {where_to}, party of {riders}", network.name);
-            cases.push(case(Group::Settled, name, network, &book, &plan(network, reach, check_in, party)));
+            let plan = Plan { stops: stops(network, reach, many), ..plan(network, reach, check_in, party) };
+            cases.push(case(Group::Settled, name, network, &book, &plan));
         }
     }
     cases
@@ -155,6 +161,7 @@ fn trip_too_long(case: &mut Case) {
     case.trip.push(0);
 }
 
+/// For a trip of a party of 31 that is not broken.
 fn no_room(case: &mut Case) {
     case.room = LARGEST_RECORD - 1;
 }
@@ -186,9 +193,10 @@ mod tests {
             let mut statement = vec![0; room];
             match model::settle(&tariff, &mut book, &trip, &mut statement) {
                 Ok(written) => {
-                    let record = ChargeRecord::read(&statement[..written]).expect("a charge record");
+                    let records = ChargeRecord::read_all(&statement[..written]).expect("charge records");
                     assert_eq!(refusal, 0, "{name}");
-                    assert!(record.km > 0, "{group:?} {name} {size} goes nowhere");
+                    assert_eq!(records.len(), if name.contains("and back") { 2 } else { 1 }, "{name}");
+                    assert!(records.iter().all(|record| record.km > 0), "{group:?} {name} {size} goes nowhere");
                 }
                 Err(found) => assert_eq!(u64::from(found.number), refusal, "{name}"),
             }

@@ -14,7 +14,8 @@ pub enum Reach {
     State,
 }
 
-/// A tariff, and how to choose so many stops, two or more, for a trip that goes so far.
+/// A tariff, and how to choose so many stops, two or more, for a trip that goes so far. It goes to and fro between two
+/// stops: with an odd number of them it ends where it started and is broken, with an even one it is not.
 pub struct Network {
     pub name: &'static str,
     pub tariff: Vec<u8>,
@@ -34,17 +35,13 @@ pub fn sample() -> Network {
 /// State, region and city, and what a trip needs to go as far as any on the largest tariff.
 pub fn three_areas() -> Network {
     let stops = "stop 2 300000 200000\nstop 2 308000 206000\nstop 1 350000 240000\nstop 0 600000 500000\n";
-    let tariff = area_line(0) + &area_line(1) + &city_line(2, 1) + stops;
+    let tariff = area_line(0) + &area_line(1) + &city_line(2, 1) + &factors(2) + stops;
     Network { name: "three areas", tariff: made(&tariff), stops: three_areas_stops }
 }
 
 /// The state alone, with one stop.
 pub fn smallest() -> Network {
-    Network {
-        name: "smallest",
-        tariff: made(&(areas(1) + "stop 0 500000 500000\n")),
-        stops: |_, _, many| vec![0; many],
-    }
+    Network { name: "smallest", tariff: made(&(areas(1) + "stop 0 500000 500000\n")), stops: smallest_stops }
 }
 
 /// A tariff of so many areas and stops whose first two stops are always the same: 5 km apart, in the state.
@@ -62,8 +59,14 @@ fn made(text: &str) -> Vec<u8> {
     bytes_of(text).unwrap_or_else(|fault| panic!("{fault} in\n{text}"))
 }
 
+/// So many areas, and the factor records of the state and the regions among them.
 fn areas(many: usize) -> String {
-    (0..many).map(area_line).collect()
+    (0..many).map(area_line).collect::<String>() + &factors(many.min(1 + REGIONS))
+}
+
+/// No mark keeps a trip inside a city whole, so that as many are broken under each tariff.
+fn factors(many: usize) -> String {
+    "factor 3 mark 0\n".repeat(many)
 }
 
 /// The region of a city of the largest tariff.
@@ -153,7 +156,8 @@ fn largest_stops(random: &mut Random, reach: Reach, many: usize) -> Vec<usize> {
         Reach::Region => region,
         Reach::State => other,
     };
-    (0..many).map(|place| stop_in(random, if place % 2 == 0 { city } else { second })).collect()
+    let ends = [city, second].map(|area| stop_in(random, area));
+    to_and_fro(ends, many)
 }
 
 fn sample_stops(random: &mut Random, reach: Reach, many: usize) -> Vec<usize> {
@@ -163,7 +167,7 @@ fn sample_stops(random: &mut Random, reach: Reach, many: usize) -> Vec<usize> {
         Reach::Region => 7 + random.index(7),
         Reach::State => 14 + random.index(13),
     };
-    (0..many).map(|place| if place % 2 == 0 { first } else { second }).collect()
+    to_and_fro([first, second], many)
 }
 
 fn three_areas_stops(random: &mut Random, reach: Reach, many: usize) -> Vec<usize> {
@@ -173,7 +177,16 @@ fn three_areas_stops(random: &mut Random, reach: Reach, many: usize) -> Vec<usiz
         Reach::Region => 2,
         Reach::State => 3,
     };
-    (0..many).map(|place| if place % 2 == 0 { first } else { second }).collect()
+    to_and_fro([first, second], many)
+}
+
+/// Where all stops are one, every change breaks a trip: one that is not to be broken has none.
+fn smallest_stops(_: &mut Random, _: Reach, many: usize) -> Vec<usize> {
+    vec![0; if many % 2 == 0 { 2 } else { many }]
+}
+
+fn to_and_fro(ends: [usize; 2], many: usize) -> Vec<usize> {
+    (0..many).map(|place| ends[place % 2]).collect()
 }
 
 #[cfg(test)]

@@ -11,7 +11,7 @@ pub const RECORDS: usize = 65_535;
 const START: u64 = 13_853_220;
 
 /// A roll of so many records; a shorter one is the start of a longer one. Nearly all are accepted, some eight in each
-/// window.
+/// window. One in ten is broken.
 pub fn roll(network: &Network, records: usize) -> Vec<u8> {
     // Two sources, so that what a trip's stops need does not change the trips.
     let trips = &mut Random::of(SEED, 4_000);
@@ -42,7 +42,7 @@ fn next(trips: &mut Random, stops: &mut Random, network: &Network, now: u64) -> 
         12..17 => Reach::Region,
         _ => Reach::State,
     };
-    let many = trips.pick(&[2, 2, 2, 2, 2, 2, 3, 3, 4, 6]);
+    let many = trips.pick(&[2, 2, 2, 2, 2, 2, 3, 4, 4, 6]);
     Plan { check_in, check_out, class, level, party, stops: (network.stops)(stops, reach, many) }
 }
 
@@ -69,12 +69,13 @@ mod tests {
     use milecopper_host::model::settle_roll;
 
     #[test]
-    fn nearly_all_are_accepted_several_in_a_window() {
+    fn nearly_all_are_accepted_several_in_a_window_as_many_broken_under_each_tariff() {
         for network in [largest(), three_areas(), smallest()] {
             let text = settle_roll(&network.tariff, &roll(&network, 1_000));
             let refused = text.lines().filter(|line| line.contains(" refused ")).count() - 1;
-            assert_eq!(text.lines().count(), 1_002);
+            let broken = text.lines().count() - 1_002;
             assert!((1..30).contains(&refused), "{refused} refused under the {} tariff", network.name);
+            assert!((80..120).contains(&broken), "{broken} broken under the {} tariff", network.name);
             let mut openings: Vec<&str> = text.lines().filter_map(|line| line.split(' ').nth(4)).collect();
             openings.dedup();
             assert!((100..200).contains(&openings.len()), "{} windows", openings.len());

@@ -30,7 +30,7 @@ pub struct Book<'a>(&'a mut [u8; BOOK]);
 /// The window that a trip belongs to.
 pub struct Window {
     pub opening: Minutes,
-    /// With this one.
+    /// With this one's parts.
     trips: u32,
     /// Whether sums and bicycles go back to none.
     clears: bool,
@@ -61,24 +61,25 @@ impl<'a> Book<'a> {
         self.0[WINDOW + RIDERS..].as_chunks_mut().0
     }
 
-    /// The window that the trip belongs to: the open one, or the next.
+    /// The window that the trip of so many parts belongs to: the open one, or the next.
     #[inline(always)]
-    pub fn window_for(&self, trip: &Trip) -> Result<Window, Refusal> {
+    pub fn window_for(&self, trip: &Trip, parts: usize) -> Result<Window, Refusal> {
+        let parts = parts as u32;
         let (trips, opening, last) = (four(self.0, 0), four(self.0, 4), four(self.0, 8));
         // A book without trips has 0 for its last check-out.
         if trip.check_in < last {
             return Err(Refusal::new(10));
         }
         if trips == 0 || trip.check_out > opening + MINUTES_IN_A_DAY {
-            return Ok(Window { opening: trip.check_in, trips: 1, clears: trips != 0 });
+            return Ok(Window { opening: trip.check_in, trips: parts, clears: trips != 0 });
         }
-        if trips == TRIPS_IN_A_WINDOW {
+        if trips + parts > TRIPS_IN_A_WINDOW {
             return Err(Refusal::new(11));
         }
-        Ok(Window { opening, trips: trips + 1, clears: false })
+        Ok(Window { opening, trips: trips + parts, clears: false })
     }
 
-    /// Opens the window if it is new, and counts the trip.
+    /// Opens the window if it is new, and counts the trip's parts.
     #[inline(always)]
     pub fn enter(&mut self, window: &Window, check_out: Minutes) {
         if window.clears {

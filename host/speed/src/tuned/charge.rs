@@ -10,7 +10,7 @@ use super::Cents;
 /// A charge as the record has it.
 pub type Slot = [u8; 4];
 
-/// Charges everyone and everything on the trip and posts the charges. The slots take them in the record's order:
+/// Charges everyone and everything on the trip for a part of it, and posts the charges. The slots take them in the record's order:
 /// account holder, adults, children, bicycles. The answer is their total.
 #[inline(always)]
 pub fn charge_party(tariff: &Tariff, trip: &Trip, ride: &Ride, book: &mut Book, slots: &mut [Slot]) -> Cents {

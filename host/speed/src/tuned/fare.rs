@@ -1,11 +1,12 @@
 //! Kilometres, and the price in its steps.
 
-use super::numbers::{four, two};
-use super::tariff::{Area, Stop, Tariff};
+use super::numbers::two;
+use super::parts::Part;
+use super::tariff::{Area, Tariff};
 use super::trip::Trip;
 use super::{Cents, Km, Minutes};
 
-/// What is charged for and written down of a trip.
+/// What is charged for and written down of a part.
 pub struct Ride<'a> {
     pub area: usize,
     /// The area's.
@@ -18,21 +19,12 @@ pub struct Ride<'a> {
 
 impl<'a> Ride<'a> {
     #[inline(always)]
-    pub fn of(tariff: &Tariff<'a>, trip: &Trip) -> Ride<'a> {
-        let area = tariff.smallest_containing(trip.areas);
+    pub fn of(tariff: &Tariff<'a>, trip: &Trip, &Part { area, square, minutes }: &Part) -> Ride<'a> {
         let record = &tariff.areas[area];
-        let km = kilometres(trip.first, trip.last);
-        let minutes = trip.check_out - trip.check_in;
+        let km = started_kilometres(square);
         let price = price(record, trip, km, minutes);
         Ride { area, record, km, minutes, price }
     }
-}
-
-#[inline(always)]
-fn kilometres(first: &Stop, last: &Stop) -> Km {
-    let dx = i64::from(four(first, 5)) - i64::from(four(last, 5));
-    let dy = i64::from(four(first, 9)) - i64::from(four(last, 9));
-    started_kilometres(dx * dx + dy * dy)
 }
 
 /// The least k whose 1,000 k metres, squared, are not below this. The root's error is far below a metre, so that the

@@ -6,7 +6,8 @@ use std::io::{self, Write};
 
 const BUFFER: usize = 8_192;
 
-/// The lines that are not written yet, and what the next one has in common with the last.
+/// The lines that are not written yet, and what the next one has in common with the last: the number of its record, which
+/// goes up where that is said, and the opening minute.
 pub struct Lines<W> {
     out: W,
     buffer: [u8; BUFFER],
@@ -15,7 +16,7 @@ pub struct Lines<W> {
     opening: Opening,
 }
 
-/// What a line says of a trip that is accepted.
+/// What a line says of a part of a trip that is accepted.
 pub struct Charged {
     pub area: usize,
     pub km: Km,
@@ -48,9 +49,15 @@ impl<W: Write> Lines<W> {
         Ok(())
     }
 
+    /// The lines that come next are those of the next record.
+    #[inline(always)]
+    pub fn next_record(&mut self) {
+        self.number.count();
+    }
+
     #[inline(always)]
     pub fn put_charged(&mut self, charged: &Charged) -> io::Result<()> {
-        let (number, length) = self.number.next();
+        let (number, length) = self.number.text();
         let (opening, opening_length) = self.opening.at(charged.opening);
         let line = self.start()?.text(number, length).short_number(charged.area as u64);
         let line = line.number(charged.km.into()).number(charged.minutes.into());
@@ -59,7 +66,7 @@ impl<W: Write> Lines<W> {
     }
 
     pub fn put_refused(&mut self, refusal: u32) -> io::Result<()> {
-        let (number, length) = self.number.next();
+        let (number, length) = self.number.text();
         self.end += self.start()?.text(number, length).word(b"refused ").short_number(refusal.into()).end();
         Ok(())
     }
@@ -88,7 +95,7 @@ impl<W: Write> Lines<W> {
     }
 }
 
-/// The number of the last line in digits, and a blank; counted up digit by digit.
+/// The number of a record in digits, and a blank; counted up digit by digit.
 struct Counter {
     /// The first digit is the lowest byte.
     text: u64,
@@ -99,14 +106,18 @@ struct Counter {
 impl Counter {
     const NONE: Counter = Counter { text: u64::from_le_bytes(*b"0 \0\0\0\0\0\0"), last: 0 };
 
-    /// The next number's text and length.
+    /// The number's text and length.
     #[inline(always)]
-    fn next(&mut self) -> ([u8; 8], u8) {
+    fn text(&self) -> ([u8; 8], u8) {
+        (self.text.to_le_bytes(), (self.last / 8 + 2) as u8)
+    }
+
+    #[inline(always)]
+    fn count(&mut self) {
         self.text += 1 << self.last;
         if (self.text >> self.last) as u8 > b'9' {
             self.carry();
         }
-        (self.text.to_le_bytes(), (self.last / 8 + 2) as u8)
     }
 
     /// A digit that has come to ten goes back to 0, and the one before it goes up.

@@ -1,4 +1,4 @@
-//! The charge record. Refusal 12 is given where it has no room.
+//! The charge record. Refusal 12 is given where those of a trip have no room.
 
 use super::fare::Ride;
 use super::trip::Trip;
@@ -8,7 +8,7 @@ use super::Minutes;
 pub const HEAD_BYTES: usize = 13;
 const KIND: u64 = 4;
 
-/// The bytes that the record of this trip takes.
+/// The bytes that the record of each part of this trip takes.
 pub fn record_bytes(trip: &Trip) -> usize {
     HEAD_BYTES + 4 * trip.party()
 }

@@ -1,13 +1,15 @@
-//! The program: it settles a roll of trips one after another on one book, and prints a line for each.
+//! The program: it settles a roll of trips one after another on one book, and prints a line for each, two where a trip is
+//! broken.
 
 use super::book::{Book, BOOK};
 use super::charge::{charge_party, Slot};
 use super::fare::Ride;
 use super::lines::{Charged, Lines, Tally};
 use super::numbers::two;
+use super::parts::{Part, Parts};
 use super::tariff::Tariff;
 use super::trip::Trip;
-use super::Refusal;
+use super::{Minutes, Refusal};
 use std::io::{self, ErrorKind, Read, Write};
 
 const MOST_RECORDS: u32 = 65_535;
@@ -68,6 +70,13 @@ struct Run<'a> {
     tally: Tally,
 }
 
+/// A trip that is accepted, and stands in the book but for its charges.
+struct Entered {
+    trip: Trip,
+    parts: Parts,
+    opening: Minutes,
+}
+
 impl Run<'_> {
     /// Settles all records that are whole. The answer is the bytes behind them, or nothing where the run is over.
     fn settle_whole<'b>(&mut self, bytes: &'b [u8], lines: &mut Lines<impl Write>) -> io::Result<Option<&'b [u8]>> {
@@ -81,8 +90,8 @@ impl Run<'_> {
             let Some((record, further)) = rest.split_at_checked(2 + length) else {
                 break;
             };
-            match self.settle(record) {
-                Ok(charged) => self.accept(&charged, lines)?,
+            match self.enter(record) {
+                Ok(entered) => self.accept(&entered, lines)?,
                 Err(refusal) => self.refuse(refusal.number(), lines)?,
             }
             if self.tally.accepted + self.tally.refused == MOST_RECORDS {
@@ -102,27 +111,51 @@ impl Run<'_> {
         }
     }
 
-    /// Settles as `settle` does, but writes no record.
+    /// Finds the refusals as `settle` does, but for that of the room: no record is written.
     #[inline(always)]
-    fn settle(&mut self, trip: &[u8]) -> Result<Charged, Refusal> {
-        let Run { tariff, book, slots, .. } = self;
-        let trip = Trip::read(trip, tariff)?;
-        let window = book.window_for(&trip)?;
-        let ride = Ride::of(tariff, &trip);
-        book.enter(&window, trip.check_out);
-        let cents = charge_party(tariff, &trip, &ride, book, slots);
-        Ok(Charged { area: ride.area, km: ride.km, minutes: ride.minutes, opening: window.opening, cents })
+    fn enter(&mut self, trip: &[u8]) -> Result<Entered, Refusal> {
+        let (trip, parts) = Trip::read(trip, self.tariff)?;
+        let window = self.book.window_for(&trip, parts.many())?;
+        self.book.enter(&window, trip.check_out);
+        Ok(Entered { trip, parts, opening: window.opening })
     }
 
     #[inline(always)]
-    fn accept(&mut self, charged: &Charged, lines: &mut Lines<impl Write>) -> io::Result<()> {
+    fn accept(&mut self, Entered { trip, parts, opening }: &Entered, lines: &mut Lines<impl Write>) -> io::Result<()> {
         self.tally.accepted += 1;
-        self.tally.cents += u64::from(charged.cents);
-        lines.put_charged(charged)
+        lines.next_record();
+        self.charge(trip, &parts.first, *opening, lines)?;
+        match parts.second {
+            None => Ok(()),
+            Some(part) => self.charge_second(trip, part, *opening, lines),
+        }
+    }
+
+    /// Charges a part as `settle` does, and puts its line.
+    #[inline(always)]
+    fn charge(&mut self, trip: &Trip, part: &Part, opening: Minutes, lines: &mut Lines<impl Write>) -> io::Result<()> {
+        let Run { tariff, book, slots, tally } = self;
+        let ride = Ride::of(tariff, trip, part);
+        let cents = charge_party(tariff, trip, &ride, book, slots);
+        tally.cents += u64::from(cents);
+        lines.put_charged(&Charged { area: ride.area, km: ride.km, minutes: ride.minutes, opening, cents })
+    }
+
+    /// Few trips have a second part: it stands out of the way.
+    #[inline(never)]
+    fn charge_second(
+        &mut self,
+        trip: &Trip,
+        part: Part,
+        opening: Minutes,
+        lines: &mut Lines<impl Write>,
+    ) -> io::Result<()> {
+        self.charge(trip, &part, opening, lines)
     }
 
     fn refuse(&mut self, refusal: u32, lines: &mut Lines<impl Write>) -> io::Result<()> {
         self.tally.refused += 1;
+        lines.next_record();
         lines.put_refused(refusal)
     }
 }

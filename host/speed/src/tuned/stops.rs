@@ -1,6 +1,6 @@
 //! Many stops at once.
 
-use super::tariff::{AREA, MOST_STOPS, STOP};
+use super::tariff::{MOST_STOPS, STOP};
 
 /// A stop is looked at together with the three bytes before it, which every stop has: as two numbers of eight bytes,
 /// the first with the head and the area above it, the second with x and y above it.
@@ -51,9 +51,10 @@ impl Shift {
     }
 }
 
-/// The number of stops behind so many areas, up to the first record that is not a stop without fault.
-pub fn faultless_stops(bytes: &[u8], areas: usize) -> usize {
-    let Some(start) = (AREA * areas).checked_sub(BEFORE) else {
+/// The number of stops from `start` on, up to the first record that is not a stop without fault under so many areas.
+/// There is none where there is no area.
+pub fn faultless_stops(bytes: &[u8], start: usize, areas: usize) -> usize {
+    let Some(start) = start.checked_sub(BEFORE) else {
         return 0;
     };
     let bytes = &bytes[start..];

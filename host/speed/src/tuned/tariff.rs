@@ -1,28 +1,37 @@
-//! The tariff as it lies in its bytes: 1 to 32 areas, then 0 to 1,000 stops. Refusals 1 to 3.
+//! The tariff as it lies in its bytes: 1 to 32 areas, then the factor records, then 0 to 1,000 stops. Refusals 1 to 3.
 
+use super::factors::faultless_factors;
 use super::numbers::{eight, four, two, Ranges};
 use super::stops::faultless_stops;
 use super::{Cents, Refusal};
 
 pub const MOST_AREAS: usize = 32;
 pub const MOST_STOPS: usize = 1_000;
-/// The bytes of an area's record, of a stop's.
+/// The bytes of an area's record, of a factor record, of a stop's.
 pub const AREA: usize = 29;
+pub const FACTOR: usize = 6;
 pub const STOP: usize = 13;
 
-/// Length and kind of an area's record, of a stop's, as one number.
+/// Length and kind of an area's record, of a factor record, of a stop's, as one number.
 const AREA_HEAD: u32 = 1 << 16 | 27;
+const FACTOR_HEAD: u32 = 5 << 16 | 4;
 const STOP_HEAD: u32 = 2 << 16 | 11;
+
+/// The level of a city.
+pub const CITY: u8 = 2;
 
 /// The day cap that means none.
 pub const NO_DAY_CAP: Cents = 65_535;
 
 pub type Area = [u8; AREA];
+pub type Factor = [u8; FACTOR];
 pub type Stop = [u8; STOP];
 
 /// A tariff without fault.
 pub struct Tariff<'a> {
     pub areas: &'a [Area],
+    /// Of the state, then of the regions.
+    factors: &'a [Factor],
     pub stops: &'a [Stop],
 }
 
@@ -30,21 +39,31 @@ impl<'a> Tariff<'a> {
     /// The tariff, or the fault of its first faulty record and that record's place.
     #[inline(never)]
     pub fn read(bytes: &'a [u8]) -> Result<Tariff<'a>, Refusal> {
-        let areas = faultless_areas(bytes.as_chunks().0);
-        let (_, further) = bytes.split_at(AREA * areas.len());
-        let stops = faultless_stops(bytes, areas.len());
-        let end = AREA * areas.len() + STOP * stops;
-        if areas.is_empty() || end != bytes.len() {
-            return Err(fault_at(bytes, end, areas.len(), stops));
+        let (areas, cities) = faultless_areas(bytes.as_chunks().0);
+        let due = areas.len() - cities;
+        let factors = faultless_factors(bytes, areas.len(), due);
+        let start = AREA * areas.len() + FACTOR * factors;
+        let stops = if factors == due { faultless_stops(bytes, start, areas.len()) } else { 0 };
+        if areas.is_empty() || factors != due || start + STOP * stops != bytes.len() {
+            return Err(fault_after(&Good { areas: areas.len(), due, factors, stops }, bytes));
         }
-        Ok(Tariff { areas, stops: further.as_chunks().0 })
+        let (before, stops) = bytes.split_at(start);
+        Ok(Tariff { areas, factors: before[AREA * areas.len()..].as_chunks().0, stops: stops.as_chunks().0 })
+    }
+
+    /// The factor that a trip of this area goes by, and whether it has the mark.
+    #[inline(always)]
+    pub fn factor_for(&self, area: usize) -> (i64, bool) {
+        let earlier = self.areas[..self.region_of(area)].iter().filter(|area| area[4] != CITY).count();
+        let record = &self.factors[earlier];
+        (record[4].into(), record[5] != 0)
     }
 
     /// The region that the area is or lies in; of the state the state.
     #[inline(always)]
     fn region_of(&self, area: usize) -> usize {
         let record = &self.areas[area];
-        if record[4] == 2 {
+        if record[4] == CITY {
             usize::from(record[5])
         } else {
             area
@@ -80,11 +99,16 @@ pub fn bicycle_flat(area: &Area) -> Cents {
 const PRICES: Ranges = Ranges::of(&[(16, 0, 10_000), (16, 0, 1_000), (16, 30, 1_440), (8, 0, 100), (8, 0, 100)]);
 const MOST_MONEY: u32 = 60_000;
 
-/// The areas before the first record that is not an area without fault.
-fn faultless_areas(records: &[Area]) -> &[Area] {
+/// The areas before the first record that is not an area without fault, and how many of them are cities.
+fn faultless_areas(records: &[Area]) -> (&[Area], usize) {
     let records = &records[..records.len().min(MOST_AREAS)];
-    let areas = (0..records.len()).find(|&area| !is_faultless(&records[area], &records[..area]));
-    &records[..areas.unwrap_or(records.len())]
+    let (mut areas, mut cities) = (0, 0);
+    while areas < records.len() && is_faultless(&records[areas], &records[..areas]) {
+        // Levels are 0 to 2.
+        cities += usize::from(records[areas][4] / CITY);
+        areas += 1;
+    }
+    (&records[..areas], cities)
 }
 
 /// Whether this can be the area after the earlier ones.
@@ -113,20 +137,30 @@ fn trip_cap_is_in_range(area: &Area) -> bool {
 #[inline(always)]
 fn lies_in_its_parent(area: &Area, earlier: &[Area]) -> bool {
     match earlier.get(usize::from(area[5])) {
-        Some(parent) => parent[4] < 2 && area[4] == parent[4] + 1 && bicycle_flat(area) <= bicycle_flat(parent),
+        Some(parent) => parent[4] < CITY && area[4] == parent[4] + 1 && bicycle_flat(area) <= bicycle_flat(parent),
         None => earlier.is_empty() && two(area, 4) == 0 && bicycle_flat(area) <= MOST_MONEY,
     }
 }
 
-/// The fault of the record at `place`, which is faulty and comes after so many areas and stops: 1 where its frame is
-/// broken, 3 where a record of its length and kind is due, else 2.
+/// How many records are good, up to the first that is not. So many factor records are due for the areas.
+struct Good {
+    areas: usize,
+    due: usize,
+    factors: usize,
+    stops: usize,
+}
+
+/// The fault of the record behind the good ones: 1 where its frame is broken, 3 where a record of its length and kind
+/// may stand there, else 2.
 #[cold]
-fn fault_at(bytes: &[u8], place: usize, areas: usize, stops: usize) -> Refusal {
+fn fault_after(&Good { areas, due, factors, stops }: &Good, bytes: &[u8]) -> Refusal {
+    let place = AREA * areas + FACTOR * factors + STOP * stops;
     let rest = &bytes[place..];
     let number = match rest.first_chunk() {
         Some(head) if has_whole_frame(head, rest.len()) => match four(head, 0) {
-            AREA_HEAD if stops == 0 && areas < MOST_AREAS => 3,
-            STOP_HEAD if areas > 0 && stops < MOST_STOPS => 3,
+            AREA_HEAD if factors == 0 && areas < MOST_AREAS => 3,
+            FACTOR_HEAD if factors < due => 3,
+            STOP_HEAD if areas > 0 && factors == due && stops < MOST_STOPS => 3,
             _ => 2,
         },
         None if rest.is_empty() => 2,

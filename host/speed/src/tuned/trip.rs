@@ -1,8 +1,9 @@
 //! The trip record. Refusals 5 to 9.
 
 use super::calendar::{minutes_of, MINUTES_IN_A_DAY};
-use super::numbers::{eight, four, two, Ranges, ANY_TWO_BYTES};
-use super::tariff::{Stop, Tariff};
+use super::numbers::{eight, four, Ranges, ANY_TWO_BYTES};
+use super::parts::{Parts, Way};
+use super::tariff::Tariff;
 use super::{Minutes, Refusal};
 
 /// The bytes before the stops.
@@ -13,7 +14,7 @@ const KIND: u32 = 3;
 const COUNTS: Ranges =
     Ranges::of(&[ANY_TWO_BYTES, (8, 1, 2), (8, 0, 5), (8, 0, 10), (8, 0, 10), (8, 0, 10), (8, 2, 32)]);
 
-pub struct Trip<'a> {
+pub struct Trip {
     pub check_in: Minutes,
     pub check_out: Minutes,
     /// 1 or 2.
@@ -23,16 +24,12 @@ pub struct Trip<'a> {
     pub adults: usize,
     pub children: usize,
     pub bicycles: usize,
-    pub first: &'a Stop,
-    pub last: &'a Stop,
-    /// A bit for each area that a stop of the trip is in.
-    pub areas: u32,
 }
 
-impl<'a> Trip<'a> {
-    /// The trip, or the first of the refusals 5 to 9.
+impl Trip {
+    /// The trip and its parts, or the first of the refusals 5 to 9.
     #[inline(always)]
-    pub fn read(bytes: &[u8], tariff: &Tariff<'a>) -> Result<Trip<'a>, Refusal> {
+    pub fn read(bytes: &[u8], tariff: &Tariff) -> Result<(Trip, Parts), Refusal> {
         let Some((head, stops)) = bytes.split_first_chunk::<HEAD>() else {
             return Err(Refusal::new(5));
         };
@@ -43,7 +40,7 @@ impl<'a> Trip<'a> {
         if COUNTS.above_least(eight(head, 14)).is_none() {
             return Err(Refusal::new(6));
         }
-        let Some((first, last, areas)) = ends_and_areas(stops.as_chunks().0, tariff.stops) else {
+        let Some(way) = Way::through(stops.as_chunks().0, tariff.stops) else {
             return Err(Refusal::new(7));
         };
         let Some((check_in, check_out)) = minutes_of(eight(head, 4), eight(head, 10)) else {
@@ -52,7 +49,7 @@ impl<'a> Trip<'a> {
         if check_out.wrapping_sub(check_in) > MINUTES_IN_A_DAY {
             return Err(Refusal::new(9));
         }
-        Ok(Trip {
+        let trip = Trip {
             check_in,
             check_out,
             class: head[16].into(),
@@ -60,32 +57,12 @@ impl<'a> Trip<'a> {
             adults: head[18].into(),
             children: head[19].into(),
             bicycles: head[20].into(),
-            first,
-            last,
-            areas,
-        })
+        };
+        Ok((trip, way.parts(tariff, check_out - check_in)))
     }
 
     /// The account holder and all that are carried.
     pub fn party(&self) -> usize {
         1 + self.adults + self.children + self.bicycles
     }
-}
-
-/// The first and the last of these stops and the areas of all, or nothing where the tariff lacks one.
-#[inline(always)]
-fn ends_and_areas<'a>(numbers: &[[u8; 2]], stops: &'a [Stop]) -> Option<(&'a Stop, &'a Stop, u32)> {
-    let (first, further) = numbers.split_first()?;
-    let first = stops.get(two(first, 0) as usize)?;
-    let mut last = first;
-    let mut areas = area_bit(first);
-    for number in further {
-        last = stops.get(two(number, 0) as usize)?;
-        areas |= area_bit(last);
-    }
-    Some((first, last, areas))
-}
-
-fn area_bit(stop: &Stop) -> u32 {
-    1 << (stop[4] % 32)
 }

@@ -2,7 +2,7 @@
 
 use super::some_record;
 use crate::differential::cases::Draft;
-use crate::differential::fields::{self, set, values, AREA, KINDS, LENGTHS, STOP};
+use crate::differential::fields::{self, set, values, AREA, FACTOR, KINDS, LENGTHS, STOP};
 use crate::differential::random::Random;
 
 /// Cut anywhere, one to three bytes too many, or a length that is no length.
@@ -23,9 +23,10 @@ pub fn frames(random: &mut Random, draft: &mut Draft) {
 
 /// Another kind, a body that is too short or too long, another order, too many, or none.
 pub fn shape(random: &mut Random, draft: &mut Draft) {
-    let (areas, stops) = (draft.areas, draft.stops);
+    let (areas, stops) = (draft.layout.areas, draft.layout.stops);
+    let stops_start = draft.layout.stop(0).min(draft.case.tariff.len());
+    let areas_end = draft.layout.factor(0).min(stops_start);
     let tariff = &mut draft.case.tariff;
-    let stops_start = (AREA * areas).min(tariff.len());
     match random.below(9) {
         0 => {
             let (record, ..) = some_record(random, draft);
@@ -35,9 +36,10 @@ pub fn shape(random: &mut Random, draft: &mut Draft) {
         1 | 2 => resized_record(random, draft),
         3 => tariff.clear(),
         4 => {
-            // A stop first, or the stops alone.
+            // A stop or a factor record first, or some areas less.
             let first = random.index(areas) * AREA;
-            tariff.drain(..(if random.chance(50) { stops_start } else { first }).min(stops_start));
+            let start = random.pick(&[stops_start, areas_end, first]);
+            tariff.drain(..start.min(stops_start));
         }
         5 => {
             // An area, or part of one, after the stops.
@@ -50,10 +52,44 @@ pub fn shape(random: &mut Random, draft: &mut Draft) {
             let place = (AREA * random.index(areas + 1)).min(tariff.len());
             tariff.splice(place..place, stop);
         }
-        7 => repeat(tariff, stops_start.saturating_sub(AREA), AREA, random.within(32, 34) as usize - areas.min(32)),
+        7 => repeat(tariff, areas_end.saturating_sub(AREA), AREA, random.within(32, 34) as usize - areas.min(32)),
         _ => {
             let last = tariff.len().saturating_sub(STOP).max(stops_start);
             repeat(tariff, last, STOP, random.within(1_000, 1_001) as usize - stops.min(1_000));
+        }
+    }
+}
+
+/// A factor record less or more, or at another place; or an area behind one.
+pub fn factors(random: &mut Random, draft: &mut Draft) {
+    let layout = draft.layout;
+    let tariff = &mut draft.case.tariff;
+    if tariff.len() < layout.stop(layout.stops) {
+        return;
+    }
+    let some = layout.factor(random.index(layout.factors));
+    let record = tariff[some..some + FACTOR].to_vec();
+    match random.below(7) {
+        0 => drop(tariff.drain(some..some + FACTOR)),
+        1 => drop(tariff.drain(layout.factor(0)..layout.stop(0))),
+        // The tariff ends where a factor record is due, or just behind the last one.
+        2 => tariff.truncate(layout.factor(random.index(layout.factors + 1))),
+        3 => drop(tariff.splice(some..some, record)),
+        4 => {
+            // Before the areas or among them.
+            let place = AREA * random.index(layout.areas);
+            tariff.splice(place..place, record);
+        }
+        5 => {
+            // Among the stops, behind the last one, or right before the first, where it is one too many.
+            let place = layout.stop(random.index(layout.stops + 1));
+            tariff.splice(place..place, record);
+        }
+        _ => {
+            // An area between the factor records, or behind them.
+            let area = tariff[AREA * (layout.areas - 1)..AREA * layout.areas].to_vec();
+            let place = layout.factor(1 + random.index(layout.factors));
+            tariff.splice(place..place, area);
         }
     }
 }
@@ -82,11 +118,11 @@ fn repeat(tariff: &mut Vec<u8>, place: usize, size: usize, times: usize) {
     tariff.splice(place..place, record.repeat(times));
 }
 
-/// A field of an area or a stop at an edge, but for length and kind.
+/// A field of a record at an edge, but for length and kind.
 pub fn value(random: &mut Random, draft: &mut Draft) {
     let (record, _, all) = some_record(random, draft);
     let field = &all[2 + random.index(all.len() - 2)];
     let present = fields::value(&draft.case.tariff, record, field).unwrap_or(0);
-    let value = random.pick(&values(field, present, &[draft.areas, record / AREA]));
+    let value = random.pick(&values(field, present, &[draft.layout.areas, record / AREA]));
     set(&mut draft.case.tariff, record, field, value);
 }

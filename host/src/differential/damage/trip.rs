@@ -41,7 +41,7 @@ pub fn counts(random: &mut Random, draft: &mut Draft) {
 /// A stop number at the end of the tariff's, or past it.
 pub fn stops(random: &mut Random, draft: &mut Draft) {
     let field = stop_field(random.index(draft.plan.stops.len()));
-    let stops = draft.stops as u64;
+    let stops = draft.layout.stops as u64;
     let number = random.pick(&[stops.saturating_sub(1), stops, stops, stops, stops + 1, 1_000, 65_535]);
     set(&mut draft.case.trip, 0, &field, number);
 }

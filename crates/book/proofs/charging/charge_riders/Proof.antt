@@ -1,74 +1,84 @@
 -- `book::charging::charge_riders` meets its contract. The loop's invariant: the charges of the first `i` riders by the chain are in. The
 -- measure is the number of riders left.
 -- Assumes nothing.
-use Prim.Native.Nat.{_+_, _-_, _*_, _^_, _<_}
+use Prim.Native.Nat.{_+_, _-_, _≤_}
+use native.Mathlib.Nat.{le-refl}
 use native.Mathlib.Omega.{arith}
 use mathlib.Core.Path.{_∙_}
-use borrow.Author.Needs.{needs}
-use Rattle.tariff.proofs.Faultless.{faultless}
+use lib.ListN.{getD}
 use Rattle.book.specs.Windows.{inWindow}
 use Rattle.book.specs.Charging.{riderCharges}
 use Rattle.book.specs.Contracts.{chargeBy}
 use Rattle.book.proofs.SoundLaws.{sound-has}
-use Rattle.book.proofs.ChargeLaws.{Filled, filled-none, filled-size, filled-more, filled-all, riders-by-chain, priceable}
+use Rattle.book.proofs.ChargeLaws.{Filled, filled-none, filled-size, filled-more, filled-all, priceable}
+use Rattle.book.proofs.EarlierLaws.{earlier-there, riders-fit, riders-after}
 use Rattle.book.proofs.charging.charge_riders.Statement.{statement}
 use Rattle.book.proofs.charging.charge_riders.Tie as tie
 
 abbrev Inv-loop : tie.InvT-loop
-Inv-loop tariff book current amounts₀ count child first from class at fare chain i₀ amounts i =
-    Filled (λ k. chargeBy chain (inWindow current book) (first + k) class (fare .0)) amounts₀ amounts from count i
+Inv-loop tariff book current paid amounts₀ count child first from class at fare chain i₀ amounts i =
+    Filled (λ k. chargeBy chain (inWindow current book) (first + k) class (getD paid (from + k) 0) (fare .0)) amounts₀ amounts from count i
 
 abbrev μ-loop : tie.MeasureT-loop
-μ-loop tariff book current amounts₀ count child first from class at fare chain i₀ amounts i = count - i
+μ-loop tariff book current paid amounts₀ count child first from class at fare chain i₀ amounts i = count - i
 
 returns : tie.Need-returns Inv-loop μ-loop
 unfolding riderCharges
 returns c = rw (c .if1 .taken)
 
 area-requires : tie.Need-area-requires Inv-loop μ-loop
-area-requires c κs = search needs
+area-requires c κs = let p = c .before .before .before .before .before .pre .ridden .rideable in (p .read, p .area)
 
 price-requires : tie.Need-price-requires Inv-loop μ-loop
-price-requires c κs = rw (c .area .ensures) (priceable (c .before .before .before .before .before .pre .rideable))
+price-requires c κs = rw (c .area .ensures) (priceable (c .before .before .before .before .before .before .pre .ridden .rideable))
 
 chain-of-requires : tie.Need-chain-of-requires Inv-loop μ-loop
 chain-of-requires c κs =
-    let p = c .before .before .before .before .before .before .pre .rideable in (p .read, p .area)
+    let r = c .before .before .before .before .before .before .before .pre .ridden in (r .rideable .read, (r .rideable .area, earlier-there r))
 
 loop-holds : tie.Need-loop-holds Inv-loop μ-loop
 loop-holds c = filled-none _ _ _ _
 
+-- the riders' amounts stand among 31
+room : (s : tie.After-slice-known Inv-loop μ-loop) → let a = s .before .before .before .before .args in a .riders .from + a .riders .count ≤ 31
+room s = s .before .before .before .before .pre .few
+
+add-before : tie.Need-add-before Inv-loop μ-loop
+add-before c = omega (arith, room (c .before .before .before .before .before .before))
+
+mul-before : tie.Need-mul-before Inv-loop μ-loop
+mul-before c = omega (arith, room (c .before .before .before .before .before .before))
+
+shared-slice-read-before : tie.Need-shared-slice-read-before Inv-loop μ-loop
+shared-slice-read-before c = omega (arith, room (c .before .before .before .before .before .before .before), c .before .before .before .before .before .before .before .before .before .before .before .pre .paid-before .size)
+
 add-charge : tie.Need-add-charge Inv-loop μ-loop
-add-charge c = omega arith
+add-charge c = omega (arith, c .before .before .before .before .before .before .before .before .before .before .before .pre .known)
 
 charge-requires : tie.Need-charge-requires Inv-loop μ-loop
 charge-requires c κs =
-    let s = c .before .before in
-    let p = s .before .before .before .before .before .before .before .pre in
-    (sound-has _ _ (p .rideable .sound-book) .size, (omega (arith, p .known), s .chain-of .ensures .places))
-
--- the places are those of a list, so their bytes are counted by 64 bits
-room : (s : tie.After-slice-known Inv-loop μ-loop) → let a = s .before .before .before .args in (a .riders .from + a .riders .count) * 4 < 2 ^ 64
-room s = omega (arith, s .before .before .before .pre .places)
+    let s = c .before in
+    let p = s .before .before .before .before .before .before .before .before .before .before .pre in
+    (sound-has _ _ (p .ridden .rideable .sound-book) .size, (omega (arith, p .known), riders-fit p _ (s .loop-test .taken) (s .before .before .chain-of .ensures)))
 
 add-amounts : tie.Need-add-amounts Inv-loop μ-loop
-add-amounts c = omega (arith, room (c .before .before .before .before .before .before .before .before))
+add-amounts c = omega (arith, room (c .before .before .before .before .before .before .before .before .before))
 
 mul-amounts : tie.Need-mul-amounts Inv-loop μ-loop
-mul-amounts c = omega (arith, room (c .before .before .before .before .before .before .before .before))
+mul-amounts c = omega (arith, room (c .before .before .before .before .before .before .before .before .before))
 
 slice-write-amounts : tie.Need-slice-write-amounts Inv-loop μ-loop
-slice-write-amounts c = omega (arith, filled-size (c .before .before .before .loop .inv), c .before .before .before .before .before .before .before .before .before .before .before .pre .places)
+slice-write-amounts c = omega (arith, filled-size (c .before .before .before .before .loop .inv), c .before .before .before .before .before .before .before .before .before .before .before .before .before .pre .places)
 
 add-i : tie.Need-add-i Inv-loop μ-loop
-add-i c = omega (arith, room (c .before .before .before .before .before .before .before .before))
+add-i c = omega (arith, room (c .before .before .before .before .before .before .before .before .before))
 
 loop-less : tie.Need-loop-less Inv-loop μ-loop
 loop-less c = omega arith
 
 loop-again : tie.Need-loop-again Inv-loop μ-loop
 loop-again c =
-    let s = c .before .before in filled-more (s .before .loop .inv) _ (s .loop-test .taken) (c .before .charge .ensures .value)
+    let s = c .before .before .before in filled-more (s .before .loop .inv) _ (s .loop-test .taken) (c .before .charge .ensures .value)
 
 same-length : tie.Need-same-length Inv-loop μ-loop
 same-length c = filled-size (c .before .loop .inv)
@@ -76,13 +86,8 @@ same-length c = filled-size (c .before .loop .inv)
 returns-2 : tie.Need-returns-2 Inv-loop μ-loop
 returns-2 c =
     let s = c .before .before in
-    let first = s .before .before .before .before .before .before .before in
-    let a = first .args in
-    let p = first .pre .rideable in
-    let listed =
-    riders-by-chain (a .tariff .now) (a .counts) (inWindow (a .current) (a .book .now)) (a .ride) (faultless _ _ (p .read)) (p .area) (a .riders .child)
-    (a .riders .first) (s .before .before .area .ensures) (s .chain-of .ensures .value) (s .before .price .ensures .value) (a .riders .count)
-    in
+    let p = s .before .before .before .before .before .before .before .before .pre in
+    let listed = riders-after p (s .before .before .area .ensures) (s .chain-of .ensures .value) (s .before .price .ensures .value) _ (le-refl _) in
     filled-all (c .before .loop .inv) (c .loop-test .left) ∙ rw listed
 
 pub charge-riders-spec : {M : Type 1} → statement M
@@ -96,6 +101,9 @@ charge-riders-spec =
     price-requires
     chain-of-requires
     loop-holds
+    add-before
+    mul-before
+    shared-slice-read-before
     add-charge
     charge-requires
     add-amounts

@@ -1,8 +1,12 @@
 -- `book::charging::charges_of` meets its contract: the account holder and adults, the children and the bicycles, one after another.
 -- Assumes nothing.
+use native.Mathlib.Omega.{arith}
 use mathlib.Core.Path.{sym}
 use borrow.Author.Needs.{needs}
+use Rattle.book.specs.Windows.{inWindow}
+use Rattle.book.specs.Posting.{wordsAfter}
 use Rattle.book.proofs.ChargeLaws.{charges-length, charges-stored}
+use Rattle.book.proofs.EarlierLaws.{adults-chargeable, children-chargeable}
 use Rattle.book.proofs.charging.charges_of.Statement.{statement}
 use Rattle.book.proofs.charging.charges_of.Tie as tie
 
@@ -19,10 +23,10 @@ cast-bicycles : tie.Need-cast-bicycles
 cast-bicycles c = search needs
 
 charge-riders-requires : tie.Need-charge-riders-requires
-charge-riders-requires c κs = search needs
+charge-riders-requires c κs = let p = c .before .before .before .before .before .before .before .before .before .pre in adults-chargeable (p .0) (p .1 .0) _ (p .1 .1)
 
 charge-riders-requires-2 : tie.Need-charge-riders-requires-2
-charge-riders-requires-2 c κs = search needs
+charge-riders-requires-2 c κs = let p = c .before .before .before .before .before .before .before .before .before .before .before .before .before .pre in children-chargeable (p .0) (p .1 .0) _ (omega (arith, p .1 .1))
 
 add-charge-bicycles : tie.Need-add-charge-bicycles
 add-charge-bicycles c = search needs
@@ -41,9 +45,11 @@ same-length c = search needs
 
 returns : tie.Need-returns
 returns c =
-    let s = c .before .before .before .before .before .before in (
-      sym (charges-length _ _ _ _),
-      charges-stored _ _ _ _ _ (s .before .before .before .before .charge-riders .ensures) (s .charge-riders2 .ensures) (c .before .before .charge-bicycles .ensures),
+    let s = c .before .before .before .before .before .before in
+    let a = c .before .before .before .before .before .before .before .before .before .before .before .before .before .before .before .before .before .before .before .before .args in
+    let w = wordsAfter (a .tariff .now) (a .counts) (inWindow (a .current) (a .book .now)) (a .earlier) in (
+      sym (charges-length (a .tariff .now) (a .counts) w (a .ride)),
+      charges-stored (a .tariff .now) (a .counts) w (a .ride) _ (s .before .before .before .before .charge-riders .ensures) (s .charge-riders2 .ensures) (c .before .before .charge-bicycles .ensures),
     )
 
 pub charges-of-spec : {M : Type 1} → statement M

@@ -10,10 +10,13 @@ area-requires c κs = search needs
 
 caps-of-requires : tie.Need-caps-of-requires
 caps-of-requires c κs =
-    let p = c .before .before .pre in rw (c .area .ensures) (faultless _ _ (p .0) .area _ (p .1))
+    let p = c .before .before .pre in rw (c .area .ensures) (faultless _ _ (p .0) .area _ (p .1 .0))
+
+pending-in-requires : tie.Need-pending-in-requires
+pending-in-requires c κs = search needs
 
 returns : tie.Need-returns
-returns c = rw (c .caps-of .ensures, c .before .area .ensures)
+returns c = rw (c .pending-in .ensures, c .before .caps-of .ensures, c .before .before .area .ensures)
 
 pub link-of-spec : {M : Type 1} → statement M
-link-of-spec = tie.close (tie.spec area-requires caps-of-requires returns)
+link-of-spec = tie.close (tie.spec area-requires caps-of-requires pending-in-requires returns)

@@ -4,7 +4,7 @@ use borrow.Author.Needs.{needs}
 use native.Mathlib.Omega.{arith}
 use mathlib.Core.Path.{refl, ap, _∙_}
 use mathlib.Core.List.{[], _∷_, _++_}
-use Rattle.lines.specs.Text.{bytes, decimal, spaced, lineText}
+use Rattle.lines.specs.Text.{bytes, decimal, spaced, entryText}
 use Rattle.lines.proofs.Puts.{rest, rest-short, line-put, behind-same}
 use Rattle.lines.proofs.text.put_charged.Statement.{statement}
 use Rattle.lines.proofs.text.put_charged.Tie as tie
@@ -24,17 +24,26 @@ put-spaced-before-requires c κs = search needs
 slice-aggregate-put-spaced-before-2 : tie.Need-slice-aggregate-put-spaced-before-2
 slice-aggregate-put-spaced-before-2 c = search needs
 
+cast-put-spaced-before : tie.Need-cast-put-spaced-before
+cast-put-spaced-before c = search needs
+
 put-spaced-before-requires-2 : tie.Need-put-spaced-before-requires-2
 put-spaced-before-requires-2 c κs = search needs
 
 slice-aggregate-put-spaced-before-3 : tie.Need-slice-aggregate-put-spaced-before-3
 slice-aggregate-put-spaced-before-3 c = search needs
 
+cast-put-spaced-before-2 : tie.Need-cast-put-spaced-before-2
+cast-put-spaced-before-2 c = search needs
+
 put-spaced-before-requires-3 : tie.Need-put-spaced-before-requires-3
 put-spaced-before-requires-3 c κs = search needs
 
 slice-aggregate-put-spaced-before-4 : tie.Need-slice-aggregate-put-spaced-before-4
 slice-aggregate-put-spaced-before-4 c = search needs
+
+cast-put-spaced-before-3 : tie.Need-cast-put-spaced-before-3
+cast-put-spaced-before-3 c = search needs
 
 put-spaced-before-requires-4 : tie.Need-put-spaced-before-requires-4
 put-spaced-before-requires-4 c κs = search needs
@@ -61,18 +70,19 @@ same-length : tie.Need-same-length
 same-length c = search needs
 
 returns : tie.Need-returns
-unfolding lineText spaced bytes
+unfolding entryText spaced bytes
 returns c =
-    let args = c .before .before .before .before .before .before .before .before .before .before .before .before .before .before .before .before .before .before .before .before .before .before .before .before .before .args in
-    let one = args .cents ∷ [] in
-    let two = args .opening ∷ one in
-    let three = args .minutes ∷ two in
-    let four = args .km ∷ three in
-    let cents = line-put [] (args .cents) refl (c .before .before .before .before .before .before .before .before .before .before .before .before .before .before .before .before .before .before .before .before .before .before .put-long-spaced-before .ensures) in
-    let opening = line-put one (args .opening) cents (c .before .before .before .before .before .before .before .before .before .before .before .before .before .before .before .before .before .before .before .put-spaced-before .ensures) in
-    let minutes = line-put two (args .minutes) opening (c .before .before .before .before .before .before .before .before .before .before .before .before .before .before .before .before .put-spaced-before2 .ensures) in
-    let km = line-put three (args .km) minutes (c .before .before .before .before .before .before .before .before .before .before .before .before .before .put-spaced-before3 .ensures) in
-    let area = line-put four (args .area) km (c .before .before .before .before .before .before .before .before .before .before .put-spaced-before4 .ensures) in
+    let args = c .before .before .before .before .before .before .before .before .before .before .before .before .before .before .before .before .before .before .before .before .before .before .before .before .before .before .before .before .args in
+    let entry = args .entry in
+    let one = entry .cents ∷ [] in
+    let two = entry .opening ∷ one in
+    let three = entry .minutes ∷ two in
+    let four = entry .km ∷ three in
+    let cents = line-put [] (entry .cents) refl (c .before .before .before .before .before .before .before .before .before .before .before .before .before .before .before .before .before .before .before .before .before .before .before .before .before .put-long-spaced-before .ensures) in
+    let opening = line-put one (entry .opening) cents (c .before .before .before .before .before .before .before .before .before .before .before .before .before .before .before .before .before .before .before .before .before .before .put-spaced-before .ensures) in
+    let minutes = line-put two (entry .minutes) opening (c .before .before .before .before .before .before .before .before .before .before .before .before .before .before .before .before .before .before .put-spaced-before2 .ensures) in
+    let km = line-put three (entry .km) minutes (c .before .before .before .before .before .before .before .before .before .before .before .before .before .before .put-spaced-before3 .ensures) in
+    let area = line-put four (entry .area) km (c .before .before .before .before .before .before .before .before .before .before .put-spaced-before4 .ensures) in
     let number = c .before .before .before .before .before .before .before .put-before in
     let text = number .ensures .put ∙ ap (decimal (args .number) ++_) area in
     behind-same (c .before .before .put-text .ensures) (rest (number .last .0) (number .result) 128 (omega arith) ∙ text)
@@ -87,10 +97,13 @@ put-charged-spec =
     slice-aggregate-put-spaced-before
     put-spaced-before-requires
     slice-aggregate-put-spaced-before-2
+    cast-put-spaced-before
     put-spaced-before-requires-2
     slice-aggregate-put-spaced-before-3
+    cast-put-spaced-before-2
     put-spaced-before-requires-3
     slice-aggregate-put-spaced-before-4
+    cast-put-spaced-before-3
     put-spaced-before-requires-4
     slice-aggregate-put-before
     put-before-requires

@@ -1,26 +1,28 @@
 -- `settle::decide::decide` meets its contract: each early return is a row of the table that holds, and what goes on behind it has skipped
 -- that row. For each row there is the place where it is past, with its way back to the start.
 -- Assumes nothing.
-use Prim.Native.Nat.{ℕ}
+use Prim.Native.Nat.{ℕ, _+_}
+use native.Mathlib.Nat.{le-of-eq}
 use native.Mathlib.Omega.{arith}
 use mathlib.Core.Path.{_≡_, sym, _∙_}
 use mathlib.Core.List.{List}
 use borrow.Author.Needs.{needs}
-use borrow.Author.Tests.{lt-ltb, le-ltb}
-use lib.ListN.{drop}
+use borrow.Author.Tests.{lt-ltb, le-ltb, not-false}
+use lib.ListN.{length, drop}
 use Rattle.trip.specs.Record.{classAt, levelAt, partyAt, countAt}
 use Rattle.trip.specs.Moments.{checkinOf, checkoutOf}
-use Rattle.trip.specs.Trips.{partyRight, stopsKnown, inOrder}
+use Rattle.trip.specs.Trips.{partyRight, stopsKnown, inOrder, tripOf}
 use Rattle.trip.specs.Contracts.{timesOf}
 use Rattle.trip.specs.declared.Times.the-variants.{Of}
 use Rattle.trip.proofs.Shapes.{Filling, whole-fills, whole-none}
 use Rattle.trip.proofs.Stamps.{times-are, times-none, times-range}
+use Rattle.fare.specs.Parts.{breakOf, ridesOf}
 use Rattle.book.specs.Windows.{tooEarly, windowOf}
 use Rattle.book.proofs.SoundLaws.{sound-has}
-use Rattle.statement.specs.Record.{recordSize}
 use Rattle.settle.specs.Refusals.{Row, rows, firstOf}
+use Rattle.statement.specs.Record.{statementSize}
 use Rattle.settle.proofs.Rows.{skip, stop, end}
-use Rattle.settle.proofs.Rides.{one-ride, one-size}
+use Rattle.settle.proofs.Rides.{rides-count, rides-size}
 use Rattle.settle.proofs.Ways.{refused-first, clear-with}
 use Rattle.settle.proofs.decide.decide.Statement.{statement}
 use Rattle.settle.proofs.decide.decide.Tie as tie
@@ -36,7 +38,7 @@ Past k s = firstOf (Table s) ≡ firstOf (drop k (Table s))
 
 past-4 : (s : tie.Start) → Past 1 s
 unfolding rows
-past-4 s = skip _ _ (rw (s .pre))
+past-4 s = skip _ _ (rw (s .pre .sound-book))
 
 -- ---- 5.
 
@@ -190,7 +192,7 @@ past-9 c = past-8 (c .before .before) ∙ skip _ _ (rw (order (c .before)) (c .i
 -- ---- 10.
 
 too-early-requires : tie.Need-too-early-requires
-too-early-requires c κs = sound-has _ _ (start-8 (timed-9 c) .pre) .size
+too-early-requires c κs = sound-has _ _ (start-8 (timed-9 c) .pre .sound-book) .size
 
 early :
     (c : tie.After-too-early)
@@ -212,7 +214,7 @@ past-10 c = past-9 (c .before .before) ∙ skip _ _ (early (c .before) ∙ c .if
 -- ---- 11.
 
 window-of-requires : tie.Need-window-of-requires
-window-of-requires c κs = start-8 (timed-10 c) .pre
+window-of-requires c κs = start-8 (timed-10 c) .pre .sound-book
 
 window :
     (c : tie.After-window-of)
@@ -222,41 +224,75 @@ window c =
     let (right, (from, to)) = times-are _ _ _ (times (timed-10 (c .before))) in
     rw (from, to) (sym (c .window-of .ensures .0))
 
+break-of-requires : tie.Need-break-of-requires
+break-of-requires c κs =
+    let timed = timed-10 (c .before) in
+    let told = party-8 timed .before .before .before in
+    record {
+      read = start-8 timed .pre .read;
+      known = sym (timed .before .before .before .before .before .stops-known .ensures) ∙ not-false _ (timed .before .before .before .before .if2 .left);
+      fits = le-of-eq (filling told .size);
+    }
+
+broken :
+    (c : tie.After-break-of)
+    → let s = start-8 (timed-10 (c .before .before)) in
+    breakOf (s .args .tariff .now) (s .args .counts) (s .args .trip .now) (countAt (s .args .trip .now) 0) ≡ c .break-of .result
+broken c = rw (filling (party-8 (timed-10 (c .before .before)) .before .before .before) .count) (sym (c .break-of .ensures .value))
+
+rides-in-requires : tie.Need-rides-in-requires
+rides-in-requires c κs = search needs
+
+-- the window's trips with the trip's own
+abbrev counted : tie.After-rides-in → tie.After-known-told2
+counted c = timed-10 (c .before .before .before)
+
+trips :
+    (c : tie.After-rides-in)
+    → let s = start-8 (counted c) in
+    windowOf (s .args .book .now) (checkinOf (s .args .trip .now)) (checkoutOf (s .args .trip .now)) .trips
+    + length (ridesOf (s .args .tariff .now) (s .args .counts) (s .args .trip .now) (tripOf (s .args .trip .now)))
+    ≡ c .before .before .window-of .result .trips + c .rides-in .result
+trips c = rw (rides-count, window (c .before .before), broken (c .before), c .rides-in .ensures .0)
+
 add-if5 : tie.Need-add-if5
 add-if5 c = search needs
 
 returns-7 : tie.Need-returns-7
 unfolding rows
 returns-7 c =
-    let opened = c .before .before in
-    sym (refused-first _ _ _ _ _ (past-10 (opened .before) ∙ stop _ _ (rw (one-ride, window opened) (lt-ltb _ _ (c .if5 .taken)))))
+    let found = c .before .before in
+    sym (refused-first _ _ _ _ _ (past-10 (found .before .before .before) ∙ stop _ _ (rw (trips found) (lt-ltb _ _ (c .if5 .taken)))))
 
 abbrev timed-11 : tie.Else5 → tie.After-known-told2
-timed-11 c = timed-10 (c .before .before .before)
+timed-11 c = counted (c .before .before)
 
 past-11 : (c : tie.Else5) → Past 8 (start-8 (timed-11 c))
 unfolding rows
 past-11 c =
-    let opened = c .before .before in
-    past-10 (opened .before) ∙ skip _ _ (rw (one-ride, window opened) (le-ltb _ _ (c .if5 .left)))
+    let found = c .before .before in
+    past-10 (found .before .before .before) ∙ skip _ _ (rw (trips found) (le-ltb _ _ (c .if5 .left)))
 
 -- ---- 12.
 
-record-size-requires : tie.Need-record-size-requires
-record-size-requires c κs = search needs
+records-size-requires : tie.Need-records-size-requires
+records-size-requires c κs = search needs
 
 size :
-    (c : tie.After-record-size)
-    → recordSize (partyAt (start-8 (timed-11 (c .before)) .args .trip .now) 0) ≡ c .record-size .result
-size c = rw (← party-8 (timed-11 (c .before)) .party-at .ensures) (sym (c .record-size .ensures))
+    (c : tie.After-records-size)
+    → let s = start-8 (timed-11 (c .before)) in
+    statementSize (ridesOf (s .args .tariff .now) (s .args .counts) (s .args .trip .now) (tripOf (s .args .trip .now))) ≡ c .records-size .result
+size c =
+    rw (rides-size, ← party-8 (timed-11 (c .before)) .party-at .ensures, broken (c .before .before .before .before))
+    (sym (c .records-size .ensures))
 
 returns-8 : tie.Need-returns-8
 unfolding rows
-returns-8 c = sym (refused-first _ _ _ _ _ (past-11 (c .before .before) ∙ stop _ _ (rw (one-size, size (c .before)) (lt-ltb _ _ (c .if6 .taken)))))
+returns-8 c = sym (refused-first _ _ _ _ _ (past-11 (c .before .before) ∙ stop _ _ (rw (size (c .before)) (lt-ltb _ _ (c .if6 .taken)))))
 
 past-12 : (c : tie.Else6) → Past 9 (start-8 (timed-11 (c .before .before)))
 unfolding rows
-past-12 c = past-11 (c .before .before) ∙ skip _ _ (rw (one-size, size (c .before)) (le-ltb _ _ (c .if6 .left)))
+past-12 c = past-11 (c .before .before) ∙ skip _ _ (rw (size (c .before)) (le-ltb _ _ (c .if6 .left)))
 
 -- ---- None of them holds.
 
@@ -266,9 +302,10 @@ returns-9 c =
     let timed = timed-11 (c .before .before) in
     let read = party-8 timed in
     let (right, (from, to)) = times-are _ _ _ (times timed) in
+    let found = c .before .before .before .before in
     clear-with _ _ _ _ _ (past-12 c ∙ end) from to
     (read .before .before .class-at .ensures) (read .before .level-at .ensures) (read .party-at .ensures)
-    (filling (read .before .before .before) .count) (window (c .before .before .before .before))
+    (filling (read .before .before .before) .count) (window (found .before .before)) (broken (found .before))
 
 pub decide-spec : {M : Type 1} → statement M
 decide-spec =
@@ -294,8 +331,10 @@ decide-spec =
     too-early-requires
     returns-6
     window-of-requires
+    break-of-requires
+    rides-in-requires
     add-if5
     returns-7
-    record-size-requires
+    records-size-requires
     returns-8
     returns-9)

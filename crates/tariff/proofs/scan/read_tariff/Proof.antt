@@ -1,31 +1,33 @@
--- `tariff::scan::read_tariff` meets its contract. The loop's invariant: every record before the place is faultless, and so many areas
--- and stops reach it; so a fault met there is the first, and at the end the counts are finished. A stop is passed with the rows that
--- stand after it. The measure is the bytes left.
+-- `tariff::scan::read_tariff` meets its contract. The loop's invariant: every record before the place is faultless, so many areas, factor
+-- records and stops reach it, and so many factor records are due; so a fault met there is the first, and at the end the counts are finished.
+-- A stop is passed with the rows that stand after it. The measure is the bytes left.
 -- Assumes nothing.
 use Prim.Native.Nat.{_-_}
 use native.Mathlib.Omega.{arith}
 use mathlib.Core.Path.{_≡_, sym, _∙_}
 use borrow.Author.Needs.{needs}
 use lib.ListN.{length}
+use Rattle.tariff.specs.Rules.{factorsDue}
 use Rattle.tariff.specs.Scan.{entryAt, Passed}
-use Rattle.tariff.specs.declared.scan.Entry.the-variants.{Area, Stop}
-use Rattle.tariff.proofs.Entries.{area-entry, stop-entry}
-use Rattle.tariff.proofs.Passed.{passed-none, passed-area, passed-stop, at-end, at-fault}
+use Rattle.tariff.specs.declared.scan.Entry.the-variants.{Area, Factor, Stop}
+use Rattle.tariff.proofs.Entries.{area-entry, factor-entry, stop-entry}
+use Rattle.tariff.proofs.Passed.{passed-none, passed-area, passed-factor, passed-stop, at-end, at-fault}
 use Rattle.tariff.proofs.RowLaws.{passed-rows}
+use Rattle.tariff.proofs.Wide.{wide-none}
 use Rattle.tariff.proofs.scan.read_tariff.Statement.{statement}
 use Rattle.tariff.proofs.scan.read_tariff.Tie as tie
 
 abbrev Inv-loop : tie.InvT-loop
-Inv-loop tariff at₀ soFar₀ at soFar = Passed tariff at soFar
+Inv-loop tariff at₀ soFar₀ due₀ at soFar due = Passed tariff at soFar × (due ≡ factorsDue tariff soFar)
 
 abbrev μ-loop : tie.MeasureT-loop
-μ-loop tariff at₀ soFar₀ at soFar = length tariff - at
+μ-loop tariff at₀ soFar₀ due₀ at soFar due = length tariff - at
 
 loop-holds : tie.Need-loop-holds Inv-loop μ-loop
-loop-holds c = passed-none _
+loop-holds c = (passed-none _, sym (wide-none _))
 
 entry-at-requires : tie.Need-entry-at-requires Inv-loop μ-loop
-entry-at-requires c κs = c .loop .inv .reached
+entry-at-requires c κs = (c .loop .inv .0 .reached, c .loop .inv .1)
 
 enum-told : tie.Need-enum-told Inv-loop μ-loop
 enum-told c = search needs
@@ -43,33 +45,68 @@ area-there :
     ≡ Area
 area-there c = sym (c .before .before .entry-at .ensures) ∙ c .enum-told2 .given .1
 
+wide-with-requires : tie.Need-wide-with-requires Inv-loop μ-loop
+wide-with-requires c κs =
+    let (p, due) = c .before .before .before .loop .inv in
+    let facts = area-entry _ _ _ (area-there c) in
+    (record { few = facts .few; inside = omega (arith, p .reached, facts) }, due)
+
 add-at : tie.Need-add-at Inv-loop μ-loop
-add-at c = omega (arith, area-entry _ _ _ (area-there c))
+add-at c = omega (arith, area-entry _ _ _ (area-there (c .before)))
 
 add-so-far : tie.Need-add-so-far Inv-loop μ-loop
-add-so-far c = omega (arith, area-entry _ _ _ (area-there (c .before)))
+add-so-far c = omega (arith, area-entry _ _ _ (area-there (c .before .before)))
 
 loop-less : tie.Need-loop-less Inv-loop μ-loop
-loop-less c = omega (arith, area-entry _ _ _ (area-there (c .before)))
+loop-less c = omega (arith, area-entry _ _ _ (area-there (c .before .before)))
 
 loop-again : tie.Need-loop-again Inv-loop μ-loop
-loop-again c = passed-area _ _ _ (c .before .before .before .before .loop .inv) (area-there (c .before))
+loop-again c = (
+  passed-area _ _ _ (c .before .before .before .before .before .loop .inv .0) (area-there (c .before .before)),
+  c .before .wide-with .ensures,
+)
 
--- a stop stands at the loop's place
-stop-there :
+-- a factor record stands at the loop's place
+factor-there :
     (c : tie.After-enum-told3 Inv-loop μ-loop)
     → entryAt (c .before .before .before .before .before .args .tariff .now) (c .before .before .before .loop .at) (c .before .before .before .loop .so-far)
-    ≡ Stop
-stop-there c = sym (c .before .before .entry-at .ensures) ∙ c .enum-told3 .given .1
+    ≡ Factor
+factor-there c = sym (c .before .before .entry-at .ensures) ∙ c .enum-told3 .given .1
 
 enum-told-3 : tie.Need-enum-told-3 Inv-loop μ-loop
 enum-told-3 c = search needs
 
 add-at-2 : tie.Need-add-at-2 Inv-loop μ-loop
-add-at-2 c = omega (arith, stop-entry _ _ _ (stop-there c))
+add-at-2 c = omega (arith, factor-entry _ _ _ (factor-there c))
 
 add-so-far-2 : tie.Need-add-so-far-2 Inv-loop μ-loop
-add-so-far-2 c = omega (arith, stop-entry _ _ _ (stop-there (c .before)))
+add-so-far-2 c =
+    let (p, due) = c .before .before .before .before .loop .inv in
+    omega (arith, factor-entry _ _ _ (factor-there (c .before)), due)
+
+loop-less-2 : tie.Need-loop-less-2 Inv-loop μ-loop
+loop-less-2 c = omega (arith, factor-entry _ _ _ (factor-there (c .before)))
+
+loop-again-2 : tie.Need-loop-again-2 Inv-loop μ-loop
+loop-again-2 c =
+    let (p, due) = c .before .before .before .before .loop .inv in
+    (passed-factor _ _ _ p (factor-there (c .before)), due)
+
+-- a stop stands at the loop's place
+stop-there :
+    (c : tie.After-enum-told4 Inv-loop μ-loop)
+    → entryAt (c .before .before .before .before .before .args .tariff .now) (c .before .before .before .loop .at) (c .before .before .before .loop .so-far)
+    ≡ Stop
+stop-there c = sym (c .before .before .entry-at .ensures) ∙ c .enum-told4 .given .1
+
+enum-told-4 : tie.Need-enum-told-4 Inv-loop μ-loop
+enum-told-4 c = search needs
+
+add-at-3 : tie.Need-add-at-3 Inv-loop μ-loop
+add-at-3 c = omega (arith, stop-entry _ _ _ (stop-there c))
+
+add-so-far-3 : tie.Need-add-so-far-3 Inv-loop μ-loop
+add-so-far-3 c = omega (arith, stop-entry _ _ _ (stop-there (c .before)))
 
 sub-rows-due : tie.Need-sub-rows-due Inv-loop μ-loop
 sub-rows-due c = omega (arith, stop-entry _ _ _ (stop-there (c .before)))
@@ -83,34 +120,36 @@ rows-standing-requires c κs = omega (arith, stop-entry _ _ _ (stop-there (c .be
 mul-at : tie.Need-mul-at Inv-loop μ-loop
 mul-at c = omega (arith, stop-entry _ _ _ (stop-there (c .before .before .before)))
 
-add-at-3 : tie.Need-add-at-3 Inv-loop μ-loop
-add-at-3 c = omega (arith, stop-entry _ _ _ (stop-there (c .before .before .before)))
+add-at-4 : tie.Need-add-at-4 Inv-loop μ-loop
+add-at-4 c = omega (arith, stop-entry _ _ _ (stop-there (c .before .before .before)))
 
 mul-so-far : tie.Need-mul-so-far Inv-loop μ-loop
 mul-so-far c = omega (arith, stop-entry _ _ _ (stop-there (c .before .before .before)))
 
-add-so-far-3 : tie.Need-add-so-far-3 Inv-loop μ-loop
-add-so-far-3 c = omega (arith, stop-entry _ _ _ (stop-there (c .before .before .before .before)))
+add-so-far-4 : tie.Need-add-so-far-4 Inv-loop μ-loop
+add-so-far-4 c = omega (arith, stop-entry _ _ _ (stop-there (c .before .before .before .before)))
 
-loop-less-2 : tie.Need-loop-less-2 Inv-loop μ-loop
-loop-less-2 c = omega (arith, stop-entry _ _ _ (stop-there (c .before .before .before .before)))
+loop-less-3 : tie.Need-loop-less-3 Inv-loop μ-loop
+loop-less-3 c = omega (arith, stop-entry _ _ _ (stop-there (c .before .before .before .before)))
 
-loop-again-2 : tie.Need-loop-again-2 Inv-loop μ-loop
-loop-again-2 c =
+loop-again-3 : tie.Need-loop-again-3 Inv-loop μ-loop
+loop-again-3 c =
+    let (p, due) = c .before .before .before .before .before .before .before .loop .inv in
     let here = stop-there (c .before .before .before .before) in
-    let facts = stop-entry _ _ _ here in
-    rw (c .before .rows-standing .ensures .0)
-    (passed-rows _ (c .before .before .rows-due .result) _ _ (facts .some) (omega arith) (omega arith)
-    (passed-stop _ _ _ (c .before .before .before .before .before .before .before .loop .inv) here))
+    let facts = stop-entry _ _ _ here in (
+      rw (c .before .rows-standing .ensures .0)
+          (passed-rows _ (c .before .before .rows-due .result) _ _ (facts .some) (facts .all) (omega arith) (omega arith) (passed-stop _ _ _ p here)),
+      due,
+    )
 
 returns : tie.Need-returns Inv-loop μ-loop
-returns c = sym (at-end _ _ _ (c .before .before .before .loop .inv) (sym (c .before .before .entry-at .ensures) ∙ c .enum-told .given .1))
+returns c = sym (at-end _ _ _ (c .before .before .before .loop .inv .0) (sym (c .before .before .entry-at .ensures) ∙ c .enum-told .given .1))
 
 returns-2 : tie.Need-returns-2 Inv-loop μ-loop
 returns-2 c =
     sym
     (at-fault _ _ _ _
-    (record { passed = c .before .before .before .before .loop .inv; faulty = sym (c .before .before .before .entry-at .ensures) ∙ c .before .number .given .1 }))
+    (record { passed = c .before .before .before .before .loop .inv .0; faulty = sym (c .before .before .before .entry-at .ensures) ∙ c .before .number .given .1 }))
 
 pub read-tariff-spec : {M : Type 1} → statement M
 read-tariff-spec =
@@ -123,6 +162,7 @@ read-tariff-spec =
     enum-told
     enum-known-number
     enum-told-2
+    wide-with-requires
     add-at
     add-so-far
     loop-less
@@ -130,14 +170,19 @@ read-tariff-spec =
     enum-told-3
     add-at-2
     add-so-far-2
+    loop-less-2
+    loop-again-2
+    enum-told-4
+    add-at-3
+    add-so-far-3
     sub-rows-due
     rows-due-requires
     rows-standing-requires
     mul-at
-    add-at-3
+    add-at-4
     mul-so-far
-    add-so-far-3
-    loop-less-2
-    loop-again-2
+    add-so-far-4
+    loop-less-3
+    loop-again-3
     returns
     returns-2)

@@ -6,13 +6,14 @@ use mathlib.Core.Path.{_≡_, sym, _∙_}
 use borrow.Author.Needs.{needs}
 use Rattle.tariff.specs.Fields.{stopFields}
 use Rattle.tariff.specs.Rules.{stopRight}
-use Rattle.tariff.proofs.Entries.{stop-tests, stop-due, stop-not-due}
+use Rattle.tariff.proofs.Entries.{stop-tests, stop-is-due, stop-not-due}
 use Rattle.tariff.proofs.scan.stop_entry.Statement.{statement}
 use Rattle.tariff.proofs.scan.stop_entry.Tie as tie
 
 stop-fields-requires : tie.Need-stop-fields-requires
 stop-fields-requires c κs =
-    let due = stop-tests (c .before .before .before .before .args .body) (c .before .before .before .before .args .so-far) (c .if1 .taken) in
+    let a = c .before .before .before .before .before .args in
+    let due = stop-tests (a .body) (a .so-far) (a .due) (c .if1 .taken) in
     omega arith
 
 stop-right-requires : tie.Need-stop-right-requires
@@ -21,19 +22,25 @@ stop-right-requires c κs = search needs
 -- what the two calls answer, taken together
 right :
     (c : tie.After-stop-right)
-    → stopRight (stopFields (c .before .before .before .before .before .before .args .b .now) (c .before .before .before .before .before .before .args .at))
-    (c .before .before .before .before .before .before .args .so-far .areas)
+    → stopRight (stopFields (c .before .before .before .before .before .before .before .args .b .now) (c .before .before .before .before .before .before .before .args .at))
+    (c .before .before .before .before .before .before .before .args .so-far .areas)
     ≡ c .stop-right .result
 right c = rw (c .stop-right .ensures, c .before .stop-fields .ensures)
 
 returns : tie.Need-returns
-returns c = sym (stop-due _ _ _ _ (c .before .before .before .if1 .taken) (right (c .before) ∙ c .if2 .taken))
+returns c =
+    let start = c .before .before .before .before .before .before .before .before in
+    sym (stop-is-due _ _ _ _ (start .args .due) (start .pre .0) (c .before .before .before .if1 .taken) (right (c .before) ∙ c .if2 .taken))
 
 returns-2 : tie.Need-returns-2
-returns-2 c = sym (stop-due _ _ _ _ (c .before .before .before .if1 .taken) (right (c .before) ∙ c .if2 .left))
+returns-2 c =
+    let start = c .before .before .before .before .before .before .before .before in
+    sym (stop-is-due _ _ _ _ (start .args .due) (start .pre .0) (c .before .before .before .if1 .taken) (right (c .before) ∙ c .if2 .left))
 
 returns-3 : tie.Need-returns-3
-returns-3 c = sym (stop-not-due _ _ _ _ (c .if1 .left))
+returns-3 c =
+    let start = c .before .before .before .before .before in
+    sym (stop-not-due _ _ _ _ (start .args .due) (start .pre .0) (c .if1 .left))
 
 pub stop-entry-spec : {M : Type 1} → statement M
 stop-entry-spec =
