@@ -47,14 +47,22 @@
 /* The book's length. */
 #define MILECOPPER_BOOK_BYTES 5428
 
-/* Charge records: the smallest has one charge, the largest MILECOPPER_MOST_CHARGES. */
-#define MILECOPPER_SMALLEST_RECORD_BYTES 17
-#define MILECOPPER_LARGEST_RECORD_BYTES 137
+/* Charge records: the smallest has one person, the largest MILECOPPER_MOST_PERSONS and MILECOPPER_MOST_BICYCLES. Each of
+ * them has a charge. */
+#define MILECOPPER_SMALLEST_RECORD_BYTES 26
+#define MILECOPPER_LARGEST_RECORD_BYTES 266
+#define MILECOPPER_MOST_PERSONS 21
 #define MILECOPPER_MOST_CHARGES 31
+
+/* What a record says of the cap that cut a person's charge: its area, and which of that area's two caps it is. */
+#define MILECOPPER_NO_CAP_AREA 255
+#define MILECOPPER_NO_CAP 0
+#define MILECOPPER_ALL_CLASSES_CAP 1
+#define MILECOPPER_SECOND_CLASS_CAP 2
 
 /* A trip is charged in one part or, where it is broken, in two, each with a charge record of its own. */
 #define MILECOPPER_MOST_PARTS 2
-#define MILECOPPER_LARGEST_STATEMENT_BYTES 274
+#define MILECOPPER_LARGEST_STATEMENT_BYTES 532
 
 /* Whom and what an account holder may take along on one trip. */
 #define MILECOPPER_MOST_ADULTS 10
@@ -188,7 +196,19 @@ static inline const char *milecopper_refusal_text(enum milecopper_refusal refusa
  * `record` is the start of a statement into which an accepted trip was settled. Where the trip was broken, the record
  * of its second part stands right behind that of the first, at `record + milecopper_record_bytes(record)`; the answer
  * says how many bytes there are in all. The charges stand in this order: the account holder, the adults, the children,
- * the bicycles, each as many as the trip carried. Money is in cents.
+ * the bicycles, each as many as the trip carried. The first of them are the persons'; a person's charge has a reduction
+ * beside it, and the cap that is named for it. Money is in cents. This goes through all charges:
+ *
+ *     unsigned persons = milecopper_record_persons(record);
+ *     unsigned i;
+ *     for (i = 0; i < milecopper_record_charges(record); i += 1) {
+ *         printf("%lu cents", (unsigned long)milecopper_record_charge(record, i));
+ *         if (i < persons && milecopper_record_reduction(record, i) > 0)
+ *             printf(", %lu less by %s of area %u", (unsigned long)milecopper_record_reduction(record, i),
+ *                    milecopper_cap_text(milecopper_record_cap_class(record, i)),
+ *                    milecopper_record_cap_area(record, i));
+ *         printf("\n");
+ *     }
  */
 
 /* The little-endian number of `width` bytes, at most 4, that starts at `bytes`. */
@@ -206,7 +226,7 @@ static inline uint32_t milecopper_number(const uint8_t *bytes, size_t width)
  * the trip is broken, which cannot be with two stops. */
 static inline size_t milecopper_record_bytes_for(unsigned adults, unsigned children, unsigned bicycles)
 {
-    return 17 + 4 * ((size_t)adults + children + bicycles);
+    return 26 + 10 * ((size_t)adults + children) + 4 * (size_t)bicycles;
 }
 
 /* The record's length in bytes. */
@@ -215,7 +235,8 @@ static inline size_t milecopper_record_bytes(const uint8_t *record)
     return 2 + (size_t)milecopper_number(record, 2);
 }
 
-/* The minute at which the trip's window opened, the same for both parts. Minute 0 is 2000-01-01 00:00; every day has 1,440 minutes. */
+/* The minute at which the trip's window opened, the same for both parts. Minute 0 is 2000-01-01 00:00; every day has
+ * 1,440 minutes. */
 static inline uint32_t milecopper_record_opening(const uint8_t *record)
 {
     return milecopper_number(record + 4, 4);
@@ -239,19 +260,78 @@ static inline unsigned milecopper_record_minutes(const uint8_t *record)
     return (unsigned)milecopper_number(record + 11, 2);
 }
 
+/* Whom and what the trip carried, besides the account holder. */
+static inline unsigned milecopper_record_adults(const uint8_t *record)
+{
+    return record[13];
+}
+
+static inline unsigned milecopper_record_children(const uint8_t *record)
+{
+    return record[14];
+}
+
+static inline unsigned milecopper_record_bicycles(const uint8_t *record)
+{
+    return record[15];
+}
+
+/* The number of persons, the account holder among them: 1 to MILECOPPER_MOST_PERSONS. */
+static inline unsigned milecopper_record_persons(const uint8_t *record)
+{
+    return 1 + milecopper_record_adults(record) + milecopper_record_children(record);
+}
+
 /* The number of charges: 1 to MILECOPPER_MOST_CHARGES. */
 static inline unsigned milecopper_record_charges(const uint8_t *record)
 {
-    return (unsigned)((milecopper_record_bytes(record) - 13) / 4);
+    return milecopper_record_persons(record) + milecopper_record_bicycles(record);
 }
 
-/* Charge number i in cents, counted from 0. `i` is below milecopper_record_charges(record). */
+/* Charge number i in cents, counted from 0: first the persons', then the bicycles'. `i` is below
+ * milecopper_record_charges(record). */
 static inline uint32_t milecopper_record_charge(const uint8_t *record, unsigned i)
 {
-    return milecopper_number(record + 13 + 4 * (size_t)i, 4);
+    unsigned persons = milecopper_record_persons(record);
+    size_t place = i < persons ? 16 + 10 * (size_t)i : 16 + 10 * (size_t)persons + 4 * (size_t)(i - persons);
+    return milecopper_number(record + place, 4);
 }
 
-/* The sum of the record's charges in cents. */
+/* What caps took off the price of person number i in cents, counted from 0: the price is the charge and this together.
+ * Here and in the two functions below `i` is below milecopper_record_persons(record). */
+static inline uint32_t milecopper_record_reduction(const uint8_t *record, unsigned i)
+{
+    return milecopper_number(record + 20 + 10 * (size_t)i, 4);
+}
+
+/* The number in the tariff of the area whose cap is named for that; MILECOPPER_NO_CAP_AREA if nothing was taken off. */
+static inline unsigned milecopper_record_cap_area(const uint8_t *record, unsigned i)
+{
+    return record[24 + 10 * (size_t)i];
+}
+
+/* Which cap of that area it is: MILECOPPER_SECOND_CLASS_CAP or MILECOPPER_ALL_CLASSES_CAP; MILECOPPER_NO_CAP if nothing
+ * was taken off. */
+static inline unsigned milecopper_record_cap_class(const uint8_t *record, unsigned i)
+{
+    return record[25 + 10 * (size_t)i];
+}
+
+/* A few words for what milecopper_record_cap_class gives. The text is constant and must not be freed. */
+static inline const char *milecopper_cap_text(unsigned cap_class)
+{
+    switch (cap_class) {
+    case MILECOPPER_NO_CAP:
+        return "no cap";
+    case MILECOPPER_ALL_CLASSES_CAP:
+        return "the all-classes cap";
+    case MILECOPPER_SECOND_CLASS_CAP:
+        return "the second-class cap";
+    }
+    return "no cap that the library names";
+}
+
+/* The sum of the record's charges in cents; reductions are not in it. */
 static inline uint32_t milecopper_record_total(const uint8_t *record)
 {
     uint32_t total = 0;

@@ -17,10 +17,11 @@ static void check(int well, const char *what)
 static void sizes(void)
 {
     check(MILECOPPER_BOOK_BYTES == 4 * (3 + 21 * 32 * 2 + MILECOPPER_MOST_BICYCLES), "the book");
-    check(MILECOPPER_MOST_CHARGES == 1 + MILECOPPER_MOST_ADULTS + MILECOPPER_MOST_CHILDREN + MILECOPPER_MOST_BICYCLES,
-          "the charges");
+    check(MILECOPPER_MOST_PERSONS == 1 + MILECOPPER_MOST_ADULTS + MILECOPPER_MOST_CHILDREN, "the persons");
+    check(MILECOPPER_MOST_CHARGES == MILECOPPER_MOST_PERSONS + MILECOPPER_MOST_BICYCLES, "the charges");
     check(milecopper_record_bytes_for(0, 0, 0) == MILECOPPER_SMALLEST_RECORD_BYTES, "the smallest record");
     check(milecopper_record_bytes_for(10, 10, 10) == MILECOPPER_LARGEST_RECORD_BYTES, "the largest record");
+    check(milecopper_record_bytes_for(1, 2, 3) == 16 + 10 * 4 + 4 * 3, "a record's length by its party");
     check(MILECOPPER_LARGEST_TRIP_BYTES == 4 + 18 + 2 * MILECOPPER_MOST_STOPS_IN_A_TRIP, "the largest trip");
     check(MILECOPPER_LARGEST_STATEMENT_BYTES == MILECOPPER_MOST_PARTS * MILECOPPER_LARGEST_RECORD_BYTES,
           "the largest statement");
@@ -30,9 +31,9 @@ static void sizes(void)
 
 static void answers(void)
 {
-    uint64_t accepted = 17;
+    uint64_t accepted = 26;
     uint64_t refused = ((uint64_t)3 << 32) + 29;
-    check(milecopper_accepted(accepted) && milecopper_bytes_written(accepted) == 17, "an accepted trip");
+    check(milecopper_accepted(accepted) && milecopper_bytes_written(accepted) == 26, "an accepted trip");
     check(milecopper_refusal_of(accepted) == MILECOPPER_NOT_REFUSED && milecopper_place(accepted) == 0, "no refusal");
     check(!milecopper_accepted(refused) && milecopper_bytes_written(refused) == 0, "a refused trip");
     check(milecopper_refusal_of(refused) == MILECOPPER_TARIFF_VALUE && milecopper_place(refused) == 29, "its refusal");
@@ -47,29 +48,53 @@ static void texts(void)
         for (other = 0; other < one; other += 1)
             check(strcmp(milecopper_refusal_text((enum milecopper_refusal)one),
                          milecopper_refusal_text((enum milecopper_refusal)other)) != 0, "two refusals with one text");
+    for (one = 0; one <= 3; one += 1)
+        for (other = 0; other < one; other += 1)
+            check(strcmp(milecopper_cap_text((unsigned)one), milecopper_cap_text((unsigned)other)) != 0,
+                  "two caps with one text");
 }
 
 static void records(void)
 {
-    /* Length 19, kind 4; opening 0x01020304, area 5, 0x0607 km, 0x0809 minutes; charges 258 and 70,000. */
-    static const uint8_t record[] = {19, 0, 4, 0, 4, 3, 2, 1, 5, 7, 6, 9, 8, 2, 1, 0, 0, 0x70, 0x11, 1, 0};
+    /* Length 56, kind 6; opening 0x01020304, area 5, 0x0607 km, 0x0809 minutes; an adult, a child, 3 bicycles. The holder
+     * is charged 258, and nothing was taken off; the adult 70,000, 65,537 less by area 31's second-class cap; the child 3,
+     * 1 less by the state's all-classes cap; the bicycles 400, 0 and 9. */
+    static const uint8_t record[] = {56, 0, 6, 0, 4, 3, 2, 1, 5, 7, 6, 9, 8, 1, 1, 3,
+                                     2, 1, 0, 0, 0, 0, 0, 0, 255, 0,
+                                     0x70, 0x11, 1, 0, 1, 0, 1, 0, 31, 2,
+                                     3, 0, 0, 0, 1, 0, 0, 0, 0, 1,
+                                     0x90, 1, 0, 0, 0, 0, 0, 0, 9, 0, 0, 0};
+    static const uint32_t charges[] = {258, 70000, 3, 400, 0, 9};
+    static const uint32_t reductions[] = {0, 65537, 1};
+    static const unsigned areas[] = {MILECOPPER_NO_CAP_AREA, 31, 0};
+    static const unsigned classes[] = {MILECOPPER_NO_CAP, MILECOPPER_SECOND_CLASS_CAP, MILECOPPER_ALL_CLASSES_CAP};
+    unsigned i;
     check(milecopper_record_bytes(record) == sizeof record, "a record's length");
     check(milecopper_record_opening(record) == 0x01020304, "a record's opening");
     check(milecopper_record_area(record) == 5, "a record's area");
     check(milecopper_record_km(record) == 0x0607, "a record's kilometres");
     check(milecopper_record_minutes(record) == 0x0809, "a record's minutes");
-    check(milecopper_record_charges(record) == 2, "the number of charges");
-    check(milecopper_record_charge(record, 0) == 258 && milecopper_record_charge(record, 1) == 70000, "the charges");
-    check(milecopper_record_total(record) == 70258, "their sum");
-    check(milecopper_statement_total(record, sizeof record) == 70258, "the sum of a statement with one record");
+    check(milecopper_record_adults(record) == 1 && milecopper_record_children(record) == 1, "those carried");
+    check(milecopper_record_bicycles(record) == 3, "the bicycles");
+    check(milecopper_record_persons(record) == 3 && milecopper_record_charges(record) == 6, "the number of charges");
+    check(milecopper_record_bytes_for(1, 1, 3) == sizeof record, "the length for its party");
+    for (i = 0; i < milecopper_record_charges(record); i += 1)
+        check(milecopper_record_charge(record, i) == charges[i], "a charge");
+    for (i = 0; i < milecopper_record_persons(record); i += 1) {
+        check(milecopper_record_reduction(record, i) == reductions[i], "a reduction");
+        check(milecopper_record_cap_area(record, i) == areas[i], "a cap's area");
+        check(milecopper_record_cap_class(record, i) == classes[i], "a cap's class");
+    }
+    check(milecopper_record_total(record) == 70670, "the sum of the charges");
+    check(milecopper_statement_total(record, sizeof record) == 70670, "the sum of a statement with one record");
     check(milecopper_number((const uint8_t *)"\xff\xff\xff\xff", 4) == 0xFFFFFFFFu, "the largest number");
 }
 
 /* Two records behind each other, walked as the header's example does. */
 static void two_records(void)
 {
-    static const uint8_t statement[] = {15, 0, 4, 0, 0, 0, 0, 0, 6, 21, 0, 70, 0, 14, 3, 0, 0,
-                                        15, 0, 4, 0, 0, 0, 0, 0, 6, 20, 0, 0, 0, 1, 3, 0, 0};
+    static const uint8_t statement[] = {24, 0, 6, 0, 0, 0, 0, 0, 6, 21, 0, 70, 0, 0, 0, 0, 14, 3, 0, 0, 0, 0, 0, 0, 255, 0,
+                                        24, 0, 6, 0, 0, 0, 0, 0, 6, 20, 0, 0, 0, 0, 0, 0, 1, 3, 0, 0, 13, 0, 0, 0, 6, 2};
     uint64_t answer = sizeof statement;
     const uint8_t *end = statement + milecopper_bytes_written(answer);
     const uint8_t *record;
@@ -79,6 +104,8 @@ static void two_records(void)
         check(milecopper_record_charges(record) == 1, "a record's charges among two");
         check(milecopper_record_minutes(record) == (seen == 1 ? 70u : 0u), "a part's minutes");
         check(milecopper_record_total(record) == (seen == 1 ? 782u : 769u), "a part's sum");
+        check(milecopper_record_reduction(record, 0) == (seen == 1 ? 0u : 13u), "a part's reduction");
+        check(milecopper_record_cap_area(record, 0) == (seen == 1 ? 255u : 6u), "the area of a part's cap");
     }
     check(seen == MILECOPPER_MOST_PARTS && record == end, "two records");
     check(milecopper_statement_total(statement, answer) == 1551, "the sum of both");

@@ -1,5 +1,5 @@
 /*
- * Settles a roll of trips on one account, starting from a fresh book, and says what each cost.
+ * Settles a roll of trips on one account, starting from a fresh book, and says what each cost and which cap cut it.
  *
  *     night TARIFF ROLL
  *
@@ -9,9 +9,6 @@
 
 #include <stdio.h>
 #include <stdlib.h>
-
-/* Where a trip record says who and what is carried. */
-enum { TRIP_ADULTS = 18, TRIP_CHILDREN = 19, TRIP_BICYCLES = 20 };
 
 struct bytes {
     uint8_t *start;
@@ -65,23 +62,37 @@ static void print_money(uint64_t cents)
     printf("%lu.%02lu euro", (unsigned long)(cents / 100), (unsigned long)(cents % 100));
 }
 
-/* Prints ", 2.30 euro for adult 1" and so on for `many` charges of the record, the first of them at `from`. */
-static void print_charges(const uint8_t *record, unsigned from, unsigned many, const char *who)
+/* Whose charge number i of the record is: "the account holder", "adult 1" and so on. */
+static void print_whose(const uint8_t *record, unsigned i)
 {
-    unsigned i;
-    for (i = 0; i < many; i += 1) {
-        printf(", ");
-        print_money(milecopper_record_charge(record, from + i));
-        printf(" for %s %u", who, i + 1);
-    }
+    unsigned adults = milecopper_record_adults(record);
+    unsigned persons = milecopper_record_persons(record);
+    if (i == 0)
+        printf("the account holder");
+    else if (i <= adults)
+        printf("adult %u", i);
+    else if (i < persons)
+        printf("child %u", i - adults);
+    else
+        printf("bicycle %u", i - persons + 1);
+}
+
+/* Prints " (7.00 euro less by the second-class cap of area 1)" where a cap cut charge number i of the record. */
+static void print_cut(const uint8_t *record, unsigned i)
+{
+    if (i >= milecopper_record_persons(record) || milecopper_record_reduction(record, i) == 0)
+        return;
+    printf(" (");
+    print_money(milecopper_record_reduction(record, i));
+    printf(" less by %s of area %u)", milecopper_cap_text(milecopper_record_cap_class(record, i)),
+           milecopper_record_cap_area(record, i));
 }
 
 /* What a part of a trip cost; `part` is 0 where the trip is in one. */
-static void print_part(unsigned number, unsigned part, const uint8_t *trip, const uint8_t *record)
+static void print_part(unsigned number, unsigned part, const uint8_t *record)
 {
-    unsigned adults = trip[TRIP_ADULTS];
-    unsigned children = trip[TRIP_CHILDREN];
-    unsigned bicycles = trip[TRIP_BICYCLES];
+    unsigned charges = milecopper_record_charges(record);
+    unsigned i;
 
     printf("Trip %u, ", number);
     if (part > 0)
@@ -89,18 +100,19 @@ static void print_part(unsigned number, unsigned part, const uint8_t *trip, cons
     printf("%u km and %u minutes in area %u, costs ", milecopper_record_km(record), milecopper_record_minutes(record),
            milecopper_record_area(record));
     print_money(milecopper_record_total(record));
-    if (milecopper_record_charges(record) > 1) {
-        printf(": ");
-        print_money(milecopper_record_charge(record, 0));
-        printf(" for the account holder");
-        print_charges(record, 1, adults, "adult");
-        print_charges(record, 1 + adults, children, "child");
-        print_charges(record, 1 + adults + children, bicycles, "bicycle");
+    if (charges == 1)
+        print_cut(record, 0);
+    for (i = 0; charges > 1 && i < charges; i += 1) {
+        printf("%s", i == 0 ? ": " : ", ");
+        print_money(milecopper_record_charge(record, i));
+        printf(" for ");
+        print_whose(record, i);
+        print_cut(record, i);
     }
     printf(".\n");
 }
 
-static void print_accepted(struct night *night, unsigned number, const uint8_t *trip, uint64_t answer)
+static void print_accepted(struct night *night, unsigned number, uint64_t answer)
 {
     const uint8_t *record = night->statement.start;
     const uint8_t *end = record + milecopper_bytes_written(answer);
@@ -110,7 +122,7 @@ static void print_accepted(struct night *night, unsigned number, const uint8_t *
     if (night->accepted == 0 || opening != night->opening)
         printf("A window opens at minute %lu.\n", (unsigned long)opening);
     for (; record < end; record += milecopper_record_bytes(record)) {
-        print_part(number, part, trip, record);
+        print_part(number, part, record);
         part += 1;
     }
     night->opening = opening;
@@ -136,7 +148,7 @@ static void settle(struct night *night, unsigned number, const uint8_t *trip, si
                                         trip, length,
                                         night->statement.start, night->statement.length);
     if (milecopper_accepted(answer))
-        print_accepted(night, number, trip, answer);
+        print_accepted(night, number, answer);
     else
         print_refused(night, number, answer);
 }

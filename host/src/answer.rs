@@ -98,7 +98,7 @@ mod tests {
     #[test]
     fn numbers_and_what_they_stand_for() {
         assert_eq!(Answer::of(0), None);
-        assert_eq!(Answer::of(17), Some(Answer::Accepted { bytes: 17 }));
+        assert_eq!(Answer::of(26), Some(Answer::Accepted { bytes: 26 }));
         assert_eq!(Answer::of(1 << 32), Some(Answer::Refused { refusal: Refusal::TariffBroken, place: 0 }));
         assert_eq!(Answer::of((3 << 32) + 29), Some(Answer::Refused { refusal: Refusal::TariffValue, place: 29 }));
         assert_eq!(Answer::of(12 << 32), Some(Answer::Refused { refusal: Refusal::NoRoom, place: 0 }));

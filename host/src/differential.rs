@@ -10,6 +10,7 @@ pub mod books;
 mod cases;
 mod chains;
 mod counts;
+mod cuts;
 mod damage;
 mod fields;
 mod guarded;

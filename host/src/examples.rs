@@ -7,8 +7,7 @@ use crate::differential::Settle;
 use crate::maker::bytes_of;
 use crate::maker::cases::{sections_of, Content, Section, Sort};
 use crate::model::book::BOOK_BYTES;
-use crate::model::charge::ChargeRecord;
-use crate::model::roll::LARGEST_STATEMENT;
+use crate::model::statement::{number_of, ChargeRecord, LARGEST_STATEMENT};
 use crate::numbers::number;
 
 /// The files, by name.
@@ -171,9 +170,16 @@ impl Desk {
     }
 }
 
-fn record_line(ChargeRecord { opening, area, km, minutes, charges }: &ChargeRecord) -> String {
-    let cents: Vec<String> = charges.iter().map(u64::to_string).collect();
-    format!("open {opening} area {area} km {km} min {minutes} cents {}", cents.join(" "))
+/// For each person the charge, what was taken off, and the area and class of the cap; for each bicycle the charge.
+fn record_line(record: &ChargeRecord) -> String {
+    let ChargeRecord { opening, area, km, minutes, charges, cuts, .. } = record;
+    let persons = charges.iter().zip(cuts).map(|(charge, cut)| {
+        let (area, class) = cut.cap.map_or((255, 0), |(area, class)| (area, number_of(class)));
+        format!(" {charge} off {} by {area} {class}", cut.reduction)
+    });
+    let bicycles = charges[cuts.len()..].iter().map(|charge| format!(" {charge}"));
+    let cents: String = persons.chain(bicycles).collect();
+    format!("open {opening} area {area} km {km} min {minutes} cents{cents}")
 }
 
 /// A book of one trip whose first bicycle's covering area is this one, counted from 1.

@@ -7,27 +7,32 @@
 //! - [`trip`]: the trip record;
 //! - [`parts`]: changes, and the parts in which a trip is charged;
 //! - [`fare`]: kilometres and the four price steps;
-//! - [`charge`]: windows, caps, charges, bicycles and the charge record;
+//! - [`caps`]: the caps of a ride, and which one is named;
+//! - [`charge`]: windows, charges and bicycles;
+//! - [`statement`]: the charge record;
 //! - [`roll`]: what the program prints.
 //!
 //! This file holds settling itself: the refusals in the order of their table, then the writing.
 
 pub mod book;
+pub mod caps;
 pub mod charge;
 pub mod clock;
 pub mod fare;
 pub mod parts;
 pub mod record;
 pub mod roll;
+pub mod statement;
 pub mod tariff;
 pub mod trip;
 
 use book::{Book, TRIPS_IN_A_WINDOW};
-use charge::{charges_of, window_for, ChargeRecord};
+use charge::{costs_of, window_for, Costs};
 use clock::MINUTES_IN_A_DAY;
 use fare::Ride;
 use parts::parts_of;
 pub use roll::settle_roll;
+use statement::ChargeRecord;
 pub use tariff::{read_tariff, Tariff};
 use trip::Trip;
 
@@ -88,10 +93,11 @@ fn outcome(tariff: &[u8], book: &[u8], trip: &[u8], room: usize) -> Result<(Book
     let mut charge_records = Vec::new();
     for part in &parts {
         let ride = Ride::of(&tariff, &trip, part);
-        let charges = charges_of(&tariff, &trip, &ride, &mut new_book);
+        let Costs { charges, cuts } = costs_of(&tariff, &trip, &ride, &mut new_book);
         new_book.count_trip(check_out);
-        let Ride { area, km, minutes, .. } = ride;
-        charge_records.push(ChargeRecord { opening: new_book.opening(), area, km, minutes, charges });
+        let (opening, Ride { area, km, minutes, .. }) = (new_book.opening(), ride);
+        let Trip { adults, children, bicycles, .. } = trip;
+        charge_records.push(ChargeRecord { opening, area, km, minutes, adults, children, bicycles, charges, cuts });
     }
     Ok((new_book, charge_records))
 }

@@ -5,7 +5,7 @@ use crate::library::milecopper_settle;
 use std::arch::asm;
 
 /// A call may take so many bytes.
-pub const LIMIT: usize = 1_024;
+pub const LIMIT: usize = 1_536;
 
 /// Whether a call can be made on another stack here.
 pub const IS_PAINTED: bool = cfg!(any(target_arch = "x86_64", target_arch = "aarch64"));

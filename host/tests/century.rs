@@ -11,7 +11,7 @@ const REFUSED_8: u64 = 8 << 32;
 /// The answer, and the opening and the minutes of the charge record.
 fn ride(settle: Settle, from: &str, to: &str) -> (u64, u64, u64) {
     let text = format!("trip {from} to {to} class 2 level 0 adults 0 children 0 bikes 0 stops 0 1");
-    let mut statement = [0; 17];
+    let mut statement = [0; 26];
     let answer = settle(TARIFF, &mut [0; 5_428], &bytes_of(&text).expect("a trip"), &mut statement);
     (answer, number(&statement[4..8]), number(&statement[11..13]))
 }
@@ -28,7 +28,7 @@ fn each_day(settle: Settle) {
                 let date = format!("{year}-{month}-{day}");
                 if let Some(eve) = eve {
                     let (from, to) = (format!("{eve} 23:50"), format!("{date} 00:15"));
-                    assert_eq!(ride(settle, &from, &to), (17, 1_440 * days - 10, 25), "from {from} to {to}");
+                    assert_eq!(ride(settle, &from, &to), (26, 1_440 * days - 10, 25), "from {from} to {to}");
                 }
                 eve = Some(date);
                 days += 1;

@@ -2,19 +2,29 @@
 
 use milecopper_host::maker::bytes_of;
 use milecopper_host::model::book::BOOK_BYTES;
-use milecopper_host::model::charge::ChargeRecord;
+use milecopper_host::model::caps::{CapClass, Cut};
 use milecopper_host::model::record::record_at;
-use milecopper_host::model::roll::LARGEST_STATEMENT;
 use milecopper_host::model::settle;
+use milecopper_host::model::statement::{ChargeRecord, LARGEST_STATEMENT};
 use milecopper_host::model::trip::Trip;
 
 fn euro(cents: u64) -> String {
     format!("{}.{:02} euro", cents / 100, cents % 100)
 }
 
+/// What is said of a person's cut.
+fn less(cut: &Cut) -> String {
+    let Some((area, class)) = cut.cap else { return String::new() };
+    let cap = match class {
+        CapClass::SecondClass => "the second-class cap",
+        CapClass::AllClasses => "the all-classes cap",
+    };
+    format!(" ({} less by {cap} of area {area})", euro(cut.reduction))
+}
+
 /// The sentence about an accepted trip or one of its parts; `which` says whose.
 fn accepted(which: &str, trip: &Trip, record: &ChargeRecord) -> String {
-    let ChargeRecord { area, km, minutes, charges, .. } = record;
+    let ChargeRecord { area, km, minutes, charges, cuts, .. } = record;
     let mut text = format!("{which}, {km} km and {minutes} minutes in area {area}, costs {}", euro(record.total()));
     let adults = (1..=trip.adults).map(|i| format!("adult {i}"));
     let children = (1..=trip.children).map(|i| format!("child {i}"));
@@ -22,10 +32,13 @@ fn accepted(which: &str, trip: &Trip, record: &ChargeRecord) -> String {
     let whom: Vec<String> =
         [String::from("the account holder")].into_iter().chain(adults).chain(children).chain(bicycles).collect();
     assert_eq!(whom.len(), charges.len());
+    let less = cuts.iter().map(less).chain((0..trip.bicycles).map(|_| String::new()));
     if charges.len() > 1 {
-        let parts: Vec<String> =
-            charges.iter().zip(whom).map(|(&cents, who)| format!("{} for {who}", euro(cents))).collect();
+        let all = charges.iter().zip(whom).zip(less);
+        let parts: Vec<String> = all.map(|((&cents, who), less)| format!("{} for {who}{less}", euro(cents))).collect();
         text += &format!(": {}", parts.join(", "));
+    } else {
+        text.extend(less);
     }
     text + ".\n"
 }

@@ -17,7 +17,7 @@ fn block(name: &str) -> Vec<u8> {
 /// The trip, settled on a fresh book, gives the record; the ride out and back gives two, and is two trips of its window.
 fn gives_the_records(settle: Settle) {
     for (trip, records, trips) in [("trip", "record", 1), ("ride-out-and-back", "two-records", 2)] {
-        let (mut book, mut statement) = ([0; 5_428], [0xaa; 274]);
+        let (mut book, mut statement) = ([0; 5_428], [0xaa; 532]);
         let records = block(records);
         let written = records.len();
         assert_eq!(settle(&block("tariff"), &mut book, &block(trip), &mut statement), written as u64);
@@ -27,15 +27,30 @@ fn gives_the_records(settle: Settle) {
     }
 }
 
+/// The ride out and back five times, the later ones at the first one's check-out: the last record is the one with a cut.
+fn gives_the_cut(settle: Settle) {
+    let (mut book, mut statement) = ([0; 5_428], [0; 532]);
+    let mut trip = block("ride-out-and-back");
+    let record = block("cut-record");
+    for _ in 0..5 {
+        assert_eq!(settle(&block("tariff"), &mut book, &trip, &mut statement), 2 * record.len() as u64);
+        trip.copy_within(10..16, 4);
+    }
+    assert_eq!(statement[record.len()..2 * record.len()], record);
+    assert_eq!(book[0], 10);
+}
+
 #[test]
 fn the_worked_example_by_the_model() {
     gives_the_records(settle_by_the_model);
+    gives_the_cut(settle_by_the_model);
 }
 
 #[cfg(feature = "library")]
 #[test]
 fn the_worked_example_by_the_library() {
     gives_the_records(milecopper_host::library::settle_to_number);
+    gives_the_cut(milecopper_host::library::settle_to_number);
 }
 
 #[test]
@@ -45,4 +60,11 @@ fn the_sample_that_is_printed() {
     let printed: Vec<&str> = README.lines().skip_while(|line| *line != "    trip area km min open cents").collect();
     let printed: Vec<&str> = printed.iter().map_while(|line| line.strip_prefix("    ")).collect();
     assert_eq!(settle_roll(tariff, roll).lines().collect::<Vec<&str>>(), printed);
+}
+
+/// The words of the C example, which tests/night.rs and c/check look at.
+#[test]
+fn the_night_in_words() {
+    let night: String = include_str!("../c/expected.txt").lines().map(|line| format!("    {line}\n")).collect();
+    assert!(README.contains(&format!("\n\n{night}\n")));
 }

@@ -10,6 +10,7 @@ use lib.ListN.{getD}
 use lib.Dec.{eqb}
 use Rattle.caps.proofs.Climb.{fold-related}
 use Rattle.caps.proofs.Charge.{charge-same}
+use Rattle.caps.proofs.Named.{name-class}
 use Rattle.tariff.specs.declared.Counts.{Counts}
 use Rattle.tariff.specs.Rules.{levelOf}
 use Rattle.tariff.specs.Areas.{parentOf, FaultlessTariff}
@@ -19,6 +20,7 @@ use Rattle.book.specs.declared.Window.{Window}
 use Rattle.book.specs.Words.{word, putWord, pairPlace, secondSum, allSum, firstChild, coverPlace, coverWord}
 use Rattle.book.specs.Windows.{inWindow}
 use Rattle.book.specs.Charging.{riderCharge, riderCharges, newCover, bicycleCharges, chargesOf}
+use Rattle.book.specs.Cuts.{riderCut, riderCuts, cutsOf}
 use Rattle.book.specs.Posting.{addHere, addUp, addList, coverBicycles, opened, withCharges, posted}
 use Rattle.book.proofs.Trees.{is-tree}
 
@@ -71,6 +73,34 @@ module _ {R : List ℕ → List ℕ → Type 0} {Known : ℕ → Type 0} (alike 
         riders-alike w w′ r false 0 (1 + ride .party .adults) (touches .adults),
         riders-alike w w′ r true firstChild (ride .party .children) (touches .children),
         bicycles-alike w w′ r (ride .party .bicycles) (touches .bicycles),
+      )
+
+  -- What was taken off, and by which cap, goes by the same words.
+  rider-cuts-alike :
+      (w w′ : List ℕ) → R w w′ → (child : Bool) (first count : ℕ) → ((i : ℕ) → i < count → KnownRider Known counts (first + i))
+      → riderCuts tariff counts w′ ride child first count ≡ riderCuts tariff counts w ride child first count
+  unfolding riderCuts riderCut riderCharge
+  rider-cuts-alike w w′ r child first zero known = refl
+  rider-cuts-alike w w′ r child first (suc count) known =
+      let own = known count (omega arith) in
+      let second : (x : ℕ) → x < counts .areas → secondSum w′ (first + count) x ≡ secondSum w (first + count) x =
+      λ x h. alike .same w w′ r _ (own x h .0) in
+      let all : (x : ℕ) → x < counts .areas → allSum w′ (first + count) x ≡ allSum w (first + count) x =
+      λ x h. alike .same w w′ r _ (own x h .1) in
+      rw (
+        rider-cuts-alike w w′ r child first count (λ i h. known i (omega arith)),
+        charge-same (is-tree t child) (secondSum w′ (first + count)) (allSum w′ (first + count)) (secondSum w (first + count))
+            (allSum w (first + count)) second all (ride .class) (ride .area) _ there,
+        name-class (is-tree t child) (secondSum w′ (first + count)) (allSum w′ (first + count)) (secondSum w (first + count))
+            (allSum w (first + count)) (ride .class) (λ two. second) all (ride .area) _ there,
+      )
+
+  pub cuts-alike : Touches Known counts ride → (w w′ : List ℕ) → R w w′ → cutsOf tariff counts w′ ride ≡ cutsOf tariff counts w ride
+  unfolding cutsOf
+  cuts-alike touches w w′ r =
+      rw (
+        rider-cuts-alike w w′ r false 0 (1 + ride .party .adults) (touches .adults),
+        rider-cuts-alike w w′ r true firstChild (ride .party .children) (touches .children),
       )
 
   -- ---- The book left behind.

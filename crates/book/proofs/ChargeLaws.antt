@@ -14,7 +14,10 @@ use lib.Dec.{eqb}
 use borrow.Author.Tests.{eq-eqb, ne-eqb}
 use Rattle.wire.proofs.Number.{sets-more}
 use Rattle.caps.specs.Tree.{foldUp, chargeIn}
-use Rattle.caps.proofs.Charge.{charge-smallest, charge-past}
+use Rattle.caps.specs.Named.{nameIn}
+use Rattle.caps.specs.Contracts.{nameOf as finalName}
+use Rattle.caps.proofs.Charge.{charge-smallest}
+use Rattle.caps.proofs.Named.{amount-past, name-past}
 use Rattle.tariff.specs.declared.Counts.{Counts}
 use Rattle.tariff.specs.Areas.{areaAt, Read, Smallest, FaultlessTariff}
 use Rattle.tariff.specs.Contracts.{FlatOf}
@@ -29,23 +32,34 @@ use Rattle.book.specs.Words.{secondSum, allSum, firstChild, coverPlace, 
 use Rattle.book.specs.Windows.{inWindow}
 use Rattle.book.specs.Caps.{treeOf}
 use Rattle.book.specs.Charging.{riderCharge, riderCharges, newCover, bicycleCharge, bicycleCharges, chargesOf}
-use Rattle.book.specs.Contracts.{Rideable, pendingIn, chainOf, chargeBy, NewCover, BicycleCharge, PartyAmounts}
+use Rattle.book.specs.declared.Cut.{Cut}
+use Rattle.book.specs.Cuts.{riderCut, riderCuts, cutsOf}
+use Rattle.book.specs.Contracts.{Rideable, pendingIn, chainOf, restBy, nameOf, reductionsOf, namesOf, NewCover, BicycleCharge, PartyAmounts}
 use Rattle.book.proofs.Trees.{is-tree}
 use Rattle.book.proofs.WordLaws.{word-fresh}
 use Rattle.book.proofs.SoundLaws.{SoundBook, sound-has}
 
--- A charge by the chain of an area is the charge in the tree, over the rider's sums with what they lack: in a region's chain the state stands
--- twice, and in its own three times.
-pub charge-by :
-    {t : List ℕ} {counts : Counts} → FaultlessTariff t counts → (w : List ℕ) (rider : ℕ) (child : Bool) (class a : ℕ) → a < counts .areas
-    → (earlier : Earlier) (paid amount : ℕ)
-    → chargeBy (chainOf t counts a child earlier) w rider class paid amount
-    ≡ chargeIn (treeOf t counts child) (λ x. secondSum w rider x + cond (pendingIn t counts earlier x) paid 0)
-    (λ x. allSum w rider x + cond (pendingIn t counts earlier x) paid 0) class a amount
-unfolding chargeBy foldUp
-charge-by f w rider child class a there earlier paid amount =
-    let tree = is-tree f child in
-    charge-past tree _ _ class a there 2 (tree .few-levels a there) amount
+-- A charge by the chain of an area is the charge in the tree, over the rider's sums with what they lack, and the cap named by it is the one
+-- named there: in a region's chain the state stands twice, and in its own three times.
+module _ {t : List ℕ} {counts : Counts} (f : FaultlessTariff t counts) (w : List ℕ) (rider : ℕ) (child : Bool) (class a : ℕ)
+    (there : a < counts .areas) (earlier : Earlier) (paid price : ℕ) where
+  pub charge-by :
+      restBy (chainOf t counts a child earlier) w rider class paid price .amount .0
+      ≡ chargeIn (treeOf t counts child) (λ x. secondSum w rider x + cond (pendingIn t counts earlier x) paid 0)
+      (λ x. allSum w rider x + cond (pendingIn t counts earlier x) paid 0) class a price
+  unfolding restBy foldUp
+  charge-by =
+      let tree = is-tree f child in
+      amount-past (treeOf t counts child) _ _ class tree a there 2 (tree .few-levels a there) price
+
+  pub name-by :
+      finalName price (restBy (chainOf t counts a child earlier) w rider class paid price)
+      ≡ nameIn (treeOf t counts child) (λ x. secondSum w rider x + cond (pendingIn t counts earlier x) paid 0)
+      (λ x. allSum w rider x + cond (pendingIn t counts earlier x) paid 0) class a price
+  unfolding restBy foldUp
+  name-by =
+      let tree = is-tree f child in
+      name-past (treeOf t counts child) _ _ class tree a there 2 (tree .few-levels a there) price
 
 -- A bicycle's new covering area is one of the tariff's.
 pub cover-there :
@@ -103,31 +117,37 @@ module _ (t : List ℕ) (counts : Counts) (a : ℕ) (read : Read t counts) (here
       omega (arith, f .area new (cover-there f a old here known) .bicycle-flat, area-flat t counts new)
 
 -- A list made one value after another.
-unfoldable pub listed : (ℕ → ℕ) → ℕ → List ℕ
+unfoldable pub listed : {A : Type 0} → (ℕ → A) → ℕ → List A
 listed f zero = []
 listed f (suc n) = listed f n ++ (f n ∷ [])
 
-pub listed-length : (f : ℕ → ℕ) (n : ℕ) → length (listed f n) ≡ n
+pub listed-length : {A : Type 0} (f : ℕ → A) (n : ℕ) → length (listed f n) ≡ n
 unfolding listed
 listed-length f zero = refl
 listed-length f (suc n) = omega (arith, length-append (listed f n) (f n ∷ []), listed-length f n)
 
-pub listed-at : (f : ℕ → ℕ) (n i : ℕ) → i < n → getD (listed f n) i 0 ≡ f i
+pub listed-at : {A : Type 0} (f : ℕ → A) (d : A) (n i : ℕ) → i < n → getD (listed f n) i d ≡ f i
 unfolding listed
-listed-at f zero i h = absurd (not-suc-le-zero h)
-listed-at f (suc n) i h =
+listed-at f d zero i h = absurd (not-suc-le-zero h)
+listed-at f d (suc n) i h =
     elim (ℕ-discrete i n) [
-      | yes e ↦ rw e (getD-at (listed f n) (f n) [] 0 n (listed-length f n))
+      | yes e ↦ rw e (getD-at (listed f n) (f n) [] d n (listed-length f n))
       | no ne ↦
           let before : i < n = omega arith in
-          List·getD-append (listed f n) (f n ∷ []) 0 i (omega (arith, listed-length f n)) ∙ listed-at f n i before
+          List·getD-append (listed f n) (f n ∷ []) d i (omega (arith, listed-length f n)) ∙ listed-at f d n i before
     ]
+
+-- values that are the same make the same list
+pub listed-same : {A : Type 0} (f g : ℕ → A) (n : ℕ) → ((i : ℕ) → i < n → f i ≡ g i) → listed f n ≡ listed g n
+unfolding listed
+listed-same f g zero same = refl
+listed-same f g (suc n) same = rw (listed-same f g n (λ i h. same i (omega arith)), same n (omega arith))
 
 -- what each value is at most, each element is; and so of two lists joined
 pub listed-most : (f : ℕ → ℕ) (n most : ℕ) → ((i : ℕ) → i < n → f i ≤ most) → (i : ℕ) → getD (listed f n) i 0 ≤ most
 listed-most f n most each i =
     elim (decLt i n) [
-      | yes there ↦ omega (arith, listed-at f n i there, each i there)
+      | yes there ↦ omega (arith, listed-at f 0 n i there, each i there)
       | no past ↦ omega (arith, List·getD-eq-default (listed f n) 0 {n = i} (omega (arith, listed-length f n)))
     ]
 
@@ -174,6 +194,44 @@ module _ (t : List ℕ) (counts : Counts) (w : List ℕ) (ride : Ride) where
   bicycles-listed zero = refl
   bicycles-listed (suc n) = rw (bicycles-listed n)
 
+-- The cuts of riders are such a list too, and so are their reductions and names.
+reductions-join : (cuts more : List Cut) → reductionsOf (cuts ++ more) ≡ reductionsOf cuts ++ reductionsOf more
+unfolding reductionsOf
+reductions-join [] more = refl
+reductions-join (cut ∷ cuts) more = ap (cut .reduction .0 ∷_) (reductions-join cuts more)
+
+names-join : (cuts more : List Cut) → namesOf (cuts ++ more) ≡ namesOf cuts ++ namesOf more
+unfolding namesOf
+names-join [] more = refl
+names-join (cut ∷ cuts) more = ap (nameOf cut ∷_) (names-join cuts more)
+
+pub reductions-length : (cuts : List Cut) → length (reductionsOf cuts) ≡ length cuts
+unfolding reductionsOf
+reductions-length [] = refl
+reductions-length (cut ∷ cuts) = ap suc (reductions-length cuts)
+
+pub names-length : (cuts : List Cut) → length (namesOf cuts) ≡ length cuts
+unfolding namesOf
+names-length [] = refl
+names-length (cut ∷ cuts) = ap suc (names-length cuts)
+
+pub reductions-listed : (f : ℕ → Cut) (n : ℕ) → listed (λ i. f i .reduction .0) n ≡ reductionsOf (listed f n)
+unfolding listed reductionsOf
+reductions-listed f zero = refl
+reductions-listed f (suc n) = rw (reductions-join (listed f n) (f n ∷ []), reductions-listed f n)
+
+pub names-listed : (f : ℕ → Cut) (n : ℕ) → listed (λ i. nameOf (f i)) n ≡ namesOf (listed f n)
+unfolding listed namesOf
+names-listed f zero = refl
+names-listed f (suc n) = rw (names-join (listed f n) (f n ∷ []), names-listed f n)
+
+pub cuts-listed :
+    (t : List ℕ) (counts : Counts) (w : List ℕ) (ride : Ride) (child : Bool) (first n : ℕ)
+    → listed (λ i. riderCut t counts w ride child (first + i)) n ≡ riderCuts t counts w ride child first n
+unfolding listed riderCuts
+cuts-listed t counts w ride child first zero = refl
+cuts-listed t counts w ride child first (suc n) = rw (cuts-listed t counts w ride child first n)
+
 -- In a sound book each bicycle's covering area is one of the tariff's, and in a new window no bicycle has one.
 pub cover-known :
     {b : List ℕ} {areas : ℕ} (current : Bool) → SoundBook b areas → (k : ℕ) → k < 10 → coverWord (inWindow current b) k ≤ areas
@@ -186,7 +244,7 @@ module _ (t : List ℕ) (counts : Counts) (w : List ℕ) (ride : Ride) (child : 
   riders-length = rw (← riders-listed t counts w ride child first count) (listed-length _ count)
 
   pub rider-at : (i : ℕ) → i < count → getD (riderCharges t counts w ride child first count) i 0 ≡ riderCharge t counts w ride child (first + i)
-  rider-at i h = rw (← riders-listed t counts w ride child first count) (listed-at _ count i h)
+  rider-at i h = rw (← riders-listed t counts w ride child first count) (listed-at _ 0 count i h)
 
 -- and so does each bicycle among the bicycles
 module _ (t : List ℕ) (counts : Counts) (w : List ℕ) (ride : Ride) (count : ℕ) where
@@ -194,7 +252,7 @@ module _ (t : List ℕ) (counts : Counts) (w : List ℕ) (ride : Ride) (count : 
   bicycles-length = rw (← bicycles-listed t counts w ride count) (listed-length _ count)
 
   pub bicycle-at : (i : ℕ) → i < count → getD (bicycleCharges t counts w ride count) i 0 ≡ bicycleCharge t counts (ride .area) (coverWord w i)
-  bicycle-at i h = rw (← bicycles-listed t counts w ride count) (listed-at _ count i h)
+  bicycle-at i h = rw (← bicycles-listed t counts w ride count) (listed-at _ 0 count i h)
 
 -- three lists joined, of which the first has n values and the second m
 module _ (xs ys zs : List ℕ) (n m : ℕ) (e : length xs ≡ n) (e′ : length ys ≡ m) where
@@ -264,6 +322,68 @@ module _ (t : List ℕ) (counts : Counts) (w : List ℕ) (ride : Ride) where
   bicycle-stands i h =
       at-third older children bicycles _ _ (riders-length t counts w ride false 0 _) (riders-length t counts w ride true firstChild _) i
       ∙ bicycle-at t counts w ride _ i h
+
+-- The cuts of a party: account holder and adults from 0 on, children from 1 + adults.
+module _ (t : List ℕ) (counts : Counts) (w : List ℕ) (ride : Ride) where
+  cut-count : (child : Bool) (first n : ℕ) → length (riderCuts t counts w ride child first n) ≡ n
+  cut-count child first n = rw (← cuts-listed t counts w ride child first n) (listed-length _ n)
+
+  cut-at :
+      (child : Bool) (first n : ℕ) (d : Cut) (i : ℕ) → i < n → getD (riderCuts t counts w ride child first n) i d ≡ riderCut t counts w ride child (first + i)
+  cut-at child first n d i h = rw (← cuts-listed t counts w ride child first n) (listed-at _ d n i h)
+
+  abbrev olderCuts : List Cut
+  olderCuts = riderCuts t counts w ride false 0 (1 + ride .party .adults)
+
+  abbrev childrenCuts : List Cut
+  childrenCuts = riderCuts t counts w ride true firstChild (ride .party .children)
+
+  pub cuts-length : length (cutsOf t counts w ride) ≡ 1 + ride .party .adults + ride .party .children
+  unfolding cutsOf
+  cuts-length =
+      omega (
+        arith,
+        length-append olderCuts childrenCuts,
+        cut-count false 0 (1 + ride .party .adults),
+        cut-count true firstChild (ride .party .children),
+      )
+
+  pub adult-cut-stands : (d : Cut) (i : ℕ) → i < 1 + ride .party .adults → getD (cutsOf t counts w ride) i d ≡ riderCut t counts w ride false i
+  unfolding cutsOf
+  adult-cut-stands d i h =
+      List·getD-append olderCuts childrenCuts d i (rw (cut-count false 0 (1 + ride .party .adults)) h)
+      ∙ cut-at false 0 (1 + ride .party .adults) d i h ∙ ap (riderCut t counts w ride false) (zero-add i)
+
+  pub child-cut-stands :
+      (d : Cut) (i : ℕ) → i < ride .party .children
+      → getD (cutsOf t counts w ride) (1 + ride .party .adults + i) d ≡ riderCut t counts w ride true (firstChild + i)
+  unfolding cutsOf
+  child-cut-stands d i h =
+      ap (λ (n : ℕ). getD (olderCuts ++ childrenCuts) (n + i) d) (sym (cut-count false 0 (1 + ride .party .adults)))
+      ∙ getD-append-add olderCuts childrenCuts i d ∙ cut-at true firstChild (ride .party .children) d i h
+
+  -- the two parts, each stored behind the one before
+  stored-two :
+      (of : List Cut → List ℕ) → ((cuts more : List Cut) → of (cuts ++ more) ≡ of cuts ++ of more) → ((cuts : List Cut) → length (of cuts) ≡ length cuts)
+      → (l : List ℕ) {l₁ l₂ : List ℕ} → l₁ ≡ sets l 0 (of olderCuts) → l₂ ≡ sets l₁ (1 + ride .party .adults) (of childrenCuts)
+      → l₂ ≡ sets l 0 (of (cutsOf t counts w ride))
+  unfolding cutsOf
+  stored-two of join same l one two =
+      two
+      ∙ rw (one, join olderCuts childrenCuts)
+      (ap (λ (p : ℕ). sets (sets l 0 (of olderCuts)) p (of childrenCuts))
+      (omega (arith, same olderCuts, cut-count false 0 (1 + ride .party .adults)))
+      ∙ sets-more l 0 (of olderCuts) (of childrenCuts))
+
+  pub reductions-stored :
+      (l : List ℕ) {l₁ l₂ : List ℕ} → l₁ ≡ sets l 0 (reductionsOf olderCuts) → l₂ ≡ sets l₁ (1 + ride .party .adults) (reductionsOf childrenCuts)
+      → l₂ ≡ sets l 0 (reductionsOf (cutsOf t counts w ride))
+  reductions-stored = stored-two reductionsOf reductions-join reductions-length
+
+  pub names-stored :
+      (l : List ℕ) {l₁ l₂ : List ℕ} → l₁ ≡ sets l 0 (namesOf olderCuts) → l₂ ≡ sets l₁ (1 + ride .party .adults) (namesOf childrenCuts)
+      → l₂ ≡ sets l 0 (namesOf (cutsOf t counts w ride))
+  names-stored = stored-two namesOf names-join names-length
 
 -- A ride of a faultless tariff can be priced, and no price is above 3,790,000 cents: so no charge is.
 module _ {t : List ℕ} {counts : Counts} {b : List ℕ} {ride : Ride} (r : Rideable t counts b ride) where

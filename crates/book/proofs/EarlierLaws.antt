@@ -1,19 +1,20 @@
 -- What an earlier part of a trip leaves to charge the next part on: the same whether the part is in the book or its charges are only added
 -- to what is read. So both parts can be charged before anything is written, and posted one after the other.
 -- Assumes nothing.
-use Prim.Native.Nat.{ℕ, zero, suc, _+_, _-_, _*_, _^_, _≤_, _<_}
+use Prim.Native.Nat.{ℕ, _+_, _-_, _*_, _^_, _≤_, _<_}
 use native.Mathlib.Nat.{add-zero, zero-add, mul-le-mul-right}
 use native.Mathlib.Omega.{arith}
-use native.Mathlib.Decide.{ℕ-discrete}
 use mathlib.Core.Path.{_≡_, refl, sym, ap, _∙_}
 use mathlib.Core.Bool.{Bool, true, false, cond}
 use mathlib.Core.List.{List}
-use borrow.Author.Tests.{le-leb, le-ltb, lt-ltb, eq-eqb, ne-eqb}
+use borrow.Author.Tests.{le-leb, le-ltb, lt-ltb, eq-eqb}
 use lib.ListN.{length, getD}
-use Rattle.caps.specs.declared.Caps.{Caps}
-use Rattle.caps.specs.Limits.{cappedHere}
-use Rattle.caps.specs.Tree.{Tree, IsTree, chargeIn}
-use Rattle.caps.proofs.Climb.{fold-related}
+use Rattle.caps.specs.declared.Name.{Name}
+use Rattle.caps.specs.declared.Rest.{Rest}
+use Rattle.caps.specs.Named.{nameIn}
+use Rattle.caps.specs.Contracts.{nameOf as finalName}
+use Rattle.caps.proofs.Charge.{charge-class}
+use Rattle.caps.proofs.Named.{name-class}
 use Rattle.tariff.specs.declared.Area.{Area}
 use Rattle.tariff.specs.declared.Counts.{Counts}
 use Rattle.tariff.specs.Areas.{areaAt, liesWithin, FaultlessTariff}
@@ -30,6 +31,9 @@ use Rattle.book.specs.declared.limits.Chain.{Chain}
 use Rattle.book.specs.Words.{word, tripsOf, pairPlace, secondSum, allSum, firstChild, coverPlace, coverWord}
 use Rattle.book.specs.Windows.{inWindow}
 use Rattle.book.specs.Charging.{carries, placeOf, riderCharge, riderCharges, newCover, chargesOf}
+use Rattle.book.specs.declared.Cut.{Cut}
+use Rattle.book.specs.Caps.{treeOf}
+use Rattle.book.specs.Cuts.{riderCut, riderCuts, cutsOf}
 use Rattle.book.specs.Posting.{opened, posted, withRide, wordsAfter}
 use Rattle.book.specs.Contracts.{
   Rideable,
@@ -47,7 +51,11 @@ use Rattle.book.specs.Contracts.{
   ChainOf,
   FitsAt,
   FitsAlong,
-  chargeBy,
+  restBy,
+  cutBy,
+  nameOf,
+  reductionsOf,
+  namesOf,
   Chargeable,
   coverAfter,
   Postable,
@@ -56,8 +64,20 @@ use Rattle.book.proofs.WordLaws.{word-fresh, size-put, put-same}
 use Rattle.book.proofs.SoundLaws.{PairSound, SoundBook, sound-has}
 use Rattle.book.proofs.Trees.{is-tree, lies-within}
 use Rattle.book.proofs.SumLaws.{sumOf, counted, sum-by-words}
-use Rattle.book.proofs.ChargeLaws.{listed, charge-by, charges-length, charges-most, amount-at}
-use Rattle.book.proofs.AlikeBooks.{Alike, Touches, charges-alike, with-alike}
+use Rattle.book.proofs.ChargeLaws.{
+  listed,
+  listed-same,
+  charge-by,
+  name-by,
+  riders-listed,
+  cuts-listed,
+  reductions-listed,
+  names-listed,
+  charges-length,
+  charges-most,
+  amount-at,
+}
+use Rattle.book.proofs.AlikeBooks.{Alike, Touches, charges-alike, cuts-alike, with-alike}
 use Rattle.book.proofs.PostedLaws.{opened-size, opened-other, added, ownCharge, place-there, posted-trips, posted-sum, posted-cover}
 use Rattle.book.proofs.SoundAgain.{WindowRight, window-room, added-most, posted-sound}
 
@@ -108,6 +128,14 @@ module _ {tariff : List ℕ} {counts : Counts} {book : List ℕ} {ride : Ride} (
   charged-behind next there window checkout =
       sym (charges-alike sums-alike (faultless tariff counts (ok .read)) next there (touches counts next) _ _ (posted-words window checkout))
 
+  -- Its cuts are the same on both too.
+  pub cut-behind :
+      (next : Ride) → next .area < counts .areas → (window : Window) (checkout : ℕ)
+      → cutsOf tariff counts (posted tariff counts book window checkout ride) next
+      ≡ cutsOf tariff counts (wordsAfter tariff counts (inWindow (window .current) book) (Part ride)) next
+  cut-behind next there window checkout =
+      sym (cuts-alike sums-alike (faultless tariff counts (ok .read)) next there (touches counts next) _ _ (posted-words window checkout))
+
   -- ---- The words after a ride: each rider's sums with the rider's charge, and each bicycle's new covering area.
 
   module _ (current : Bool) (room : current ≡ true → tripsOf book ≤ 255) where
@@ -130,27 +158,6 @@ module _ {tariff : List ℕ} {counts : Counts} {book : List ℕ} {ride : Ride} (
     with-cover k h = posted-words anyWindow 0 .words (coverPlace k) (omega arith) ∙ posted-cover ok anyWindow 0 room k h
 
 -- ---- Pending charges.
-
--- the caps of an area look at the second-class sum in class 2 alone
-here-same :
-    (caps : Caps) (class second all amount second′ all′ amount′ : ℕ) → (class ≡ 2 → second ≡ second′) → all ≡ all′ → amount ≡ amount′
-    → cappedHere caps class second all amount ≡ cappedHere caps class second′ all′ amount′
-unfolding cappedHere
-here-same caps class second all amount second′ all′ amount′ same same′ e =
-    elim (ℕ-discrete class 2) [
-      | yes two ↦ rw (same two, same′, e)
-      | no other ↦ rw (ne-eqb class 2 other, same′, e)
-    ]
-
--- so the charge goes by the sums of the class alone
-charge-class :
-    {t : Tree} → IsTree t → (second all second′ all′ : ℕ → ℕ) (class : ℕ) → (class ≡ 2 → (x : ℕ) → x < t .size → second x ≡ second′ x)
-    → ((x : ℕ) → x < t .size → all x ≡ all′ x) → (a amount : ℕ) → a < t .size
-    → chargeIn t second all class a amount ≡ chargeIn t second′ all′ class a amount
-unfolding chargeIn
-charge-class {t} tree second all second′ all′ class same same′ a amount there =
-    fold-related (t .parent) (t .size) (tree .parent-there) _ _ (λ x y. x ≡ y)
-    (λ b h x y e. here-same (t .caps b) class _ _ x _ _ y (λ two. same two b h) (same′ b h) e) (t .level a) a there amount amount refl
 
 -- A sum that was read, made whole with what it lacks, fits its word.
 module _ {link : Link} {w : List ℕ} {rider paid place more : ℕ} (fits : FitsAt link w rider paid) (is : place ≡ pairPlace rider (link .area))
@@ -247,9 +254,16 @@ module _ {tariff : List ℕ} {counts : Counts} {book : List ℕ} {current : Bool
       → coverAfter tariff counts earlier (coverWord (inWindow current book) k) ≡ coverWord (wordsAfter tariff counts (inWindow current book) earlier) k
   cover-after = cover-by tariff counts book current ride earlier (r .before)
 
+-- a cut goes by the price, the charge and the name
+cut-same :
+    {price price′ charge charge′ : ℕ} {name name′ : Name} → price ≡ price′ → charge ≡ charge′ → name ≡ name′
+    → _≡_ {A = Cut} (record { reduction = record { 0 = price - charge }; area = name .area; class = name .class })
+    (record { reduction = record { 0 = price′ - charge′ }; area = name′ .area; class = name′ .class })
+cut-same e e′ e″ = rw (e, e′, e″)
+
 -- Riders who are charged with what they paid for an earlier part.
-module _ {tariff : List ℕ} {counts : Counts} {book : List ℕ} {current : Bool} {ride : Ride} {riders : Riders} {earlier : Earlier} {paid amounts : List ℕ}
-    (c : Chargeable tariff counts book current ride riders earlier paid amounts) where
+module _ {tariff : List ℕ} {counts : Counts} {book : List ℕ} {current : Bool} {ride : Ride} {riders : Riders} {earlier : Earlier}
+    {paid amounts reductions names : List ℕ} (c : Chargeable tariff counts book current ride riders earlier paid amounts reductions names) where
   right : FaultlessTariff tariff counts
   right = faultless tariff counts (c .ridden .rideable .read)
 
@@ -285,34 +299,76 @@ module _ {tariff : List ℕ} {counts : Counts} {book : List ℕ} {current : Bool
         top = link-fits i h child _ (places .top);
       })
 
-  -- Their charges by the chain of the ride's area are those on what the earlier part leaves.
-  pub riders-after :
-      {area : Area} {chain : Chain} {fare : ℕ} → area ≡ areaAt tariff counts (ride .area)
-      → chain ≡ chainOf tariff counts (ride .area) (riders .child) earlier → fare ≡ priceOf area ride (riders .child) → (n : ℕ) → n ≤ riders .count
-      → listed (λ i. chargeBy chain (inWindow current book) (riders .first + i) (ride .class) (getD paid (riders .from + i) 0) fare) n
-      ≡ riderCharges tariff counts (wordsAfter tariff counts (inWindow current book) earlier) ride (riders .child) (riders .first) n
-  unfolding listed riderCharge riderCharges
-  riders-after e e′ e″ zero some = refl
-  riders-after e e′ e″ (suc n) some =
-      rw (
-        riders-after e e′ e″ n (omega arith),
-        e″,
-        e,
-        e′,
-        charge-by right (inWindow current book) (riders .first + n) (riders .child) (ride .class) (ride .area) (c .ridden .rideable .area) earlier
-            (getD paid (riders .from + n) 0),
-        charge-class (is-tree right (riders .child)) _ _ (secondSum (wordsAfter tariff counts (inWindow current book) earlier) (riders .first + n))
-            (allSum (wordsAfter tariff counts (inWindow current book) earlier) (riders .first + n)) (ride .class)
-            (λ two x h. sums-after n (omega arith) true (eq-eqb (ride .class) 2 two) x h) (λ x h. sums-after n (omega arith) false refl x h)
-            (ride .area) _ (c .ridden .rideable .area),
-      )
+  -- Their charges and cuts by the chain of the ride's area are those on what the earlier part leaves.
+  module _ {area : Area} {chain : Chain} {fare : ℕ} (e : area ≡ areaAt tariff counts (ride .area))
+      (e′ : chain ≡ chainOf tariff counts (ride .area) (riders .child) earlier) (e″ : fare ≡ priceOf area ride (riders .child)) where
+    abbrev after : List ℕ
+    after = wordsAfter tariff counts (inWindow current book) earlier
+
+    abbrev restOf : ℕ → Rest
+    restOf i = restBy chain (inWindow current book) (riders .first + i) (ride .class) (getD paid (riders .from + i) 0) fare
+
+    rider-after : (i : ℕ) → i < riders .count → restOf i .amount .0 ≡ riderCharge tariff counts after ride (riders .child) (riders .first + i)
+    unfolding riderCharge
+    rider-after i h =
+        rw (
+          e″,
+          e,
+          e′,
+          charge-by right (inWindow current book) (riders .first + i) (riders .child) (ride .class) (ride .area) (c .ridden .rideable .area) earlier
+              (getD paid (riders .from + i) 0),
+          charge-class (is-tree right (riders .child)) _ _ (secondSum after (riders .first + i)) (allSum after (riders .first + i)) (ride .class)
+              (λ two x there. sums-after i h true (eq-eqb (ride .class) 2 two) x there) (λ x there. sums-after i h false refl x there)
+              (ride .area) _ (c .ridden .rideable .area),
+        )
+
+    name-after :
+        (i : ℕ) → i < riders .count
+        → finalName fare (restOf i)
+        ≡ nameIn (treeOf tariff counts (riders .child)) (secondSum after (riders .first + i)) (allSum after (riders .first + i)) (ride .class)
+        (ride .area) (priceOf (areaAt tariff counts (ride .area)) ride (riders .child))
+    name-after i h =
+        let price = priceOf (areaAt tariff counts (ride .area)) ride (riders .child) in
+        let is : fare ≡ price = e″ ∙ ap (λ (a : Area). priceOf a ride (riders .child)) e in
+        rw (is, e′)
+        (name-by right (inWindow current book) (riders .first + i) (riders .child) (ride .class) (ride .area) (c .ridden .rideable .area) earlier
+        (getD paid (riders .from + i) 0) price
+        ∙ name-class (is-tree right (riders .child)) _ _ (secondSum after (riders .first + i)) (allSum after (riders .first + i)) (ride .class)
+        (λ two x there. sums-after i h true (eq-eqb (ride .class) 2 two) x there) (λ x there. sums-after i h false refl x there) (ride .area)
+        price (c .ridden .rideable .area))
+
+    cut-after : (i : ℕ) → i < riders .count → cutBy fare (restOf i) ≡ riderCut tariff counts after ride (riders .child) (riders .first + i)
+    unfolding riderCut
+    cut-after i h =
+        let is : fare ≡ priceOf (areaAt tariff counts (ride .area)) ride (riders .child) = e″ ∙ ap (λ (a : Area). priceOf a ride (riders .child)) e in
+        cut-same is (rider-after i h) (name-after i h)
+
+    pub riders-after :
+        listed (λ i. restOf i .amount .0) (riders .count)
+        ≡ riderCharges tariff counts after ride (riders .child) (riders .first) (riders .count)
+    riders-after = listed-same _ _ (riders .count) rider-after ∙ riders-listed tariff counts after ride (riders .child) (riders .first) (riders .count)
+
+    cuts-after :
+        listed (λ i. cutBy fare (restOf i)) (riders .count) ≡ riderCuts tariff counts after ride (riders .child) (riders .first) (riders .count)
+    cuts-after = listed-same _ _ (riders .count) cut-after ∙ cuts-listed tariff counts after ride (riders .child) (riders .first) (riders .count)
+
+    pub reductions-after :
+        listed (λ i. cutBy fare (restOf i) .reduction .0) (riders .count)
+        ≡ reductionsOf (riderCuts tariff counts after ride (riders .child) (riders .first) (riders .count))
+    reductions-after = reductions-listed (λ i. cutBy fare (restOf i)) (riders .count) ∙ ap reductionsOf cuts-after
+
+    pub names-after :
+        listed (λ i. nameOf (cutBy fare (restOf i))) (riders .count)
+        ≡ namesOf (riderCuts tariff counts after ride (riders .child) (riders .first) (riders .count))
+    names-after = names-listed (λ i. cutBy fare (restOf i)) (riders .count) ∙ ap namesOf cuts-after
 
 -- The party's adults are such riders, and so are its children.
 module _ {tariff : List ℕ} {counts : Counts} {book : List ℕ} {current : Bool} {ride : Ride} {earlier : Earlier} {paid : List ℕ}
-    (r : Ridden tariff counts book current ride earlier) (p : Paid tariff counts (inWindow current book) earlier paid) (amounts : List ℕ)
-    (full : length amounts ≡ 31) where
+    (r : Ridden tariff counts book current ride earlier) (p : Paid tariff counts (inWindow current book) earlier paid)
+    (amounts reductions names : List ℕ) (full : length amounts ≡ 31) (full′ : length reductions ≡ 21) (full″ : length names ≡ 21) where
   pub adults-chargeable :
       Chargeable tariff counts book current ride (record { child = false; first = 0; count = 1 + ride .party .adults; from = 0 }) earlier paid amounts
+      reductions names
   adults-chargeable =
       record {
         ridden = r;
@@ -320,6 +376,8 @@ module _ {tariff : List ℕ} {counts : Counts} {book : List ℕ} {current : Bool
         known = omega (arith, r .rideable .adults);
         few = omega (arith, r .rideable .adults);
         places = omega (arith, r .rideable .adults);
+        reduction-places = omega (arith, r .rideable .adults);
+        name-places = omega (arith, r .rideable .adults);
         carried = λ i h. rw (zero-add i, le-ltb 10 i (omega (arith, r .rideable .adults)), le-leb i (ride .party .adults) (omega arith));
         placed = λ i h. rw (zero-add i, le-ltb 10 i (omega (arith, r .rideable .adults)));
       }
@@ -327,6 +385,7 @@ module _ {tariff : List ℕ} {counts : Counts} {book : List ℕ} {current : Bool
   pub children-chargeable :
       Chargeable tariff counts book current ride
       (record { child = true; first = firstChild; count = ride .party .children; from = 1 + ride .party .adults }) earlier paid amounts
+      reductions names
   children-chargeable =
       record {
         ridden = r;
@@ -334,6 +393,8 @@ module _ {tariff : List ℕ} {counts : Counts} {book : List ℕ} {current : Bool
         known = omega (arith, r .rideable .children);
         few = omega (arith, r .rideable .adults, r .rideable .children);
         places = omega (arith, r .rideable .adults, r .rideable .children);
+        reduction-places = omega (arith, r .rideable .adults, r .rideable .children);
+        name-places = omega (arith, r .rideable .adults, r .rideable .children);
         carried = λ i h. rw (lt-ltb 10 (firstChild + i) (omega arith), back i, lt-ltb i (ride .party .children) h);
         placed = λ i h. rw (lt-ltb 10 (firstChild + i) (omega arith), back i);
       }

@@ -14,3 +14,4 @@ pub mod GoodRides
 pub mod InWords
 pub mod BookWords
 pub mod EarlierLaws
+pub mod CutLaws

@@ -1,12 +1,13 @@
 -- What the functions ask of their callers and promise them beside the definitions. A reader of the rules needs none of it.
-use Prim.Native.Nat.{ℕ, _+_, _*_, _^_, _≤_, _<_}
+use Prim.Native.Nat.{ℕ, _+_, _-_, _*_, _^_, _≤_, _<_}
 use mathlib.Core.Path.{_≡_}
-use mathlib.Core.List.{List}
+use mathlib.Core.List.{List, [], _∷_}
 use mathlib.Core.Bool.{Bool, true, false, cond}
 use lib.ListN.{length, getD, take}
 use lib.Seq.{sets}
 use Rattle.units.specs.Day.{dayMinutes}
-use Rattle.caps.specs.Limits.{cappedHere}
+use Rattle.caps.specs.declared.Rest.{Rest}
+use Rattle.caps.specs.Contracts.{restHere, uncappedAt, nameOf as finalName}
 use Rattle.tariff.specs.declared.Counts.{Counts}
 use Rattle.tariff.specs.Areas.{Read, areaAt, parentOf, liesWithin}
 use Rattle.fare.specs.declared.Ride.{Ride}
@@ -16,6 +17,7 @@ use Rattle.book.specs.declared.Riders.{Riders}
 use Rattle.book.specs.declared.Window.{Window}
 use Rattle.book.specs.declared.Earlier.{Earlier}
 use Rattle.book.specs.declared.Earlier.the-variants.{Nothing, Part}
+use Rattle.book.specs.declared.Cut.{Cut}
 use Rattle.book.specs.declared.limits.Link.{Link}
 use Rattle.book.specs.declared.limits.Chain.{Chain}
 use Rattle.book.specs.Words.{bookSize, freshBook, word, tripsOf, secondSum, allSum, coverWord}
@@ -23,6 +25,7 @@ use Rattle.book.specs.Sound.{sound}
 use Rattle.book.specs.Windows.{inWindow}
 use Rattle.book.specs.Caps.{capsHere}
 use Rattle.book.specs.Charging.{carries, placeOf, riderCharges, newCover, bicycleCharge, bicycleCharges, chargesOf}
+use Rattle.book.specs.Cuts.{riderCuts, cutsOf}
 use Rattle.book.specs.Posting.{addList}
 
 -- a word of the book
@@ -123,37 +126,68 @@ pub record FitsAlong (chain : Chain) (w : List ℕ) (rider paid : ℕ) : Type 0 
   pub above : FitsAt (chain .above) w rider paid
   pub top : FitsAt (chain .top) w rider paid
 
--- the smallest of an amount and what the caps of one area of a chain have left for a rider. What the sums lack is added to both: class 1 does
--- not look at second-class sums
-abbrev pub cappedAtLink : Link → List ℕ → ℕ → ℕ → ℕ → ℕ → ℕ
-cappedAtLink link w rider class paid amount =
-    cappedHere (link .caps) class (secondSum w rider (link .area) + lackingAt link paid) (allSum w rider (link .area) + lackingAt link paid) amount
+-- what the caps of one area of a chain leave a rider of a rest. What the sums lack is added to both: class 1 does not look at second-class
+-- sums
+abbrev pub restAtLink : Link → List ℕ → ℕ → ℕ → ℕ → Rest → Rest
+restAtLink link w rider class paid rest =
+    restHere (link .caps) (link .area) class (secondSum w rider (link .area) + lackingAt link paid)
+    (allSum w rider (link .area) + lackingAt link paid) rest
 
--- the same of all three. For the chain of an area this is the charge in the tree (ChargeLaws: charge-by)
-unfoldable pub chargeBy : Chain → List ℕ → ℕ → ℕ → ℕ → ℕ → ℕ
-chargeBy chain w rider class paid amount =
-    cappedAtLink (chain .top) w rider class paid
-    (cappedAtLink (chain .above) w rider class paid (cappedAtLink (chain .own) w rider class paid amount))
+-- the same of all three. For the chain of an area this is the charge in the tree, and the cap that is named there (ChargeLaws: charge-by,
+-- name-by)
+unfoldable pub restBy : Chain → List ℕ → ℕ → ℕ → ℕ → ℕ → Rest
+restBy chain w rider class paid price =
+    restAtLink (chain .top) w rider class paid
+    (restAtLink (chain .above) w rider class paid (restAtLink (chain .own) w rider class paid (uncappedAt price)))
 
-pub record ChargeBy (chain : Chain) (w : List ℕ) (rider class paid price r : ℕ) : Type 0 where
-  pub value : r ≡ chargeBy chain w rider class paid price
-  pub range : r ≤ price
+pub record ChargeBy (chain : Chain) (w : List ℕ) (rider class paid price : ℕ) (r : Rest) : Type 0 where
+  pub value : r ≡ restBy chain w rider class paid price
+  pub range : r .amount .0 ≤ price
+
+-- what was taken off a price, and by which cap
+abbrev pub cutBy : ℕ → Rest → Cut
+cutBy price rest =
+    let name = finalName price rest in
+    record { reduction = record { 0 = price - rest .amount .0 }; area = name .area; class = name .class }
+
+-- a cut's area and class as one number of two bytes
+abbrev pub nameOf : Cut → ℕ
+nameOf cut = cut .area + 256 * cut .class
+
+-- a cut is at most a price; an area's number is a byte, and so is a class
+pub record CutRange (cut : Cut) : Type 0 where
+  pub reduction : cut .reduction .0 ≤ mostPrice
+  pub area : cut .area ≤ 255
+  pub class : cut .class ≤ 2
+
+-- cuts as a list of reductions and one of names
+unfoldable pub reductionsOf : List Cut → List ℕ
+reductionsOf [] = []
+reductionsOf (cut ∷ more) = cut .reduction .0 ∷ reductionsOf more
+
+unfoldable pub namesOf : List Cut → List ℕ
+namesOf [] = []
+namesOf (cut ∷ more) = nameOf cut ∷ namesOf more
 
 -- what charging riders asks: they are carried, and the amount of each has its place among the party's
-pub record Chargeable (tariff : List ℕ) (counts : Counts) (book : List ℕ) (current : Bool) (ride : Ride) (riders : Riders) (earlier : Earlier) (paid amounts : List ℕ) : Type 0 where
+pub record Chargeable (tariff : List ℕ) (counts : Counts) (book : List ℕ) (current : Bool) (ride : Ride) (riders : Riders) (earlier : Earlier) (paid amounts reductions names : List ℕ) : Type 0 where
   pub ridden : Ridden tariff counts book current ride earlier
   pub paid-before : Paid tariff counts (inWindow current book) earlier paid
   pub known : riders .first + riders .count ≤ 21
-  pub few : riders .from + riders .count ≤ 31
+  pub few : riders .from + riders .count ≤ 21
   pub places : riders .from + riders .count ≤ length amounts
+  pub reduction-places : riders .from + riders .count ≤ length reductions
+  pub name-places : riders .from + riders .count ≤ length names
   pub carried : (i : ℕ) → i < riders .count → carries (ride .party) (riders .first + i) ≡ true
   pub placed : (i : ℕ) → i < riders .count → placeOf (ride .party) (riders .first + i) ≡ riders .from + i
 
--- the party's amounts with riders' charges, or bicycles', stored among them
-abbrev pub withRiders : List ℕ → Counts → List ℕ → Ride → Riders → List ℕ → List ℕ
-withRiders tariff counts w ride riders amounts =
-    sets amounts (riders .from) (riderCharges tariff counts w ride (riders .child) (riders .first) (riders .count))
+-- the party's amounts, reductions and names with those of riders stored among them
+pub record RidersCharged (tariff : List ℕ) (counts : Counts) (w : List ℕ) (ride : Ride) (riders : Riders) (amounts reductions names amounts′ reductions′ names′ : List ℕ) : Type 0 where
+  pub charges : amounts′ ≡ sets amounts (riders .from) (riderCharges tariff counts w ride (riders .child) (riders .first) (riders .count))
+  pub cuts : reductions′ ≡ sets reductions (riders .from) (reductionsOf (riderCuts tariff counts w ride (riders .child) (riders .first) (riders .count)))
+  pub caps : names′ ≡ sets names (riders .from) (namesOf (riderCuts tariff counts w ride (riders .child) (riders .first) (riders .count)))
 
+-- the party's amounts with bicycles' charges stored among them
 abbrev pub withBicycles : List ℕ → Counts → List ℕ → Ride → ℕ → List ℕ → List ℕ
 withBicycles tariff counts w ride from amounts = sets amounts from (bicycleCharges tariff counts w ride (ride .party .bicycles))
 
@@ -161,6 +195,11 @@ withBicycles tariff counts w ride from amounts = sets amounts from (bicycleCharg
 abbrev pub AllCharged : List ℕ → Counts → List ℕ → Ride → List ℕ → List ℕ → ℕ → Type 0
 AllCharged tariff counts w ride before after r =
     (r ≡ length (chargesOf tariff counts w ride)) × (after ≡ sets before 0 (chargesOf tariff counts w ride))
+
+-- the persons' reductions and names stand at the start of theirs
+pub record AllCut (tariff : List ℕ) (counts : Counts) (w : List ℕ) (ride : Ride) (reductions names reductions′ names′ : List ℕ) : Type 0 where
+  pub cuts : reductions′ ≡ sets reductions 0 (reductionsOf (cutsOf tariff counts w ride))
+  pub caps : names′ ≡ sets names 0 (namesOf (cutsOf tariff counts w ride))
 
 -- a bicycle's word after an earlier part, by its word before
 unfoldable pub coverAfter : List ℕ → Counts → Earlier → ℕ → ℕ

@@ -8,13 +8,15 @@ use mathlib.Core.Bool.{true, cond}
 use lib.Dec.{eqb}
 use Rattle.units.specs.declared.Cents.{Cents}
 use Rattle.units.specs.declared.Cap.the-variants.{UpTo}
+use Rattle.caps.specs.Named.{NamedCap}
 use Rattle.tariff.specs.declared.Counts.{Counts}
 use Rattle.tariff.specs.Rules.{flatOf}
 use Rattle.tariff.specs.Areas.{areaAt, liesWithin}
 use Rattle.fare.specs.declared.Ride.{Ride}
 use Rattle.fare.specs.Prices.{priceOf}
 use Rattle.book.specs.Words.{secondSum, allSum}
-use Rattle.book.specs.Caps.{secondCap, allCap}
+use Rattle.book.specs.declared.Cut.{Cut}
+use Rattle.book.specs.Caps.{secondCap, allCap, treeOf}
 use Rattle.book.specs.Charging.{isChild}
 
 -- ---- The charge.
@@ -40,6 +42,16 @@ pub record ChargeSays (tariff : List ℕ) (counts : Counts) (w : List ℕ) (ride
   pub at-most-price : charge ≤ priceFor tariff counts ride rider
   pub at-most-left : (left : ℕ) → LeftByCap tariff counts w ride rider left → charge ≤ left
   pub one-of-them : (charge ≡ priceFor tariff counts ride rider) ⊎ LeftByCap tariff counts w ride rider charge
+
+-- ---- What caps took off. It makes up the price with the charge. Where that is nothing, no cap is named; else the one that left the least is,
+-- which is what is charged: of several the widest area's, and in one area the second-class cap (caps/Named: NamedCap).
+pub record CutSays (tariff : List ℕ) (counts : Counts) (w : List ℕ) (ride : Ride) (rider charge : ℕ) (cut : Cut) : Type 0 where
+  pub makes-up : charge + cut .reduction .0 ≡ priceFor tariff counts ride rider
+  pub none : cut .reduction .0 ≡ 0 → (cut .area ≡ 255) × (cut .class ≡ 0)
+  pub named :
+      0 < cut .reduction .0
+      → NamedCap (treeOf tariff counts (isChild rider)) (secondSum w rider) (allSum w rider) (ride .class) (ride .area) charge
+      (record { area = cut .area; class = cut .class })
 
 -- ---- Bicycles. `old` is a bicycle's word: 0 if unused, else 1 + its old covering area.
 

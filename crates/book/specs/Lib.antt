@@ -3,6 +3,7 @@ pub mod Sound
 pub mod Windows
 pub mod Caps
 pub mod Charging
+pub mod Cuts
 pub mod Posting
 pub mod Contracts
 pub mod InWords

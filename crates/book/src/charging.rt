@@ -2,6 +2,7 @@
 // of the trip goes before a ride, the ride is charged on what that part leaves, though the book does not have it yet: its charges are added
 // to the sums as they are read.
 use crate::Charge;
+use crate::Cut;
 use crate::Earlier;
 use crate::Riders;
 use crate::limits::Chain;
@@ -11,7 +12,10 @@ use crate::words::FIRST_CHILD;
 use crate::words::cover;
 use crate::words::get;
 use crate::words::pair;
+use caps::Rest;
 use caps::capped_here;
+use caps::name_of;
+use caps::uncapped;
 use fare::Ride;
 use fare::prices::price;
 use tariff::Counts;
@@ -27,7 +31,7 @@ ghost use Rattle.tariff.specs.Areas.{Read};
 ghost use Rattle.book.specs.Words.{bookSize, bookWords};
 ghost use Rattle.book.specs.Windows.{inWindow};
 ghost use Rattle.book.specs.Posting.{wordsAfter};
-ghost use Rattle.book.specs.Contracts.{Word, lackingAt, FitsAt, FitsAlong, cappedAtLink, ChargeBy, Ridden, Paid, Chargeable, withRiders, withBicycles, AllCharged, EarlierThere, CoverAfter, NewCover, BicycleCharge};
+ghost use Rattle.book.specs.Contracts.{Word, lackingAt, FitsAt, FitsAlong, restAtLink, ChargeBy, cutBy, nameOf, Ridden, Paid, Chargeable, RidersCharged, withBicycles, AllCharged, AllCut, EarlierThere, CoverAfter, NewCover, BicycleCharge};
 
 // A word of the book, which is 0 in a new window.
 fn get_in(book: &[u8], current: bool, place: usize) -> u32
@@ -44,8 +48,8 @@ fn lacking(link: Link, paid: Cents) -> Cents
     if link.pending { paid } else { Cents(0) }
 }
 
-// The smallest of an amount and what the caps of one area of a chain have left for a rider. What the sums lack is added to both: class 1
-// does not look at second-class sums.
+// What the caps of one area of a chain leave a rider of a rest. What the sums lack is added to both: class 1 does not look at second-class
+// sums.
 fn capped_at(
     book: &[u8],
     current: bool,
@@ -53,20 +57,21 @@ fn capped_at(
     link: Link,
     class: u8,
     paid: Cents,
-    amount: Cents,
-) -> Cents
+    rest: Rest,
+) -> Rest
     requires { ⌜ (length (now book) ≡ bookSize) × ((rider < 21) × FitsAt link (inWindow current (now book)) rider (paid .0)) ⌝ }
-    ensures { λ r. ⌜ (r .0 ≡ cappedAtLink link (inWindow current (now (book .entry))) rider class (paid .0) (amount .0)) × (r .0 ≤ amount .0) ⌝ }
+    ensures { λ r. ⌜ (r ≡ restAtLink link (inWindow current (now (book .entry))) rider class (paid .0) rest) × (r .amount .0 ≤ rest .amount .0) ⌝ }
 {
-    let place = pair(rider, link.area);
+    let at = link.area;
+    let place = pair(rider, at);
     let more = lacking(link, paid);
     let second = get_in(book, current, place) + more.0;
     let all = get_in(book, current, place + 1) + more.0;
     let caps = link.caps;
-    capped_here(caps, class, Cents(second), Cents(all), amount)
+    capped_here(caps, at as u8, class, Cents(second), Cents(all), rest)
 }
 
-// The smallest of a price and what the caps of its area and of every area above have left.
+// What the caps of a price's area and of every area above leave of it, and the cap that leaves the least.
 pub fn charge(
     book: &[u8],
     current: bool,
@@ -75,22 +80,42 @@ pub fn charge(
     class: u8,
     paid: Cents,
     price: Cents,
-) -> Charge
+) -> Rest
     requires { ⌜ (length (now book) ≡ bookSize) × ((rider < 21) × FitsAlong chain (inWindow current (now book)) rider (paid .0)) ⌝ }
-    ensures { λ r. ⌜ ChargeBy chain (inWindow current (now (book .entry))) rider class (paid .0) (price .0) (r .amount .0) ⌝ }
+    ensures { λ r. ⌜ ChargeBy chain (inWindow current (now (book .entry))) rider class (paid .0) (price .0) r ⌝ }
 {
     let own = chain.own;
     let above = chain.above;
     let top = chain.top;
-    let low = capped_at(book, current, rider, own, class, paid, price);
+    let whole = uncapped(price);
+    let low = capped_at(book, current, rider, own, class, paid, whole);
     let middle = capped_at(book, current, rider, above, class, paid, low);
-    Charge {
-        amount: capped_at(book, current, rider, top, class, paid, middle),
+    capped_at(book, current, rider, top, class, paid, middle)
+}
+
+// What was taken off a price, and by which cap.
+fn cut_of(price: Cents, rest: Rest) -> Cut
+    requires { ⌜ rest .amount .0 ≤ price .0 ⌝ }
+    ensures { λ r. ⌜ r ≡ cutBy (price .0) rest ⌝ }
+{
+    let amount = rest.amount;
+    let name = name_of(price, rest);
+    Cut {
+        reduction: Cents(price.0 - amount.0),
+        area: name.area,
+        class: name.class,
     }
 }
 
-// The charges of riders, into the party's amounts. What each paid for an earlier part stands at the same place; where nothing is earlier, no
-// area's sums lack it.
+// A cut's area and class as one number, the area first of its two bytes.
+fn number_of(cut: Cut) -> u16
+    ensures { λ r. ⌜ r ≡ nameOf cut ⌝ }
+{
+    cut.area as u16 + 256 * (cut.class as u16)
+}
+
+// The charges and cuts of riders, into the party's amounts, reductions and names. What each paid for an earlier part stands at the same place;
+// where nothing is earlier, no area's sums lack it.
 fn charge_riders(
     tariff: &[u8],
     counts: Counts,
@@ -101,9 +126,11 @@ fn charge_riders(
     earlier: Earlier,
     paid: &[u32],
     amounts: &mut [u32],
+    reductions: &mut [u32],
+    names: &mut [u16],
 )
-    requires { ⌜ Chargeable (now tariff) counts (now book) current ride riders earlier (now paid) (now amounts) ⌝ }
-    ensures { λ _. ⌜ now (amounts .exit) ≡ withRiders (now (tariff .entry)) counts (wordsAfter (now (tariff .entry)) counts (inWindow current (now (book .entry))) earlier) ride riders (now (amounts .entry)) ⌝ }
+    requires { ⌜ Chargeable (now tariff) counts (now book) current ride riders earlier (now paid) (now amounts) (now reductions) (now names) ⌝ }
+    ensures { λ _. ⌜ RidersCharged (now (tariff .entry)) counts (wordsAfter (now (tariff .entry)) counts (inWindow current (now (book .entry))) earlier) ride riders (now (amounts .entry)) (now (reductions .entry)) (now (names .entry)) (now (amounts .exit)) (now (reductions .exit)) (now (names .exit)) ⌝ }
 {
     let count = riders.count;
     if count == 0 {
@@ -118,9 +145,13 @@ fn charge_riders(
     let chain = chain_of(tariff, counts, at, child, earlier);
     for i in 0..count {
         let before = paid[from + i];
-        let one = charge(book, current, first + i, chain, class, Cents(before), fare);
-        let amount = one.amount;
+        let rest = charge(book, current, first + i, chain, class, Cents(before), fare);
+        let cut = cut_of(fare, rest);
+        let amount = rest.amount;
+        let reduction = cut.reduction;
         amounts[from + i] = amount.0;
+        reductions[from + i] = reduction.0;
+        names[from + i] = number_of(cut);
     }
 }
 
@@ -189,8 +220,8 @@ fn charge_bicycles(
     }
 }
 
-// The charges of a ride's whole party, in the record's order, at the start of the amounts. The answer is how many they are. Where a part of
-// the trip is earlier, `paid` starts with that part's charges.
+// The charges of a ride's whole party, in the record's order, at the start of the amounts, and the persons' cuts at the start of the reductions
+// and names. The answer is how many charges they are. Where a part of the trip is earlier, `paid` starts with that part's charges.
 pub fn charges_of(
     tariff: &[u8],
     counts: Counts,
@@ -200,9 +231,11 @@ pub fn charges_of(
     earlier: Earlier,
     paid: &[u32],
     amounts: &mut [u32],
+    reductions: &mut [u32],
+    names: &mut [u16],
 ) -> usize
-    requires { ⌜ Ridden (now tariff) counts (now book) current ride earlier × (Paid (now tariff) counts (inWindow current (now book)) earlier (now paid) × (length (now amounts) ≡ 31)) ⌝ }
-    ensures { λ r. ⌜ AllCharged (now (tariff .entry)) counts (wordsAfter (now (tariff .entry)) counts (inWindow current (now (book .entry))) earlier) ride (now (amounts .entry)) (now (amounts .exit)) r ⌝ }
+    requires { ⌜ Ridden (now tariff) counts (now book) current ride earlier × (Paid (now tariff) counts (inWindow current (now book)) earlier (now paid) × ((length (now amounts) ≡ 31) × ((length (now reductions) ≡ 21) × (length (now names) ≡ 21)))) ⌝ }
+    ensures { λ r. ⌜ AllCharged (now (tariff .entry)) counts (wordsAfter (now (tariff .entry)) counts (inWindow current (now (book .entry))) earlier) ride (now (amounts .entry)) (now (amounts .exit)) r × AllCut (now (tariff .entry)) counts (wordsAfter (now (tariff .entry)) counts (inWindow current (now (book .entry))) earlier) ride (now (reductions .entry)) (now (names .entry)) (now (reductions .exit)) (now (names .exit)) ⌝ }
 {
     let party = ride.party;
     let adults = 1 + party.adults as usize;
@@ -230,6 +263,8 @@ pub fn charges_of(
         earlier,
         paid,
         amounts,
+        reductions,
+        names,
     );
     charge_riders(
         tariff,
@@ -241,6 +276,8 @@ pub fn charges_of(
         earlier,
         paid,
         amounts,
+        reductions,
+        names,
     );
     charge_bicycles(
         tariff,

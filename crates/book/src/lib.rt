@@ -45,5 +45,13 @@ pub struct Charge {
     pub amount: Cents,
 }
 
+// What caps took off one person's price: how much, and the area and class of the cap that left the least. Class 2 is a second-class cap, 1
+// an all-classes cap; where nothing was taken off, the area is 255 and the class 0.
+pub struct Cut {
+    pub reduction: Cents,
+    pub area: u8,
+    pub class: u8,
+}
+
 // The most charges that a ride has: account holder, ten adults, ten children, ten bicycles.
 pub const MOST_CHARGES: usize = 31;

@@ -3,10 +3,12 @@
 use Prim.Native.Nat.{ℕ, _≤_, _<_}
 use native.Mathlib.Nat.{le-trans}
 use native.Mathlib.Omega.{arith}
-use native.Mathlib.Decide.{decLt}
+use native.Mathlib.Decide.{ℕ-discrete, decLt}
 use mathlib.Core.Path.{_≡_, refl}
 use mathlib.Core.Logic.{⊎-elim}
 use mathlib.Core.Bool.{true}
+use borrow.Author.Tests.{ne-eqb}
+use Rattle.caps.specs.declared.Caps.{Caps}
 use Rattle.caps.specs.Limits.{cappedHere, AtMost, Left}
 use Rattle.caps.specs.Tree.{foldUp, Tree, IsTree, climb, within, chargeIn, SmallestLeft}
 use Rattle.caps.proofs.Cut.{Fills, less-left, here-most, here-left, here-greatest, here-full, here-again}
@@ -95,12 +97,31 @@ module _ {t : Tree} (tree : IsTree t) (second all : ℕ → ℕ) (class : ℕ) w
   unfolding chargeIn
   charge-past = climb-past tree here (λ amount. here-again (t .caps 0) class (second 0) (all 0) amount)
 
+-- The caps of an area look at the second-class sum in class 2 alone.
+here-class :
+    (caps : Caps) (class second all amount second′ all′ amount′ : ℕ) → (class ≡ 2 → second ≡ second′) → all ≡ all′ → amount ≡ amount′
+    → cappedHere caps class second all amount ≡ cappedHere caps class second′ all′ amount′
+unfolding cappedHere
+here-class caps class second all amount second′ all′ amount′ same same′ e =
+    elim (ℕ-discrete class 2) [
+      | yes two ↦ rw (same two, same′, e)
+      | no other ↦ rw (ne-eqb class 2 other, same′, e)
+    ]
+
+-- So the charge goes by the sums of the class alone.
+pub charge-class :
+    {t : Tree} → IsTree t → (second all second′ all′ : ℕ → ℕ) (class : ℕ) → (class ≡ 2 → (x : ℕ) → x < t .size → second x ≡ second′ x)
+    → ((x : ℕ) → x < t .size → all x ≡ all′ x) → (a amount : ℕ) → a < t .size
+    → chargeIn t second all class a amount ≡ chargeIn t second′ all′ class a amount
+unfolding chargeIn
+charge-class {t} tree second all second′ all′ class same same′ a amount there =
+    fold-related (t .parent) (t .size) (tree .parent-there) _ _ (λ x y. x ≡ y)
+    (λ b h x y e. here-class (t .caps b) class _ _ x _ _ y (λ two. same two b h) (same′ b h) e) (t .level a) a there amount amount refl
+
 -- The charge goes by the sums alone.
 pub charge-same :
     {t : Tree} → IsTree t → (second all second′ all′ : ℕ → ℕ) → ((x : ℕ) → x < t .size → second x ≡ second′ x)
     → ((x : ℕ) → x < t .size → all x ≡ all′ x) → (class a amount : ℕ) → a < t .size
     → chargeIn t second all class a amount ≡ chargeIn t second′ all′ class a amount
-unfolding chargeIn
-charge-same {t} tree second all second′ all′ same same′ class a amount there =
-    fold-related (t .parent) (t .size) (tree .parent-there) _ _ (λ x y. x ≡ y)
-    (λ b h x y e. rw (e, same b h, same′ b h)) (t .level a) a there amount amount refl
+charge-same tree second all second′ all′ same same′ class a amount there =
+    charge-class tree second all second′ all′ class (λ two. same) same′ a amount there

@@ -170,6 +170,23 @@ module _ {t : Tree} (tree : IsTree t) where
   pub not-within-child : (a : ℕ) → a < t .size → 0 < t .level a → within t (t .parent a) a ≡ true → ⊥
   not-within-child a h low w = omega (arith, within-level (t .parent a) (tree .parent-there a h) a w, tree .parent-level a h low)
 
+  -- of the areas that an area lies within, each has a level of its own
+  pub within-one : (a : ℕ) → a < t .size → (x y : ℕ) → within t a x ≡ true → within t a y ≡ true → t .level x ≡ t .level y → x ≡ y
+  within-one =
+      upwards (λ a. (x y : ℕ) → within t a x ≡ true → within t a y ≡ true → t .level x ≡ t .level y → x ≡ y)
+      (λ a h top x y w w′ same. sym (top-alone a x top w) ∙ top-alone a y top w′)
+      λ a h low ih x y w w′ same.
+      let below : (z : ℕ) → within t (t .parent a) z ≡ true → t .level z < t .level a =
+      λ z v. omega (arith, within-level (t .parent a) (tree .parent-there a h) z v, tree .parent-level a h low) in
+      ⊎-elim
+      (λ (own : a ≡ x).
+      ⊎-elim (λ (own′ : a ≡ y). sym own ∙ own′)
+      (λ r. absurd (omega (arith, below y (r .1), ap (t .level) own, same))) (within-cases a y h w′))
+      (λ r.
+      ⊎-elim (λ (own′ : a ≡ y). absurd (omega (arith, below x (r .1), ap (t .level) own′, same))) (λ r′. ih x y (r .1) (r′ .1) same)
+      (within-cases a y h w′))
+      (within-cases a x h w)
+
   -- every area lies within the state
   pub within-state : (a : ℕ) → a < t .size → within t a 0 ≡ true
   within-state =

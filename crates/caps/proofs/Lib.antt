@@ -5,3 +5,5 @@ pub mod Children
 pub mod Charge
 pub mod Climb
 pub mod Cut
+pub mod Named
+pub mod NamedCaps

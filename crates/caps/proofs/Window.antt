@@ -1,13 +1,16 @@
 -- The promises about every window of a rider: no charge above its price, no cap ever passed, no cut without a full cap.
 -- Assumes nothing.
 use Prim.Native.Nat.{ℕ, _≤_, _<_}
-use mathlib.Core.Path.{_≡_, refl}
+use mathlib.Core.Path.{_≡_, refl, sym, subst}
 use mathlib.Core.Bool.{true, _&&_, and-eq-true-iff}
 use mathlib.Core.List.{List, [], _∷_, _++_, List·Memᴰ, List·Memᴰ·head, List·Memᴰ·tail}
-use borrow.Author.Tests.{eqb-true, eq-eqb}
+use native.Mathlib.Omega.{arith}
+use borrow.Author.Tests.{eqb-true, eq-eqb, ne-eqb}
 use lib.Dec.{eqb}
 use Rattle.caps.specs.Tree.{Tree, IsTree, within, SmallestLeft}
-use Rattle.caps.specs.Limits.{AtMost}
+use Rattle.caps.specs.declared.Name.{Name}
+use Rattle.caps.specs.Limits.{AtMost, Full}
+use Rattle.caps.specs.Named.{nameIn, CapHere, all-classes, second-class, CapLeft, NamedCap, capNamed, sumNamed}
 use Rattle.caps.specs.Rides.{
   ChargedRide,
   ChargedInTurn,
@@ -21,8 +24,9 @@ use Rattle.caps.specs.Rides.{
   second-full,
 }
 use Rattle.caps.proofs.Cut.{Fills, fills-all, fills-second, nothing-fits, counted-fits}
-use Rattle.caps.proofs.Climb.{within-state}
+use Rattle.caps.proofs.Climb.{within-state, within-there}
 use Rattle.caps.proofs.Charge.{charge-smallest, charge-full}
+use Rattle.caps.proofs.NamedCaps.{name-says, filled, full-unpassed}
 
 -- The rides up to any moment of a window are again so charged: what is proved of every charged list holds at every moment.
 pub earlier : {t : Tree} {es : List ChargedRide} (later : List ChargedRide) → ChargedInTurn t (later ++ es) → ChargedInTurn t es
@@ -75,6 +79,42 @@ module _ {t : Tree} (tree : IsTree t) where
           → Fills (t .caps x) (e .class) (secondTotal t x es) (allTotal t x es) (e .charge) → CapFull t e (e ∷ es)
       full x h w (fills-all f) = all-full x h w (rw w f)
       full x h w (fills-second two f) = second-full x h w two (rw (eq-eqb (e .class) 2 two, w) f)
+
+  -- one of its caps that had exactly the charge left is full with it
+  left-is-full :
+      {e : ChargedRide} {es : List ChargedRide} → ChargedInTurn t (e ∷ es) → {name : Name}
+      → CapLeft t (λ a. secondTotal t a es) (λ a. allTotal t a es) (e .class) (e .area) name (e .charge)
+      → Full (sumNamed (λ a. secondTotal t a (e ∷ es)) (λ a. allTotal t a (e ∷ es)) name) (capNamed t name)
+  unfolding allTotal secondTotal
+  left-is-full (more {e} {es} r there is) {name} cap =
+      go (cap .its) (no-cap-passed r (name .area) (within-there tree (e .area) there (name .area) (cap .inside)))
+    where
+      go :
+          CapHere (t .caps (name .area)) (e .class) (secondTotal t (name .area) es) (allTotal t (name .area) es) (name .class) (e .charge)
+          → AtMost (allTotal t (name .area) es) (t .caps (name .area) .all) × AtMost (secondTotal t (name .area) es) (t .caps (name .area) .second)
+          → Full (sumNamed (λ a. secondTotal t a (e ∷ es)) (λ a. allTotal t a (e ∷ es)) name) (capNamed t name)
+      go (all-classes most one cap-is value) kept =
+          rw (ne-eqb (name .class) 2 (λ two. omega (arith, one, two)), cap .inside)
+          (full-unpassed (t .caps (name .area) .all) (allTotal t (name .area) es) (e .charge) (kept .0)
+          (filled (t .caps (name .area) .all) (allTotal t (name .area) es) (e .charge) most cap-is value))
+      go (second-class most two of cap-is value) kept =
+          rw (eq-eqb (name .class) 2 two, eq-eqb (e .class) 2 of, cap .inside)
+          (full-unpassed (t .caps (name .area) .second) (secondTotal t (name .area) es) (e .charge) (kept .1)
+          (filled (t .caps (name .area) .second) (secondTotal t (name .area) es) (e .charge) most cap-is value))
+
+  -- The cap that is named for it is exactly full.
+  pub cut-names-full :
+      {e : ChargedRide} {es : List ChargedRide} → ChargedInTurn t (e ∷ es) → e .charge < e .price
+      → let name = nameIn t (λ a. secondTotal t a es) (λ a. allTotal t a es) (e .class) (e .area) (e .price) in
+      NamedCap t (λ a. secondTotal t a es) (λ a. allTotal t a es) (e .class) (e .area) (e .charge) name
+      × Full (sumNamed (λ a. secondTotal t a (e ∷ es)) (λ a. allTotal t a (e ∷ es)) name) (capNamed t name)
+  cut-names-full (more {e} {es} r there is) below =
+      let second : ℕ → ℕ = λ a. secondTotal t a es in
+      let all : ℕ → ℕ = λ a. allTotal t a es in
+      let says : NamedCap t second all (e .class) (e .area) (e .charge) (nameIn t second all (e .class) (e .area) (e .price)) =
+      subst (λ (c : ℕ). NamedCap t second all (e .class) (e .area) c (nameIn t second all (e .class) (e .area) (e .price))) (sym is)
+      (name-says tree second all (e .class) (e .area) there (e .price) (rw is at below)) in
+      (says, left-is-full (more r there is) (says .one-of-them))
 
   -- The state's all-classes total is the total of every charge.
   pub state-total : {es : List ChargedRide} → ChargedInTurn t es → allTotal t 0 es ≡ charges es

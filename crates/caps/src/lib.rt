@@ -1,16 +1,31 @@
 // Caps and what they have left. Nothing here knows of bytes, tariffs or how a price is made.
 use units::Cap;
 use units::Cents;
-use units::capped;
 ghost use mathlib.Core.Path.{_≡_};
 ghost use Prim.Native.Nat.{_≤_};
-ghost use Rattle.caps.specs.Limits.{leftOf, cappedHere};
+ghost use Rattle.caps.specs.Limits.{leftOf};
+ghost use Rattle.caps.specs.Contracts.{restUnder, restHere, uncappedAt, nameOf};
 
 // An area's second-class cap and its all-classes cap, for an adult or a child.
 pub struct Caps {
     pub second: Cap,
     pub all: Cap,
 }
+
+// The name of a cap: its area, and 2 for a second-class cap, 1 for an all-classes cap. No cap is area 255 and class 0.
+pub struct Name {
+    pub area: u8,
+    pub class: u8,
+}
+
+// What the caps looked at so far leave of a price, and the one that leaves the least.
+pub struct Rest {
+    pub amount: Cents,
+    pub name: Name,
+}
+
+// Area numbers end at 31.
+const NO_AREA: u8 = 255;
 
 // What a cap has left over a sum: 0 if passed already.
 fn left_of(cap: Cap, sum: Cents) -> Cap
@@ -28,16 +43,67 @@ fn left_of(cap: Cap, sum: Cents) -> Cap
     }
 }
 
-// The smallest of an amount and what an area's caps have left: both of them in class 2, the all-classes one in class 1.
-pub fn capped_here(caps: Caps, class: u8, second: Cents, all: Cents, amount: Cents) -> Cents
-    ensures { λ r. ⌜ (r .0 ≡ cappedHere caps class (second .0) (all .0) (amount .0)) × (r .0 ≤ amount .0) ⌝ }
+// A cap that leaves no more than the least so far takes the name: so of caps that leave equally little the one that is looked at last keeps it.
+fn under(rest: Rest, left: Cap, area: u8, class: u8) -> Rest
+    ensures { λ r. ⌜ (r ≡ restUnder rest left area class) × (r .amount .0 ≤ rest .amount .0) ⌝ }
+{
+    let amount = rest.amount;
+    match left {
+        Cap::NoCap => rest,
+        Cap::UpTo(most) => {
+            if most.0 <= amount.0 {
+                Rest {
+                    amount: most,
+                    name: Name {
+                        area: area,
+                        class: class,
+                    },
+                }
+            } else {
+                rest
+            }
+        }
+    }
+}
+
+// What an area's caps leave of a rest: both of them in class 2, the all-classes one in class 1. The second-class cap is looked at last.
+pub fn capped_here(caps: Caps, area: u8, class: u8, second: Cents, all: Cents, rest: Rest) -> Rest
+    ensures { λ r. ⌜ (r ≡ restHere caps area class (second .0) (all .0) rest) × (r .amount .0 ≤ rest .amount .0) ⌝ }
 {
     let second_cap = caps.second;
     let all_cap = caps.all;
-    let rest = capped(amount, left_of(all_cap, all));
+    let low = under(rest, left_of(all_cap, all), area, 1);
     if class == 2 {
-        capped(rest, left_of(second_cap, second))
+        under(low, left_of(second_cap, second), area, 2)
     } else {
-        rest
+        low
+    }
+}
+
+// A price before any cap is looked at.
+pub fn uncapped(price: Cents) -> Rest
+    ensures { λ r. ⌜ r ≡ uncappedAt (price .0) ⌝ }
+{
+    Rest {
+        amount: price,
+        name: Name {
+            area: NO_AREA,
+            class: 0,
+        },
+    }
+}
+
+// The cap that took something off a price, once all of its caps have been looked at.
+pub fn name_of(price: Cents, rest: Rest) -> Name
+    ensures { λ r. ⌜ r ≡ nameOf (price .0) rest ⌝ }
+{
+    let amount = rest.amount;
+    if amount.0 == price.0 {
+        Name {
+            area: NO_AREA,
+            class: 0,
+        }
+    } else {
+        rest.name
     }
 }

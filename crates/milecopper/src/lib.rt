@@ -19,7 +19,7 @@ fn encoded(answer: Answer) -> u64
 }
 
 // Settles a trip: its charge records, one or two, go to the start of the statement, and the book is brought up to date.
-// Accepted: the number of bytes written, at most 274. Refused: the refusal's number × 2^32 + its place, and neither slice is touched.
+// Accepted: the number of bytes written, at most 532. Refused: the refusal's number × 2^32 + its place, and neither slice is touched.
 #[no_mangle]
 pub extern "C" fn milecopper_settle(
     tariff: &[u8],

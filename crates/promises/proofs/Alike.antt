@@ -1,4 +1,5 @@
--- Books the same in every word but the opening minute and the last check-out: a ride is charged the same on both, and leaves two such books.
+-- Books the same in every word but the opening minute and the last check-out: a ride is charged the same on both, with the
+-- same cuts, and leaves two such books.
 -- Assumes nothing.
 use Prim.Native.Nat.{ℕ, _+_, _*_, _≤_, _<_}
 use native.Mathlib.Omega.{arith}
@@ -15,9 +16,16 @@ use Rattle.book.specs.declared.Window.{Window}
 use Rattle.book.specs.Words.{freshBook, word, putWord}
 use Rattle.book.specs.Windows.{inWindow}
 use Rattle.book.specs.Charging.{chargesOf}
+use Rattle.book.specs.Cuts.{cutsOf}
 use Rattle.book.specs.Posting.{opened, posted}
 use Rattle.book.proofs.WordLaws.{size-put, word-put-other}
-use Rattle.book.proofs.AlikeBooks.{Alike, Touches, charges-alike as charges-by-words, posted-alike as posted-by-words}
+use Rattle.book.proofs.AlikeBooks.{
+  Alike,
+  Touches,
+  charges-alike as charges-by-words,
+  cuts-alike as cuts-by-words,
+  posted-alike as posted-by-words,
+}
 use Rattle.promises.specs.Moved.{SameWords}
 
 -- a word put in two books of one length leaves the words the same that were
@@ -85,6 +93,10 @@ module _ {tariff : List ℕ} {counts : Counts} (t : FaultlessTariff tariff count
   -- A ride's charges go by the sums and covering areas alone.
   pub charges-same : (w w′ : List ℕ) → SameWords w w′ → chargesOf tariff counts w′ ride ≡ chargesOf tariff counts w ride
   charges-same = charges-by-words words-alike t ride there (touches counts ride)
+
+  -- And so do its cuts.
+  pub cuts-same : (w w′ : List ℕ) → SameWords w w′ → cutsOf tariff counts w′ ride ≡ cutsOf tariff counts w ride
+  cuts-same = cuts-by-words words-alike t ride there (touches counts ride)
 
   -- A ride leaves two such books on two such books.
   pub posted-same :

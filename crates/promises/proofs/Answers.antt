@@ -1,14 +1,18 @@
 -- Refusals and acceptance: what each says, and that each is given exactly then; and that what comes back is determined.
 -- Assumes nothing.
 use Prim.Native.Nat.{ℕ, suc, _+_, _-_, _/_, _%_, _^_, _≤_, _<_}
+use native.Mathlib.Nat.{eq-zero-or-pos}
 use native.Mathlib.Omega.{arith}
 use mathlib.Core.Path.{_≡_, refl, sym, ap, subst, _∙_}
-use mathlib.Core.Logic.{_↔_, ⊎-elim}
+use mathlib.Core.Logic.{_↔_, _⊎_, ⊎-elim}
 use mathlib.Core.Bool.{true}
 use mathlib.Core.List.{List, [], _∷_, append-nil}
 use lib.ListN.{length, getD, length-append}
+use Rattle.caps.specs.Named.{CapHere, all-classes, second-class}
+use Rattle.caps.proofs.Climb.{within-there}
 use Rattle.tariff.specs.declared.Counts.{Counts}
 use Rattle.tariff.specs.Layout.{longestTariff}
+use Rattle.tariff.specs.Areas.{FaultlessTariff}
 use Rattle.tariff.specs.Scan.{Passed, FaultSays}
 use Rattle.tariff.specs.Scan as scan
 use Rattle.tariff.proofs.Faultless.{faultless}
@@ -29,26 +33,56 @@ use Rattle.fare.proofs.Breaks.{broken-says, unbroken-says, broken-between}
 use Rattle.fare.proofs.PartLaws.{one-ride, two-rides, few-rides}
 use Rattle.fare.proofs.GoodTrips.{riding}
 use Rattle.book.specs.declared.Window.{Window}
+use Rattle.book.specs.declared.Cut.{Cut}
 use Rattle.book.specs.Windows.{inWindow}
-use Rattle.book.specs.Words.{coverWord}
-use Rattle.book.specs.Charging.{carries, placeOf, chargesOf}
-use Rattle.book.specs.InWords.{ChargeSays, BicycleSays}
+use Rattle.book.specs.Words.{secondSum, allSum, coverWord}
+use Rattle.book.specs.Caps.{treeOf}
+use Rattle.book.specs.Charging.{isChild, carries, placeOf, chargesOf}
+use Rattle.book.specs.Cuts.{cutsOf}
+use Rattle.book.specs.InWords.{ChargeSays, CutSays, BicycleSays}
 use Rattle.book.specs.Contracts.{Rideable}
 use Rattle.book.specs.Posting.{posted}
 use Rattle.book.proofs.SoundLaws.{sound-has}
 use Rattle.book.proofs.SoundAgain.{WindowRight, window-right, posted-sound}
-use Rattle.book.proofs.ChargeLaws.{charges-length, adult-stands, child-stands, bicycle-stands, charges-most, cover-known}
+use Rattle.book.proofs.Trees.{is-tree}
+use Rattle.book.proofs.ChargeLaws.{
+  charges-length,
+  cuts-length,
+  adult-stands,
+  child-stands,
+  bicycle-stands,
+  adult-cut-stands,
+  child-cut-stands,
+  cover-known,
+}
+use Rattle.book.proofs.CutLaws.{cut-says, cut-one, cut-full, rider-cut-stands}
 use Rattle.book.proofs.PostedLaws.{place-there, rider-stands}
 use Rattle.book.proofs.InWords.{charge-says, bicycle-says}
 use Rattle.book.proofs.GoodRides.{good-ride, good-first, good-second, good-rides}
-use Rattle.statement.specs.Record.{Part, sizeWith, recordSize, recordOf, statementOf, Recordable}
+use Rattle.statement.specs.Record.{Part, recordSize, recordOf, statementOf, uncut, Recordable}
 use Rattle.statement.specs.Reading.{chargeIn}
 use Rattle.statement.specs.Contracts.{StandsAt}
 use Rattle.statement.proofs.Charges.{length-record, one-part}
-use Rattle.statement.proofs.Records.{long-is, kind-is, opening-is, area-is, km-is, minutes-is, charge-is, second-stands}
+use Rattle.statement.proofs.Records.{
+  long-is,
+  kind-is,
+  opening-is,
+  area-is,
+  km-is,
+  minutes-is,
+  adults-is,
+  children-is,
+  bicycles-is,
+  charge-is,
+  reduction-is,
+  cap-area-is,
+  cap-class-is,
+  second-stands,
+}
 use Rattle.settle.specs.Refusals.{lastRefusal, rows}
 use Rattle.settle.specs.Outcome.{Outcome, refused, accepted, partOf, oneMore, partsOf, acceptedTrip, settled, answerOf, Settled}
 use Rattle.settle.proofs.Rows.{first-holds, first-range, rows-range}
+use Rattle.settle.proofs.Clear.{part-complete, can-record}
 use Rattle.settle.proofs.Ways.{refused-first, clear-first, NoneHolds, no-row, fault-way, refused-way, accepted-way}
 use Rattle.promises.specs.Conditions.{
   tripRides,
@@ -62,6 +96,8 @@ use Rattle.promises.specs.Conditions.{
   ridesFor,
   minutesOf,
   rideOn,
+  cutIn,
+  CutTold,
   RecordSays,
   StatementSays,
   as-one,
@@ -124,6 +160,37 @@ pub some-parts :
     {tariff book bytes : List ℕ} {room : ℕ} {new : List ℕ} {parts : List Part} → AcceptedBy tariff book bytes room new parts → 1 ≤ length parts
 some-parts {parts = parts} a = omega (arith, rides-length parts, ap length (rides-are a), some-rides a)
 
+-- a cut that is what the words say names a cap only where something is taken off: a cap's area is the tariff's, and its class 1 or 2
+names-none :
+    {tariff : List ℕ} {counts : Counts} → FaultlessTariff tariff counts → {w : List ℕ} {ride : Ride} → ride .area < counts .areas
+    → {rider charge : ℕ} {cut : Cut} → CutSays tariff counts w ride rider charge cut → (cut .area ≡ 255) ⊎ (cut .class ≡ 0) → cut .reduction .0 ≡ 0
+names-none {tariff} {counts} t {w} {ride} here {rider} {charge} {cut} says none =
+    ⊎-elim (λ nothing. nothing)
+    (λ (some : 0 < cut .reduction .0).
+    let cap = says .named some .one-of-them in
+    let there : cut .area < counts .areas = within-there (is-tree t (isChild rider)) (ride .area) here (cut .area) (cap .inside) in
+    absurd (⊎-elim (λ (far : cut .area ≡ 255). omega (arith, there, far, t .few-areas)) (λ (zero : cut .class ≡ 0). known zero (cap .its)) none))
+    (eq-zero-or-pos (cut .reduction .0))
+  where
+    known :
+        cut .class ≡ 0
+        → CapHere (treeOf tariff counts (isChild rider) .caps (cut .area)) (ride .class) (secondSum w rider (cut .area)) (allSum w rider (cut .area))
+        (cut .class) charge
+        → ⊥
+    known zero (all-classes most one is value) = omega (arith, zero, one)
+    known zero (second-class most two of is value) = omega (arith, zero, two)
+
+-- such a cut in all words
+told :
+    {tariff : List ℕ} {counts : Counts} → FaultlessTariff tariff counts → {w : List ℕ} {ride : Ride} → ride .area < counts .areas
+    → {rider charge : ℕ} {cut : Cut} → CutSays tariff counts w ride rider charge cut → CutTold tariff counts w ride rider charge cut
+told t here says =
+    record { says = says; only-then = names-none t here says; full-or-passed = cut-full says; alone = λ other also. cut-one t here also says }
+
+-- a cut is its three fields
+same-cut : {k k′ : Cut} → k .reduction .0 ≡ k′ .reduction .0 → k .area ≡ k′ .area → k .class ≡ k′ .class → k ≡ k′
+same-cut e e′ e″ = rw (e, e′, e″)
+
 -- a ride's part, and its record where it stands in a statement
 module _ {tariff : List ℕ} {counts : Counts} {book : List ℕ} {ride : Ride} (ok : Rideable tariff counts book ride) {window : Window} {checkout : ℕ}
     (right : WindowRight book window checkout) where
@@ -135,28 +202,23 @@ module _ {tariff : List ℕ} {counts : Counts} {book : List ℕ} {ride : Ride} (
 
   record-size : length (recordOf part) ≡ recordSize (ride .party)
   unfolding partOf
-  record-size = length-record part ∙ ap sizeWith (charges-length tariff counts w ride)
+  record-size = length-record part (part-complete tariff counts book window ride)
 
   recordable : Recordable part
-  unfolding partOf
-  recordable =
-      let head = right .head in
-      let few = faultless tariff counts (ok .read) .few-areas in
-      let count = charges-length tariff counts w ride in
-      record {
-        opening = omega arith;
-        area = omega (arith, ok .area);
-        km = omega (arith, ok .km);
-        minutes = omega (arith, ok .minutes);
-        few = omega (arith, ok .adults, ok .children, ok .bicycles);
-        charges = λ i. omega (arith, charges-most ok (window .current) i);
-      }
+  recordable = can-record ok right
 
   module _ {statement : List ℕ} {place : ℕ} (stands : StandsAt part statement place) where
     -- charge i stands at its place
     charge-stands : (i : ℕ) → i < length (chargesOf tariff counts w ride) → chargeIn statement place i ≡ getD (chargesOf tariff counts w ride) i 0
     unfolding partOf
     charge-stands i h = charge-is part statement place stands recordable i h
+
+    -- and person i's cut
+    cut-stands : (i : ℕ) → i < length (cutsOf tariff counts w ride) → cutIn statement place i ≡ getD (cutsOf tariff counts w ride) i uncut
+    unfolding partOf
+    cut-stands i h =
+        same-cut (reduction-is part statement place stands recordable i h) (cap-area-is part statement place stands recordable i h)
+        (cap-class-is part statement place stands recordable i h)
 
     -- each rider's and each bicycle's charge there is the one of the rules' words
     rider-pays :
@@ -169,6 +231,19 @@ module _ {tariff : List ℕ} {counts : Counts} {book : List ℕ} {ride : Ride} (
         subst (ChargeSays tariff counts w ride rider)
         (sym (charge-stands (placeOf (ride .party) rider) there ∙ rider-stands tariff counts w ride rider on))
         (charge-says (faultless tariff counts (ok .read)) w ride (ok .area) rider)
+
+    -- and so is each rider's cut
+    rider-told :
+        (rider : ℕ) → carries (ride .party) rider ≡ true
+        → CutTold tariff counts w ride rider (chargeIn statement place (placeOf (ride .party) rider)) (cutIn statement place (placeOf (ride .party) rider))
+    rider-told rider on =
+        let at = placeOf (ride .party) rider in
+        let inside = place-there ride rider on in
+        let charge = charge-stands at (omega (arith, charges-length tariff counts w ride, inside)) ∙ rider-stands tariff counts w ride rider on in
+        let cut = cut-stands at (omega (arith, cuts-length tariff counts w ride, inside)) ∙ rider-cut-stands tariff counts w ride uncut rider on in
+        told (faultless tariff counts (ok .read)) (ok .area)
+        (subst (λ (c : ℕ). CutSays tariff counts w ride rider c (cutIn statement place at)) (sym charge)
+        (subst (CutSays tariff counts w ride rider _) (sym cut) (cut-says (faultless tariff counts (ok .read)) w ride (ok .area) rider)))
 
     bicycle-pays :
         (i : ℕ) → i < ride .party .bicycles
@@ -204,6 +279,7 @@ module _ {tariff : List ℕ} {counts : Counts} {book bytes : List ℕ} (stops : 
       let part = partOf tariff counts book window ride in
       let can = recordable ok right in
       let count = charges-length tariff counts w ride in
+      let persons = cuts-length tariff counts w ride in
       let party = partyAt bytes 0 in
       let area = area-is part statement place stands can in
       record {
@@ -213,12 +289,19 @@ module _ {tariff : List ℕ} {counts : Counts} {book bytes : List ℕ} (stops : 
         area = rw area (smallest stops from to order inside);
         km = rw (km-is part statement place stands can) (least-between stops from to (omega arith) inside);
         in-minutes = minutes-is part statement place stands can;
+        many-adults = adults-is part statement place stands can;
+        many-children = children-is part statement place stands can;
+        many-bicycles = bicycles-is part statement place stands can;
         holder = charge-stands ok right stands 0 (omega arith) ∙ adult-stands tariff counts w ride 0 (omega arith);
         adults = λ i h. charge-stands ok right stands (1 + i) (omega arith) ∙ adult-stands tariff counts w ride (1 + i) (omega arith);
         children = λ i h. charge-stands ok right stands (1 + party .adults + i) (omega arith) ∙ child-stands tariff counts w ride i h;
         bicycles = λ i h.
             rw area (charge-stands ok right stands (1 + party .adults + party .children + i) (omega arith) ∙ bicycle-stands tariff counts w ride i h);
+        holder-cut = cut-stands ok right stands 0 (omega arith) ∙ adult-cut-stands tariff counts w ride uncut 0 (omega arith);
+        adult-cuts = λ i h. cut-stands ok right stands (1 + i) (omega arith) ∙ adult-cut-stands tariff counts w ride uncut (1 + i) (omega arith);
+        child-cuts = λ i h. cut-stands ok right stands (1 + party .adults + i) (omega arith) ∙ child-cut-stands tariff counts w ride uncut i h;
         riders-pay = rider-pays ok right stands;
+        riders-cut = rider-told ok right stands;
         bicycles-pay = λ i h. rw area (bicycle-pays ok right stands i h);
       }
 
@@ -345,8 +428,9 @@ module _ (tariff book bytes : List ℕ) (room : ℕ) where
       }
 
   -- The statement of an accepted trip has one record, or two where it is broken at a change, one behind the other. Each says the window's
-  -- opening, the smallest area containing all its stops, the least kilometres between its first and its last, and the charges in the order
-  -- holder, adults, children, bicycles. The first has check-out less check-in as its minutes; the second 0, and is charged on what the first left.
+  -- opening, the smallest area containing all its stops, the least kilometres between its first and its last, the party's numbers, and the
+  -- charges in the order holder, adults, children, bicycles, with each person's what caps took off and the cap that is named for it. The
+  -- first has check-out less check-in as its minutes; the second 0, and is charged on what the first left.
   pub record-says :
       {new : List ℕ} {parts : List Part} (a : AcceptedBy tariff book bytes room new parts)
       → StatementSays tariff book bytes (a .counts) (statementOf parts)
@@ -416,16 +500,16 @@ module _ (tariff book bytes : List ℕ) (room : ℕ) where
       let (low, high, near, none) = refused-number e in
       rw e (omega arith, omega arith, omega arith)
 
-  -- An acceptance answers the bytes written, 17 to 274.
+  -- An acceptance answers the bytes written, 26 to 532.
   pub accepted-answer :
       {new : List ℕ} {parts : List Part} → settled tariff book bytes room ≡ accepted new parts
-      → (17 ≤ answerOf (settled tariff book bytes room)) × (answerOf (settled tariff book bytes room) ≤ 274)
+      → (26 ≤ answerOf (settled tariff book bytes room)) × (answerOf (settled tariff book bytes room) ≤ 532)
   accepted-answer {new} {parts} e = rw e (go (record-says (accepted-is e)))
     where
       party : PartyRanges (classAt bytes 0) (levelAt bytes 0) (partyAt bytes 0) (countAt bytes 0)
       party = good-fields (clear (accepted-is e) .good) .ranges
 
-      go : StatementSays tariff book bytes (accepted-is e .counts) (statementOf parts) → (17 ≤ length (statementOf parts)) × (length (statementOf parts) ≤ 274)
+      go : StatementSays tariff book bytes (accepted-is e .counts) (statementOf parts) → (26 ≤ length (statementOf parts)) × (length (statementOf parts) ≤ 532)
       go (as-one whole size says) = (omega (arith, size), omega (arith, size, party))
       go (as-two c broken size first second) = (omega (arith, size), omega (arith, size, party))
 

@@ -8,14 +8,16 @@
 -- Assumes nothing.
 use Prim.Native.Nat.{ℕ, _≤_, _<_}
 use native.Mathlib.Omega.{arith}
-use mathlib.Core.Path.{_≡_, refl, _∙_}
-use mathlib.Core.Bool.{true, false}
+use mathlib.Core.Path.{_≡_, refl, subst, _∙_}
+use mathlib.Core.Bool.{true, false, cond}
 use mathlib.Core.List.{List, [], _∷_, _++_, List·Memᴰ}
 use lib.ListN.{length}
-use Rattle.caps.specs.Limits.{AtMost}
+use Rattle.caps.specs.Limits.{AtMost, Full}
+use Rattle.caps.specs.Named.{nameIn, NamedCap, capNamed, sumNamed}
 use Rattle.caps.specs.Tree.{Tree, IsTree}
 use Rattle.caps.specs.Rides.{
   ChargedRide,
+  ChargedInTurn,
   allTotal,
   secondTotal,
   charges,
@@ -27,19 +29,23 @@ use Rattle.caps.specs.Rides.{
   PromiseThree,
 }
 use Rattle.caps.proofs.Promise.{promise-three as of-charged}
-use Rattle.caps.proofs.Window.{state-total}
+use Rattle.caps.proofs.Window.{earlier, cut-names-full, state-total}
 use Rattle.caps.proofs.OneClass.{order-free, reordered-same}
 use Rattle.tariff.specs.declared.Counts.{Counts}
 use Rattle.tariff.specs.Areas.{areaAt, Read}
 use Rattle.tariff.proofs.Faultless.{faultless}
+use Rattle.trip.specs.Moments.{checkoutOf}
 use Rattle.book.specs.Words.{freshBook, tripsOf, secondSum, allSum}
 use Rattle.book.specs.Sound.{sound}
+use Rattle.book.specs.Windows.{belongs}
 use Rattle.book.specs.Caps.{secondCap, allCap, treeOf}
 use Rattle.book.specs.Charging.{isChild}
 use Rattle.book.proofs.Trees.{is-tree}
+use Rattle.statement.specs.Record.{Part}
+use Rattle.settle.specs.Outcome.{accepted, settled}
 use Rattle.settle.specs.Runs.{Offer, runFrom}
-use Rattle.promises.specs.Runs.{bookOf, ridesOf, Span, RiderWindow, WithinDay, OpenFirst, tripsIn, acceptedOver, windowsOf}
-use Rattle.promises.proofs.RunLaws.{RightWindow, KeptRun, kept, trips-over}
+use Rattle.promises.specs.Runs.{bookOf, ridesOf, CutsFull, Span, RiderWindow, WithinDay, OpenFirst, tripsIn, acceptedOver, windowsOf}
+use Rattle.promises.proofs.RunLaws.{RightWindow, KeptRun, kept, cuts-behind, trips-over}
 
 module _ (tariff : List ℕ) (counts : Counts) (read : Read tariff counts) (rider : ℕ) (known : rider < 21) where
   -- the tariff's areas with the rider's caps: a child's for riders 11 to 20
@@ -83,6 +89,14 @@ module _ (tariff : List ℕ) (counts : Counts) (read : Read tariff counts) (ride
         (later : List ChargedRide) (e : ChargedRide) (es : List ChargedRide) → rides ≡ later ++ e ∷ es → e .charge < e .price → CapFull tree e (e ∷ es)
     cut-only-at-a-full-cap = promise-three .cut-at-full
 
+    -- And the cap that is named for it is such a cap: the one that left the least over the rides before it, which had not passed it.
+    pub named-cap-full :
+        (later : List ChargedRide) (e : ChargedRide) (es : List ChargedRide) → rides ≡ later ++ e ∷ es → e .charge < e .price
+        → let name = nameIn tree (λ a. secondTotal tree a es) (λ a. allTotal tree a es) (e .class) (e .area) (e .price) in
+        NamedCap tree (λ a. secondTotal tree a es) (λ a. allTotal tree a es) (e .class) (e .area) (e .charge) name
+        × Full (sumNamed (λ a. secondTotal tree a (e ∷ es)) (λ a. allTotal tree a (e ∷ es)) name) (capNamed tree name)
+    named-cap-full later e es is = cut-names-full tree-is (earlier later (subst (ChargedInTurn tree) is (window-right .charged)))
+
     -- No ride with a price is free while none of its caps is full: who charges the first trip and zero for the rest breaks this.
     pub no-free-ride :
         (later : List ChargedRide) (e : ChargedRide) (es : List ChargedRide) → rides ≡ later ++ e ∷ es → e .charge ≡ 0 → 0 < e .price
@@ -98,6 +112,17 @@ module _ (tariff : List ℕ) (counts : Counts) (read : Read tariff counts) (ride
     -- minutes after it.
     pub trips-within-a-day : (trip : Span) → List·Memᴰ trip (window .trips) → WithinDay (window .opening) trip
     trips-within-a-day = window-right .inside
+
+  -- ---- Each trip.
+
+  -- What caps took off, as a trip's parts tell it, where the trip is accepted behind a run: each cut of the rider makes up the price with the
+  -- charge. Where it is nothing, no cap is named; else the named cap is the one that left the least over the rider's rides before it in the
+  -- window. These had not passed it, and with this ride it is exactly full: from a fresh book under one tariff no cut names a passed cap.
+  pub cuts-name-full-caps :
+      (run : List Offer) (bytes : List ℕ) (room : ℕ) {new : List ℕ} {parts : List Part}
+      → settled tariff (bookOf tariff run) bytes room ≡ accepted new parts
+      → CutsFull tariff counts rider parts (cond (belongs (bookOf tariff run) (checkoutOf bytes)) (ridesOf tariff counts rider run) [])
+  cuts-name-full-caps = cuts-behind tariff counts read rider known
 
   -- ---- All windows.
 

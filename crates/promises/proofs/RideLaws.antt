@@ -1,17 +1,27 @@
 -- Rides charged one after another in a window: the book stays sound, each rider's sums in it are the totals of the rider's rides in its
--- window, and each of these rides was charged what the caps had left over the totals of the rides before it.
+-- window, and each of these rides was charged what the caps had left over the totals of the rides before it. So none of these caps was
+-- passed, and the one that a cut names is exactly full.
 -- Assumes nothing.
 use Prim.Native.Nat.{ℕ, _+_, _≤_, _<_}
 use native.Mathlib.Nat.{add-zero}
 use native.Mathlib.Omega.{arith}
-use mathlib.Core.Path.{_≡_, refl, sym, ap, _∙_}
+use mathlib.Core.Path.{_≡_, refl, sym, ap, subst, _∙_}
 use mathlib.Core.Bool.{Bool, true, false, cond, _&&_, false≢true}
 use mathlib.Core.List.{List, [], _∷_}
 use borrow.Author.Tests.{le-leb}
 use lib.ListN.{length}
+use lib.Dec.{eqb}
+use Rattle.units.specs.declared.Cap.{Cap}
+use Rattle.units.specs.declared.Cap.the-variants.{NoCap, UpTo}
+use Rattle.caps.specs.declared.Name.{Name}
+use Rattle.caps.specs.Limits.{AtMost, Full}
+use Rattle.caps.specs.Named.{nameIn, NamedCap, capNamed, sumNamed, Passed}
 use Rattle.caps.specs.Tree.{Tree, within}
 use Rattle.caps.specs.Rides.{ChargedRide, ChargedInTurn, none, more, allTotal, secondTotal}
 use Rattle.caps.proofs.Charge.{charge-same}
+use Rattle.caps.proofs.Climb.{within-there}
+use Rattle.caps.proofs.Named.{name-class}
+use Rattle.caps.proofs.Window.{no-cap-passed, cut-names-full}
 use Rattle.tariff.specs.declared.Counts.{Counts}
 use Rattle.tariff.proofs.Faultless.{faultless}
 use Rattle.trip.specs.declared.Party.{Party}
@@ -19,11 +29,13 @@ use Rattle.fare.specs.declared.Ride.{Ride}
 use Rattle.fare.specs.Contracts.{EachRide}
 use Rattle.fare.specs.Contracts as each
 use Rattle.book.specs.declared.Window.{Window}
-use Rattle.book.specs.Words.{freshBook, tripsOf, openingOf, pairPlace}
+use Rattle.book.specs.Words.{freshBook, tripsOf, openingOf, secondSum, allSum, pairPlace}
 use Rattle.book.specs.Sound.{sound}
 use Rattle.book.specs.Windows.{inWindow}
 use Rattle.book.specs.Caps.{treeOf}
 use Rattle.book.specs.Charging.{isChild, carries, riderCharge, chargesOf}
+use Rattle.book.specs.Cuts.{riderCut}
+use Rattle.book.specs.InWords.{CutSays, priceFor}
 use Rattle.book.specs.Posting.{posted}
 use Rattle.book.specs.Contracts.{Rideable}
 use Rattle.book.proofs.Trees.{is-tree}
@@ -32,9 +44,11 @@ use Rattle.book.proofs.SoundLaws.{fresh-sound}
 use Rattle.book.proofs.SumLaws.{sumOf, counted}
 use Rattle.book.proofs.PostedLaws.{added, ownCharge, rider-stands, posted-sum, posted-trips, posted-opening}
 use Rattle.book.proofs.SoundAgain.{WindowRight, window-room, posted-sound}
-use Rattle.statement.specs.Record.{Part}
+use Rattle.book.proofs.CutLaws.{cut-says, rider-cut-stands}
+use Rattle.statement.specs.Record.{Part, uncut}
 use Rattle.settle.specs.Outcome.{partOf, oneMore, partsOf, postedAll}
-use Rattle.promises.specs.Runs.{entryOf, ridesWith}
+use Rattle.promises.specs.Conditions.{nameOfCut}
+use Rattle.promises.specs.Runs.{entryOf, ridesWith, cutOf, totalNamed, CutFull, CutsFull, no-more, part-more}
 
 -- ---- A book and a rider's rides.
 
@@ -90,6 +104,17 @@ kept-window {tariff} {counts} {rider} false k = kept-fresh tariff counts rider
 window-trips : (current : Bool) (book : List ℕ) → tripsOf (inWindow current book) ≡ cond current (tripsOf book) 0
 window-trips true book = refl
 window-trips false book = word-fresh 0
+
+-- where neither of an area's caps is passed, the named one is not
+passed-none : (cap : Cap) (sum : ℕ) → AtMost sum cap → Passed sum cap → ⊥
+passed-none NoCap sum fits passed = passed
+passed-none (UpTo most) sum fits passed = omega (arith, fits, passed)
+
+neither-passed :
+    (two : Bool) (second all : ℕ) (second-cap all-cap : Cap) → AtMost all all-cap × AtMost second second-cap
+    → Passed (cond two second all) (cond two second-cap all-cap) → ⊥
+neither-passed true second all second-cap all-cap fits passed = passed-none second-cap second (fits .1) passed
+neither-passed false second all second-cap all-cap fits passed = passed-none all-cap all (fits .0) passed
 
 -- the holder is on every trip
 holder-on : (party : Party) → carries party 0 ≡ true
@@ -177,6 +202,67 @@ module _ {tariff : List ℕ} {counts : Counts} {book : List ℕ} {ride : Ride} (
               omega (arith, head-trips, right .trips, words .each-counts holder, window-trips (window .current) book);
         }
 
+    -- the cut of a rider who is carried names the cap that left the least over the rider's rides before it
+    abbrev tree : Tree
+    tree = treeOf tariff counts (isChild rider)
+
+    abbrev name : Name
+    name =
+        nameIn tree (λ x. secondTotal tree x before) (λ x. allTotal tree x before) (ride .class) (ride .area) (priceFor tariff counts ride rider)
+
+    cut-is : carries (ride .party) rider ≡ true → cutOf rider part ≡ riderCut tariff counts w ride (isChild rider) rider
+    unfolding cutOf partOf
+    cut-is on = rider-cut-stands tariff counts w ride uncut rider on
+
+    cut-name : carries (ride .party) rider ≡ true → nameOfCut (cutOf rider part) ≡ name
+    unfolding riderCut
+    cut-name on =
+        ap nameOfCut (cut-is on)
+        ∙ name-class (is-tree (faultless tariff counts (ok .read)) (isChild rider)) (secondSum w rider) (allSum w rider)
+        (λ x. secondTotal tree x before) (λ x. allTotal tree x before) (ride .class) (λ two. words .sums true) (words .sums false) (ride .area)
+        (priceFor tariff counts ride rider) (ok .area)
+
+    cut-said :
+        carries (ride .party) rider ≡ true
+        → CutSays tariff counts w ride rider (entryOf tariff counts rider part .charge) (cutOf rider part)
+    unfolding entryOf partOf
+    cut-said on =
+        subst (λ (c : ℕ). CutSays tariff counts w ride rider c (cutOf rider part)) (sym (rider-stands tariff counts w ride rider on))
+        (subst (CutSays tariff counts w ride rider _) (sym (cut-is on)) (cut-says (faultless tariff counts (ok .read)) w ride (ok .area) rider))
+
+    cut-fills :
+        carries (ride .party) rider ≡ true → 0 < cutOf rider part .reduction .0
+        → NamedCap tree (λ x. secondTotal tree x before) (λ x. allTotal tree x before) (ride .class) (ride .area)
+        (entryOf tariff counts rider part .charge) (nameOfCut (cutOf rider part))
+        × Full (totalNamed tree (entryOf tariff counts rider part ∷ before) (cutOf rider part)) (capNamed tree (nameOfCut (cutOf rider part)))
+    unfolding entryOf partOf
+    cut-fills on some =
+        let e = entryOf tariff counts rider part in
+        let below : e .charge < e .price = omega (arith, cut-said on .makes-up, some) in
+        subst
+        (λ (n : Name).
+        NamedCap tree (λ x. secondTotal tree x before) (λ x. allTotal tree x before) (ride .class) (ride .area) (e .charge) n
+        × Full (sumNamed (λ x. secondTotal tree x (e ∷ before)) (λ x. allTotal tree x (e ∷ before)) n) (capNamed tree n))
+        (sym (cut-name on)) (cut-names-full (is-tree (faultless tariff counts (ok .read)) (isChild rider)) (carried on .charged) below)
+
+    cut-full :
+        carries (ride .party) rider ≡ true → CutFull tree (entryOf tariff counts rider part) before (cutOf rider part)
+    unfolding entryOf partOf
+    cut-full on =
+        let cut = cutOf rider part in
+        let is = is-tree (faultless tariff counts (ok .read)) (isChild rider) in
+        let says = cut-said on in
+        record {
+          makes-up = says .makes-up;
+          none = says .none;
+          named = λ some. cut-fills on some .0;
+          not-passed = λ some.
+              neither-passed (eqb (cut .class) 2) _ _ _ _
+              (no-cap-passed is (words .charged) (cut .area)
+              (within-there is (ride .area) (ok .area) (cut .area) (cut-fills on some .0 .one-of-them .inside)));
+          full = λ some. cut-fills on some .1;
+        }
+
     -- So the book after the ride is kept with the rider's rides.
     kept-ride : Kept tariff counts rider new (ridesWith tariff counts rider (part ∷ []) before)
     unfolding ridesWith partOf
@@ -227,3 +313,16 @@ kept-rides (ride ∷ []) known (each.more ok none-left) some k right few =
 kept-rides (ride ∷ next ∷ later) known (each.more ok oks) some k right few =
     kept-rides (next ∷ later) known (on-another _ (posted-sound ok right) oks) (omega arith) (kept-ride ok right known k)
     (right-again ok right (omega arith)) (omega arith)
+
+-- And each of them that was cut names a cap that is exactly full with it.
+pub cuts-full :
+    {tariff : List ℕ} {counts : Counts} {rider : ℕ} (trip : List Ride) {book : List ℕ} {rides : List ChargedRide} {window : Window} {checkout : ℕ}
+    → rider < 21 → EachRide (Rideable tariff counts book) trip → Kept tariff counts rider book rides → WindowRight book window checkout
+    → window .trips + length trip ≤ 256
+    → CutsFull tariff counts rider (partsOf tariff counts book window checkout trip) (cond (window .current) rides [])
+unfolding partsOf partOf ridesWith oneMore
+cuts-full [] known oks k right few = no-more
+cuts-full (ride ∷ []) known (each.more ok none-left) k right few = part-more (cut-full ok right known k) no-more
+cuts-full (ride ∷ next ∷ later) known (each.more ok oks) k right few =
+    part-more (cut-full ok right known k)
+    (cuts-full (next ∷ later) known (on-another _ (posted-sound ok right) oks) (kept-ride ok right known k) (right-again ok right (omega arith)) (omega arith))

@@ -44,6 +44,7 @@ use Rattle.promises.specs.Runs.{
   windowsWith,
   windowsAfter,
   windowsOver,
+  CutsFull,
   WithinDay,
   OpenFirst,
   none-open,
@@ -54,7 +55,7 @@ use Rattle.promises.specs.Runs.{
   windowsOf,
 }
 use Rattle.promises.proofs.Answers.{accepted-is, clear, charged-rides, some-rides, right-window}
-use Rattle.promises.proofs.RideLaws.{Kept, kept-fresh, KeptSince, kept-rides}
+use Rattle.promises.proofs.RideLaws.{Kept, kept-fresh, KeptSince, kept-rides, cuts-full}
 
 -- ---- An accepted trip.
 
@@ -68,6 +69,13 @@ module _ {tariff book bytes : List ℕ} {room : ℕ} {new : List ℕ} {parts : L
   kept-trip known k =
       rw (a .new-is, a .parts-is)
       (kept-rides (tripRides tariff (a .counts) bytes) known (charged-rides a) (some-rides a) k (right-window a) (clear a .few))
+
+  -- And the caps that the rider's cuts name are exactly full.
+  cuts-trip :
+      {rider : ℕ} {rides : List ChargedRide} → rider < 21 → Kept tariff (a .counts) rider book rides
+      → CutsFull tariff (a .counts) rider parts (cond (belongs book (checkoutOf bytes)) rides [])
+  unfolding windowOf
+  cuts-trip known k = rw (a .parts-is) (cuts-full (tripRides tariff (a .counts) bytes) known (charged-rides a) k (right-window a) (clear a .few))
 
 -- ---- A book and the windows so far.
 
@@ -235,6 +243,17 @@ pub kept :
     (tariff : List ℕ) (counts : Counts) → Read tariff counts → (rider : ℕ) → rider < 21 → (run : List Offer)
     → KeptRun tariff counts rider (bookOf tariff run) (ridesOf tariff counts rider run) (windowsOf tariff counts rider run)
 kept tariff counts read rider known run = kept-from read known run (fresh-run tariff counts rider)
+
+-- A trip that is accepted behind a run: the cuts of each of its parts.
+pub cuts-behind :
+    (tariff : List ℕ) (counts : Counts) → Read tariff counts → (rider : ℕ) → rider < 21 → (run : List Offer) (bytes : List ℕ) (room : ℕ)
+    {new : List ℕ} {parts : List Part} → settled tariff (bookOf tariff run) bytes room ≡ accepted new parts
+    → CutsFull tariff counts rider parts (cond (belongs (bookOf tariff run) (checkoutOf bytes)) (ridesOf tariff counts rider run) [])
+cuts-behind tariff counts read rider known run bytes room e =
+    let a = accepted-is tariff (bookOf tariff run) bytes room e in
+    let same = read-one tariff counts (a .counts) read (a .read) in
+    let k = kept tariff counts read rider known run .in-book in
+    rw same (cuts-trip a known (rw same at k))
 
 -- ---- Every accepted trip counts in one of the windows.
 

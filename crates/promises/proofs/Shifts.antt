@@ -1,5 +1,5 @@
 -- Two settlings whose minutes are all moved by one number: each row of the table holds of both or of neither, and two acceptances have the
--- same rides, the same charges, and books and records alike but for the minutes.
+-- same rides, the same charges and cuts, and books and records alike but for the minutes.
 -- Assumes nothing.
 use Prim.Native.Nat.{ℕ, zero, suc, _+_, _*_, _≤_, _<_}
 use native.Mathlib.Nat.{add-zero}
@@ -38,7 +38,7 @@ use Rattle.promises.specs.Conditions.{tripRides, tripWindow, AcceptedBy}
 use Rattle.promises.specs.Moved.{SameTrip, SameWords, MovedBook, MovedPart, MovedParts, one-part, no-part}
 use Rattle.promises.proofs.Answers.{charged-rides, some-parts, right-window}
 use Rattle.promises.proofs.Books.{book-head}
-use Rattle.promises.proofs.Alike.{window-same, charges-same, posted-same}
+use Rattle.promises.proofs.Alike.{window-same, charges-same, cuts-same, posted-same}
 
 -- no trip belongs to a window where none is open
 unopened : (book : List ℕ) (checkout : ℕ) → tripsOf book ≡ 0 → belongs book checkout ≡ false
@@ -273,6 +273,9 @@ module _ {tariff : List ℕ} {counts : Counts} (t : FaultlessTariff tariff count
         charges =
             rw (moved .current)
             (charges-same t ride (ok .area) (inWindow (window .current) book) (inWindow (window .current) book′) (window-same (window .current) same));
+        cuts =
+            rw (moved .current)
+            (cuts-same t ride (ok .area) (inWindow (window .current) book) (inWindow (window .current) book′) (window-same (window .current) same));
         opening = moved .opening;
       }
       in

@@ -13,6 +13,7 @@ use Rattle.wire.specs.Frame.{broken, frameAt}
 use Rattle.calendar.specs.Days.{monthDays, daysOfMonths, daysOfYears, dayNumber}
 use Rattle.calendar.specs.Stamps.{minuteNumber}
 use Rattle.caps.specs.Limits.{leftOf, cappedHere}
+use Rattle.caps.specs.Named.{leaves, namedHere, nameIn}
 use Rattle.caps.specs.Rides.{ChargedRide}
 use Rattle.caps.specs.Tree.{foldUp, among, chargeIn}
 use Rattle.tariff.specs.declared.Counts.{Counts}
@@ -32,6 +33,7 @@ use Rattle.book.specs.Words.{freshBook}
 use Rattle.book.specs.Sound.{sound}
 use Rattle.book.specs.Caps.{secondCap, allCap}
 use Rattle.book.specs.Charging.{riderCharge, riderCharges, bicycleCharges, chargesOf}
+use Rattle.book.specs.Cuts.{riderCut, riderCuts, cutsOf}
 use Rattle.book.specs.Windows.{belongs, tooEarly, windowOf}
 use Rattle.book.specs.Posting.{addHere, addUp, addList, coverBicycles, opened, posted}
 use Rattle.statement.specs.Record.{statementSize}
@@ -39,7 +41,7 @@ use Rattle.settle.specs.Refusals.{refusal, rows, Found, nothing, found, firstOf
 use Rattle.settle.specs.Outcome.{Outcome, refused, partOf, oneMore, partsOf, postedAll, acceptedTrip, settled, bookAfter}
 use Rattle.settle.specs.Runs.{Offer, Settlement, runFrom, bookFrom}
 use Rattle.settle.proofs.Ways.{refused-first, clear-first, refused-way, accepted-way}
-use Rattle.promises.specs.Runs.{bookOf, entryOf, ridesWith, ridesAfter, ridesOver}
+use Rattle.promises.specs.Runs.{bookOf, entryOf, cutOf, ridesWith, ridesAfter, ridesOver}
 use Rattle.promises.specs.Cases.{
   sampleArea,
   areaBytes,
@@ -162,9 +164,9 @@ saidSums c = record { come-to = results c; window = ridesIn (results c) [] }
 -- all cases, computed
 computed : map settledSums cases ≡ map saidSums cases
 unfolding dividedUp hundredthsOf periods getLe putLe bytesOf each broken frameAt monthDays daysOfMonths daysOfYears dayNumber minuteNumber leftOf
-    cappedHere foldUp among chargeIn areaFields stopFields levelCap tripCapOf dayCapOf areaOf areaAt stopAt liesWithin smallestOf shapeAt partyAt
+    cappedHere foldUp among chargeIn leaves namedHere nameIn areaFields stopFields levelCap tripCapOf dayCapOf areaOf areaAt stopAt liesWithin smallestOf shapeAt partyAt
     stopNumber checkinOf checkoutOf isTrip partyRight stopsKnown stampsRight apart kmFrom kmOf stopOf areaOfStops rideBetween rideOf step1 step2 step3 step4
-    tripCap priceOf secondCap allCap riderCharge riderCharges bicycleCharges chargesOf belongs tooEarly windowOf addHere addUp addList coverBicycles
+    tripCap priceOf secondCap allCap riderCharge riderCharges bicycleCharges chargesOf riderCut riderCuts cutsOf cutOf belongs tooEarly windowOf addHere addUp addList coverBicycles
     opened posted statementSize breakOf tripRides rows firstOf partOf oneMore partsOf postedAll acceptedTrip onSound runOnSound entryOf ridesWith ridesAfter
     ridesOver sampleArea areaBytes areasBytes sampleFactor factorBytes factorsBytes sampleStop stopBytes stopsBytes sampleAreas sampleFactors sampleStops sample stampBytes numbersBytes tripBytes offered
     partResults outcomeResults resultsOf ridesIn cases

@@ -12,11 +12,12 @@ use Rattle.tariff.specs.declared.Factor.{Factor}
 use Rattle.tariff.specs.declared.fields.AreaFields.{AreaFields}
 use Rattle.tariff.specs.declared.fields.StopFields.{StopFields}
 use Rattle.trip.specs.declared.Party.{Party}
+use Rattle.book.specs.declared.Cut.{Cut}
 use Rattle.book.specs.Words.{freshBook}
-use Rattle.statement.specs.Record.{Part, largestStatement}
+use Rattle.statement.specs.Record.{Part, largestStatement, uncut}
 use Rattle.settle.specs.Outcome.{Outcome, refused, accepted}
 use Rattle.settle.specs.Runs.{Offer, Settlement, runFrom}
-use Rattle.promises.specs.Runs.{entryOf, ridesOf}
+use Rattle.promises.specs.Runs.{entryOf, cutOf, ridesOf}
 
 -- ---- The sample.
 
@@ -183,17 +184,18 @@ trip hour minutes class level first last = offered (after hour 0) (after hour mi
 
 -- ---- What trips come to.
 
--- what a trip comes to for one rider: a ride that it is charged as, with the rider's price and charge, its km and minutes, and the charges of
--- the whole party; or the refusal's number and place
+-- what a trip comes to for one rider: a ride that it is charged as, with the rider's price and charge, its km and minutes, the charges of the
+-- whole party, and the rider's cut; or the refusal's number and place
 pub data Result : Type 0 where
-  ridden : ChargedRide → ℕ → ℕ → List ℕ → Result
+  ridden : ChargedRide → ℕ → ℕ → List ℕ → Cut → Result
   refusedWith : ℕ → ℕ → Result
 
 -- a ride for each part
 unfoldable pub partResults : ℕ → List Part → List Result
 partResults rider [] = []
 partResults rider (part ∷ parts) =
-    ridden (entryOf sample sampleCounts rider part) (part .ride .km .0) (part .ride .minutes .0) (part .charges) ∷ partResults rider parts
+    ridden (entryOf sample sampleCounts rider part) (part .ride .km .0) (part .ride .minutes .0) (part .charges) (cutOf rider part)
+    ∷ partResults rider parts
 
 unfoldable pub outcomeResults : ℕ → Outcome → List Result
 outcomeResults rider (refused number place) = refusedWith number place ∷ []
@@ -207,7 +209,7 @@ resultsOf rider (s ∷ more) = outcomeResults rider (s .outcome) ++ resultsOf ri
 -- the rides among them, the latest first; `before` are those before
 unfoldable pub ridesIn : List Result → List ChargedRide → List ChargedRide
 ridesIn [] before = before
-ridesIn (ridden ride km minutes charges ∷ more) before = ridesIn more (ride ∷ before)
+ridesIn (ridden ride km minutes charges cut ∷ more) before = ridesIn more (ride ∷ before)
 ridesIn (refusedWith number place ∷ more) before = ridesIn more before
 
 -- ---- What a case is.
@@ -241,17 +243,23 @@ one offer result = day ((offer, result) ∷ [])
 abbrev pub forChild : Offer → Result → Case
 forChild offer result = record { rider = 11; trips = (offer, result) ∷ [] }
 
--- area, km, minutes and class; price and charge. Nobody else is charged
+-- area, km, minutes and class; price and charge, where no cap took anything off. Nobody else is charged
 abbrev pub ride : ℕ → ℕ → ℕ → ℕ → ℕ → ℕ → Result
 ride area km minutes class price charge =
-    ridden (record { area = area; class = class; price = price; charge = charge }) km minutes (charge ∷ [])
+    ridden (record { area = area; class = class; price = price; charge = charge }) km minutes (charge ∷ []) uncut
 
--- the same of the child, and what the holder beside it is charged
+-- the same, where a cap took something off: how much, and the named cap's area and class
+abbrev pub cut : ℕ → ℕ → ℕ → ℕ → ℕ → ℕ → ℕ → ℕ → ℕ → Result
+cut area km minutes class price charge off by which =
+    ridden (record { area = area; class = class; price = price; charge = charge }) km minutes (charge ∷ [])
+    (record { reduction = record { 0 = off }; area = by; class = which })
+
+-- the same of the child, from whom nothing is taken off, and what the holder beside it is charged
 abbrev pub childRide : ℕ → ℕ → ℕ → ℕ → ℕ → ℕ → ℕ → Result
 childRide area km minutes class price charge holder =
-    ridden (record { area = area; class = class; price = price; charge = charge }) km minutes (holder ∷ charge ∷ [])
+    ridden (record { area = area; class = class; price = price; charge = charge }) km minutes (holder ∷ charge ∷ []) uncut
 
--- the starred sums, in their order
+-- the starred sums, in their order, with what caps took off
 unfoldable pub cases : List Case
 cases =
     -- region 6: 6 km; 21 km; 21 km at level B; that in class 1; that for a child
@@ -264,29 +272,29 @@ cases =
     ∷ one (trip 6 90 2 0 0 2) (ride 2 5 90 2 230 230)
     ∷ one (trip 6 91 2 0 0 2) (ride 2 5 91 2 415 415)
     -- city 5, 12 km, 95 minutes
-    ∷ one (trip 6 95 2 0 11 12) (ride 5 12 95 2 604 400)
+    ∷ one (trip 6 95 2 0 11 12) (cut 5 12 95 2 604 400 204 5 2)
     -- region 6, class 1: 18, 23, 13, 29 km
     ∷ day
     ((trip 6 30 1 0 14 19, ride 6 18 30 1 1043 1043)
     ∷ (trip 7 30 1 0 14 21, ride 6 23 30 1 1260 1260)
     ∷ (trip 8 30 1 0 14 18, ride 6 13 30 1 825 825)
-    ∷ (trip 9 30 1 0 14 23, ride 6 29 30 1 1521 1207)
+    ∷ (trip 9 30 1 0 14 23, cut 6 29 30 1 1521 1207 314 6 1)
     ∷ [])
     -- region 6: 40, 60, 10, 13 (class 1), 12, 29 (class 1) km
     ∷ day
     ((trip 6 30 2 0 14 25, ride 6 40 30 2 1333 1333)
-    ∷ (trip 7 30 2 0 14 26, ride 6 60 30 2 1913 1557)
-    ∷ (trip 8 30 2 0 14 16, ride 6 10 30 2 463 0)
+    ∷ (trip 7 30 2 0 14 26, cut 6 60 30 2 1913 1557 356 6 2)
+    ∷ (trip 8 30 2 0 14 16, cut 6 10 30 2 463 0 463 6 2)
     ∷ (trip 9 30 1 0 14 18, ride 6 13 30 1 825 825)
-    ∷ (trip 10 30 2 0 14 17, ride 6 12 30 2 521 0)
-    ∷ (trip 11 30 1 0 14 23, ride 6 29 30 1 1521 620)
+    ∷ (trip 10 30 2 0 14 17, cut 6 12 30 2 521 0 521 6 2)
+    ∷ (trip 11 30 1 0 14 23, cut 6 29 30 1 1521 620 901 6 1)
     ∷ [])
     -- city 2, 10 km; region 1, 67 km; city 4, 5 km, twice
     ∷ day
     ((trip 6 30 2 0 0 4, ride 2 10 30 2 230 230)
     ∷ (trip 7 30 2 0 0 13, ride 1 67 30 2 1949 1949)
     ∷ (trip 8 30 2 0 9 10, ride 4 5 30 2 200 200)
-    ∷ (trip 9 30 2 0 9 10, ride 4 5 30 2 200 121)
+    ∷ (trip 9 30 2 0 9 10, cut 4 5 30 2 200 121 79 1 2)
     ∷ [])
     -- 1,000 m; 1,001 m
     ∷ one (trip 6 30 2 0 0 5) (ride 2 1 30 2 167 167)

@@ -1,9 +1,12 @@
 -- docs/RULES.md, section 13: the twelve conditions, in the rules' words and order; and what a refusal and an acceptance say.
 use Prim.Native.Nat.{ℕ, _+_, _-_, _<_}
 use mathlib.Core.Path.{_≡_}
+use mathlib.Core.Logic.{_⊎_}
 use mathlib.Core.List.{List, map}
 use mathlib.Core.Bool.{true, false}
 use lib.ListN.{length}
+use Rattle.caps.specs.declared.Name.{Name}
+use Rattle.caps.specs.Named.{capNamed, sumNamed, FullOrPassed}
 use Rattle.tariff.specs.declared.Counts.{Counts}
 use Rattle.tariff.specs.declared.Reading.the-variants.{Fault, Faultless}
 use Rattle.tariff.specs.Scan.{readTariff, Passed, FirstFault, BrokenFrame, OutOfPlace, WrongValue, FaultSays}
@@ -17,14 +20,31 @@ use Rattle.fare.specs.Distance.{apart, LeastKm}
 use Rattle.fare.specs.Rides.{stopOf, AreaOfStops, rideBetween}
 use Rattle.fare.specs.Parts.{BrokenAt, ridesOf}
 use Rattle.book.specs.declared.Window.{Window}
-use Rattle.book.specs.Words.{tripsOf, lastOutOf, coverWord}
+use Rattle.book.specs.declared.Cut.{Cut}
+use Rattle.book.specs.Words.{tripsOf, lastOutOf, secondSum, allSum, coverWord}
 use Rattle.book.specs.Sound.{sound}
 use Rattle.book.specs.Windows.{windowOf, inWindow}
-use Rattle.book.specs.Charging.{carries, placeOf, riderCharge, bicycleCharge}
+use Rattle.book.specs.Caps.{treeOf}
+use Rattle.book.specs.Charging.{isChild, carries, placeOf, riderCharge, bicycleCharge}
+use Rattle.book.specs.Cuts.{riderCut}
 use Rattle.book.specs.Posting.{posted}
-use Rattle.book.specs.InWords.{ChargeSays, BicycleSays}
+use Rattle.book.specs.InWords.{ChargeSays, CutSays, BicycleSays}
 use Rattle.statement.specs.Record.{Part, recordSize, chargeKind, statementSize}
-use Rattle.statement.specs.Reading.{longIn, kindIn, openingIn, areaIn, kmIn, minutesIn, chargeIn}
+use Rattle.statement.specs.Reading.{
+  longIn,
+  kindIn,
+  openingIn,
+  areaIn,
+  kmIn,
+  minutesIn,
+  adultsIn,
+  childrenIn,
+  bicyclesIn,
+  chargeIn,
+  reductionIn,
+  capAreaIn,
+  capClassIn,
+}
 use Rattle.settle.specs.Outcome.{partsOf, postedAll}
 use Rattle.settle.specs.declared.refusals.Refusal.{Refusal}
 use Rattle.settle.specs.declared.refusals.Refusal.the-variants as why
@@ -117,11 +137,34 @@ abbrev pub wordsBetween : List ℕ → Counts → List ℕ → List ℕ → ℕ 
 wordsBetween tariff counts book bytes c =
     posted tariff counts book (tripWindow book bytes) (checkoutOf bytes) (rideOn tariff counts bytes 0 c (minutesOf bytes))
 
+-- person i's cut in the record at a place of a statement: the reduction and the named cap's area and class
+abbrev pub cutIn : List ℕ → ℕ → ℕ → Cut
+cutIn statement place i =
+    record {
+      reduction = record { 0 = reductionIn statement place i };
+      area = capAreaIn statement place i;
+      class = capClassIn statement place i;
+    }
+
+-- the cap that a cut names
+abbrev pub nameOfCut : Cut → Name
+nameOfCut cut = record { area = cut .area; class = cut .class }
+
+-- what a rider's cut is, in words. It makes up the price with the charge, and names one of the ride's caps where it is not 0, by book/InWords:
+-- CutSays; and it names one only then. With this charge the named cap is exactly full, or it was passed before. No other cut says so
+pub record CutTold (tariff : List ℕ) (counts : Counts) (w : List ℕ) (ride : Ride) (rider charge : ℕ) (cut : Cut) : Type 0 where
+  pub says : CutSays tariff counts w ride rider charge cut
+  pub only-then : (cut .area ≡ 255) ⊎ (cut .class ≡ 0) → cut .reduction .0 ≡ 0
+  pub full-or-passed :
+      0 < cut .reduction .0
+      → FullOrPassed (capNamed (treeOf tariff counts (isChild rider)) (nameOfCut cut)) (sumNamed (secondSum w rider) (allSum w rider) (nameOfCut cut)) charge
+  pub alone : (other : Cut) → CutSays tariff counts w ride rider charge other → other ≡ cut
+
 -- what a record says, read off a statement at its place: the window's opening minute, the smallest area containing all stops of the trip
--- from one to another, the least kilometres between these two, some minutes; then the charges, in the order holder, adults, children,
--- bicycles: by their definitions, and then in words, each rider's the smallest of the price and what each of the ride's caps has left, and
--- each bicycle's the new covering area's flat less the old one's. w stands for the words that count: the book's own in the open window, a
--- fresh book's in the next
+-- from one to another, the least kilometres between these two, some minutes, the party's numbers; then the charges, in the order holder,
+-- adults, children, bicycles, and each person's cut: by their definitions, and then in words, each rider's charge the smallest of the price
+-- and what each of the ride's caps has left, each rider's cut what that took off the price, and each bicycle's charge the new covering
+-- area's flat less the old one's. w stands for the words that count: the book's own in the open window, a fresh book's in the next
 pub record RecordSays (tariff bytes w : List ℕ) (counts : Counts) (opens from to minutes : ℕ) (statement : List ℕ) (place : ℕ) : Type 0 where
   pub long : longIn statement place + 2 ≡ recordSize (partyAt bytes 0)
   pub kind : kindIn statement place ≡ chargeKind
@@ -129,6 +172,9 @@ pub record RecordSays (tariff bytes w : List ℕ) (counts : Counts) (opens from 
   pub area : AreaOfStops tariff counts bytes from to (areaIn statement place)
   pub km : LeastKm (apart (stopOf tariff counts bytes from) (stopOf tariff counts bytes to)) (kmIn statement place)
   pub in-minutes : minutesIn statement place ≡ minutes
+  pub many-adults : adultsIn statement place ≡ partyAt bytes 0 .adults
+  pub many-children : childrenIn statement place ≡ partyAt bytes 0 .children
+  pub many-bicycles : bicyclesIn statement place ≡ partyAt bytes 0 .bicycles
   pub holder : chargeIn statement place 0 ≡ riderCharge tariff counts w (rideOn tariff counts bytes from to minutes) false 0
   pub adults :
       (i : ℕ) → i < partyAt bytes 0 .adults
@@ -141,9 +187,21 @@ pub record RecordSays (tariff bytes w : List ℕ) (counts : Counts) (opens from 
       (i : ℕ) → i < partyAt bytes 0 .bicycles
       → chargeIn statement place (1 + partyAt bytes 0 .adults + partyAt bytes 0 .children + i)
       ≡ bicycleCharge tariff counts (areaIn statement place) (coverWord w i)
+  pub holder-cut : cutIn statement place 0 ≡ riderCut tariff counts w (rideOn tariff counts bytes from to minutes) false 0
+  pub adult-cuts :
+      (i : ℕ) → i < partyAt bytes 0 .adults
+      → cutIn statement place (1 + i) ≡ riderCut tariff counts w (rideOn tariff counts bytes from to minutes) false (1 + i)
+  pub child-cuts :
+      (i : ℕ) → i < partyAt bytes 0 .children
+      → cutIn statement place (1 + partyAt bytes 0 .adults + i)
+      ≡ riderCut tariff counts w (rideOn tariff counts bytes from to minutes) true (11 + i)
   pub riders-pay :
       (rider : ℕ) → carries (partyAt bytes 0) rider ≡ true
       → ChargeSays tariff counts w (rideOn tariff counts bytes from to minutes) rider (chargeIn statement place (placeOf (partyAt bytes 0) rider))
+  pub riders-cut :
+      (rider : ℕ) → carries (partyAt bytes 0) rider ≡ true
+      → CutTold tariff counts w (rideOn tariff counts bytes from to minutes) rider (chargeIn statement place (placeOf (partyAt bytes 0) rider))
+      (cutIn statement place (placeOf (partyAt bytes 0) rider))
   pub bicycles-pay :
       (i : ℕ) → i < partyAt bytes 0 .bicycles
       → BicycleSays tariff counts (areaIn statement place) (coverWord w i)

@@ -47,10 +47,11 @@ pub record MovedBook (d : ℕ) (book book′ : List ℕ) : Type 0 where
   pub last : lastOutOf book′ ≡ lastOutOf book + cond (eqb (tripsOf book) 0) 0 d
   pub in-calendar : lastOutOf book′ ≤ lastMinute
 
--- two parts alike but for the window's opening minute, which is d later in the second: the ride and every charge are the same
+-- two parts alike but for the window's opening minute, which is d later in the second: the ride, every charge and every cut are the same
 pub record MovedPart (d : ℕ) (part part′ : Part) : Type 0 where
   pub ride : part′ .ride ≡ part .ride
   pub charges : part′ .charges ≡ part .charges
+  pub cuts : part′ .cuts ≡ part .cuts
   pub opening : part′ .opening ≡ part .opening + d
 
 pub data MovedParts (d : ℕ) : List Part → List Part → Type 0 where

@@ -1,22 +1,28 @@
 -- The windows of a run: the trips that count in each, and a rider's rides in it, read off the parts that the trips were charged in.
-use Prim.Native.Nat.{ℕ, _+_, _≤_}
+use Prim.Native.Nat.{ℕ, _+_, _≤_, _<_}
 use mathlib.Core.Path.{_≡_}
 use mathlib.Core.List.{List, [], _∷_, _++_}
-use mathlib.Core.Bool.{cond}
+use mathlib.Core.Bool.{true, cond}
 use lib.ListN.{getD}
 use lib.Dec.{leb}
 use Rattle.units.specs.Day.{dayMinutes}
-use Rattle.caps.specs.Rides.{ChargedRide}
+use Rattle.caps.specs.Limits.{Full}
+use Rattle.caps.specs.Tree.{Tree}
+use Rattle.caps.specs.Named.{NamedCap, capNamed, sumNamed, Passed}
+use Rattle.caps.specs.Rides.{ChargedRide, allTotal, secondTotal}
 use Rattle.tariff.specs.declared.Counts.{Counts}
 use Rattle.tariff.specs.Areas.{areaAt}
 use Rattle.trip.specs.Moments.{checkinOf, checkoutOf}
 use Rattle.fare.specs.Prices.{priceOf}
+use Rattle.book.specs.declared.Cut.{Cut}
 use Rattle.book.specs.Words.{freshBook, tripsOf, openingOf}
 use Rattle.book.specs.Windows.{belongs}
+use Rattle.book.specs.Caps.{treeOf}
 use Rattle.book.specs.Charging.{isChild, carries, placeOf}
-use Rattle.statement.specs.Record.{Part}
+use Rattle.statement.specs.Record.{Part, uncut}
 use Rattle.settle.specs.Outcome.{Outcome, refused, accepted}
 use Rattle.settle.specs.Runs.{Offer, Settlement, runFrom, bookFrom}
+use Rattle.promises.specs.Conditions.{nameOfCut}
 
 -- a rider's ride: the area, class and price of a part's ride, and the charge at the rider's place
 unfoldable pub entryOf : List ℕ → Counts → ℕ → Part → ChargedRide
@@ -34,6 +40,37 @@ unfoldable pub ridesWith : List ℕ → Counts → ℕ → List Part → List Ch
 ridesWith tariff counts rider [] before = before
 ridesWith tariff counts rider (part ∷ parts) before =
     ridesWith tariff counts rider parts (cond (carries (part .ride .party) rider) (entryOf tariff counts rider part ∷ before) before)
+
+-- ---- What caps took off a rider's rides.
+
+-- the cut at the rider's place
+unfoldable pub cutOf : ℕ → Part → Cut
+cutOf rider part = getD (part .cuts) (placeOf (part .ride .party) rider) uncut
+
+-- the rider's sum that counts for the cap that a cut names, over some rides
+abbrev pub totalNamed : Tree → List ChargedRide → Cut → ℕ
+totalNamed t rides cut = sumNamed (λ x. secondTotal t x rides) (λ x. allTotal t x rides) (nameOfCut cut)
+
+-- a ride's cut, where `before` are the rides before it in the window: it makes up the price with the charge. Where it is nothing, no cap is
+-- named. Else the named cap is the one that left the least over the rides before; these had not passed it, and with this ride it is exactly full
+pub record CutFull (t : Tree) (e : ChargedRide) (before : List ChargedRide) (cut : Cut) : Type 0 where
+  pub makes-up : e .charge + cut .reduction .0 ≡ e .price
+  pub none : cut .reduction .0 ≡ 0 → (cut .area ≡ 255) × (cut .class ≡ 0)
+  pub named :
+      0 < cut .reduction .0
+      → NamedCap t (λ x. secondTotal t x before) (λ x. allTotal t x before) (e .class) (e .area) (e .charge) (nameOfCut cut)
+  pub not-passed : 0 < cut .reduction .0 → Passed (totalNamed t before cut) (capNamed t (nameOfCut cut)) → ⊥
+  pub full : 0 < cut .reduction .0 → Full (totalNamed t (e ∷ before) cut) (capNamed t (nameOfCut cut))
+
+-- so it is of each part that carries the rider, one after another; `before` are the rides before them in the window
+pub data CutsFull (tariff : List ℕ) (counts : Counts) (rider : ℕ) : List Part → List ChargedRide → Type 0 where
+  no-more : {before : List ChargedRide} → CutsFull tariff counts rider [] before
+  part-more :
+      {part : Part} {parts : List Part} {before : List ChargedRide}
+      → (carries (part .ride .party) rider ≡ true
+      → CutFull (treeOf tariff counts (isChild rider)) (entryOf tariff counts rider part) before (cutOf rider part))
+      → CutsFull tariff counts rider parts (cond (carries (part .ride .party) rider) (entryOf tariff counts rider part ∷ before) before)
+      → CutsFull tariff counts rider (part ∷ parts) before
 
 -- ---- The window that is open at the end, by the book before each trip.
 

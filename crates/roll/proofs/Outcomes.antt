@@ -73,7 +73,7 @@ two-says new one other rest ok also =
     let first = first-stands one (other ∷ []) rest in
     let behind = size-is first ok in
     let second : StandsAt other statement (sizeIn statement 0) = subst (StandsAt other statement) (sym behind) (second-stands one other [] rest) in
-    let on : sizeIn statement 0 < length (statementOf (one ∷ other ∷ [])) = omega (arith, length-two one other, length-record other) in
+    let on : sizeIn statement 0 < length (statementOf (one ∷ other ∷ [])) = omega (arith, length-two one other, length-record other (also .complete)) in
     record {
       readable = record { first = record-at first ok; second = λ goes-on. record-at second also };
       line = rw (lt-ltb (sizeIn statement 0) (length (statementOf (one ∷ other ∷ []))) on, entry-is first ok, entry-is second also);

@@ -3,7 +3,7 @@
 use Prim.Native.Nat.{ℕ, _+_, _≤_, _<_}
 use native.Mathlib.Nat.{zero-add}
 use native.Mathlib.Omega.{arith}
-use mathlib.Core.Path.{_≡_, refl, sym, ap, _∙_}
+use mathlib.Core.Path.{_≡_, refl, sym, ap, subst, _∙_}
 use mathlib.Core.Bool.{true}
 use mathlib.Core.List.{List, [], _∷_, _++_, append-nil}
 use lib.ListN.{length, take, length-append}
@@ -27,18 +27,22 @@ use Rattle.book.specs.declared.Earlier.{Earlier}
 use Rattle.book.specs.declared.Earlier.the-variants.{Nothing, Part}
 use Rattle.book.specs.Sound.{sound}
 use Rattle.book.specs.Windows.{inWindow}
+use Rattle.book.specs.declared.Cut.{Cut}
 use Rattle.book.specs.Charging.{chargesOf}
+use Rattle.book.specs.Cuts.{cutsOf}
 use Rattle.book.specs.Posting.{posted, wordsAfter}
-use Rattle.book.specs.Contracts.{Rideable, PartyAmounts, AllCharged, Postable}
+use Rattle.book.specs.Contracts.{Rideable, PartyAmounts, reductionsOf, namesOf, AllCharged, AllCut, Postable}
 use Rattle.book.proofs.SoundLaws.{sound-has}
-use Rattle.book.proofs.ChargeLaws.{charges-length, charges-most}
-use Rattle.book.proofs.EarlierLaws.{charged-behind, next-ridden, next-rideable, next-right, next-postable}
+use Rattle.book.proofs.ChargeLaws.{charges-length, charges-most, cuts-length, reductions-length, names-length}
+use Rattle.book.proofs.CutLaws.{cuts-in-range}
+use Rattle.book.proofs.EarlierLaws.{charged-behind, cut-behind, next-ridden, next-rideable, next-right, next-postable}
 use Rattle.book.proofs.GoodRides.{good-rides}
 use Rattle.book.proofs.SoundAgain.{WindowRight, window-right, posted-sound}
-use Rattle.statement.specs.Record.{recordSize, recordOf, statementOf, statementSize, Recordable}
+use Rattle.statement.specs.Record as said
+use Rattle.statement.specs.Record.{personsOf, countOf, recordSize, recordOf, statementOf, statementSize, uncut, Complete, Recordable}
 use Rattle.statement.specs.Contracts.{partWith, Writable, Wrote, Recordables}
 use Rattle.statement.specs.Contracts as statements
-use Rattle.statement.proofs.Charges.{length-record}
+use Rattle.statement.proofs.Charges.{length-record, cuts-back}
 use Rattle.settle.specs.declared.Answer.the-variants.{Written}
 use Rattle.settle.specs.Outcome.{partOf, oneMore, partsOf, postedAll, acceptedTrip}
 use Rattle.settle.specs.Contracts.{
@@ -56,9 +60,13 @@ use Rattle.settle.specs.Contracts.{
 }
 use Rattle.settle.proofs.Rides.{rides-most}
 
--- what was stored at the start of a list is what it starts with
-starts-with : (l vs : List ℕ) → length vs ≤ length l → take (length vs) (sets l 0 vs) ≡ vs
-starts-with l vs fits = rw (sets-eq vs l 0 (omega arith)) (take-append-seam vs _)
+-- what was stored at the start of a list is what it starts with, and the list is as long as it was
+starts-with : (l vs : List ℕ) {l′ : List ℕ} {n : ℕ} → l′ ≡ sets l 0 vs → length vs ≡ n → n ≤ length l → take n l′ ≡ vs
+starts-with l vs {l′} is size fits =
+    ap (λ (k : ℕ). take k l′) (sym size) ∙ ap (take (length vs)) is ∙ rw (sets-eq vs l 0 (omega (arith, size, fits))) (take-append-seam vs _)
+
+long-as : (l vs : List ℕ) {l′ : List ℕ} {n : ℕ} → l′ ≡ sets l 0 vs → length l ≡ n → length l′ ≡ n
+long-as l vs is size = ap length is ∙ length-sets l 0 vs ∙ size
 
 -- bytes written behind others are written with them
 pub wrote-behind :
@@ -72,61 +80,94 @@ wrote-behind {bytes} {more} {before} {place = place} one other =
 
 -- ---- A ride stated beside the book.
 
+-- amounts, reductions and names that the largest party has room in
+abbrev pub PartyRoom : List ℕ → List ℕ → List ℕ → Type 0
+PartyRoom amounts reductions names = (length amounts ≡ 31) × ((length reductions ≡ 21) × (length names ≡ 21))
+
 module _ {tariff : List ℕ} {counts : Counts} {book : List ℕ} {window : Window} {ride : Ride} {earlier : Earlier} {statement : List ℕ} {place : ℕ}
     (ok : Stateable tariff counts book window ride earlier statement place) where
-  -- the words that it is charged on, and a charge for each of the party
+  -- the words that it is charged on, a charge for each of the party, and a cut for each person
   abbrev words : List ℕ
   words = wordsAfter tariff counts (inWindow (window .current) book) earlier
 
   abbrev charges : List ℕ
   charges = chargesOf tariff counts words ride
 
-  count-is : length charges ≡ 1 + ride .party .adults + ride .party .children + ride .party .bicycles
-  count-is = charges-length tariff counts words ride
+  abbrev cuts : List Cut
+  cuts = cutsOf tariff counts words ride
+
+  few-charges : countOf (ride .party) ≤ 31
+  few-charges = omega (arith, ok .recordable .adults, ok .recordable .children, ok .recordable .bicycles)
+
+  few-persons : personsOf (ride .party) ≤ 21
+  few-persons = omega (arith, ok .recordable .adults, ok .recordable .children)
 
   -- its record's bytes
   pub record-size : length (recordOf (partAfter tariff counts book window earlier ride)) ≡ recordSize (ride .party)
-  record-size = omega (arith, length-record (partAfter tariff counts book window earlier ride), count-is)
+  record-size = length-record (partAfter tariff counts book window earlier ride) (ok .recordable .complete)
 
-  -- stored at the start of amounts that the largest party has room in
-  module _ (start : List ℕ) {amounts : List ℕ} {count : ℕ} (full : length start ≡ 31) (made : AllCharged tariff counts words ride start amounts count) where
+  -- stored at the start of amounts, reductions and names that the largest party has room in
+  module _ (start : List ℕ) {taken named amounts reductions names : List ℕ} {count : ℕ}
+      (made : AllCharged tariff counts words ride start amounts count × AllCut tariff counts words ride taken named reductions names)
+      (room : PartyRoom start taken named) where
     pub charged : PartyAmounts tariff counts words ride amounts
     charged =
         record {
-          size = rw (made .1) (length-sets start 0 charges ∙ full);
-          value = rw (made .1) (starts-with start charges (rw full (ok .recordable .few)));
+          size = long-as start charges (made .0 .1) (room .0);
+          value = starts-with start charges (made .0 .1) refl (omega (arith, ok .recordable .complete .charges, few-charges, room .0));
         }
 
-    listed : take count amounts ≡ charges
-    listed = rw (made .0) (charged .value)
+    -- another ride's cuts have room there again
+    pub room-again : (length reductions ≡ 21) × (length names ≡ 21)
+    room-again = (long-as taken (reductionsOf cuts) (made .1 .cuts) (room .1 .0), long-as named (namesOf cuts) (made .1 .caps) (room .1 .1))
+
+    -- the record of these is the ride's
+    part-is : partWith (window .opening .0) ride amounts reductions names ≡ partAfter tariff counts book window earlier ride
+    part-is =
+        let persons = ok .recordable .complete .cuts in
+        let paid : take (countOf (ride .party)) amounts ≡ charges =
+        starts-with start charges (made .0 .1) (ok .recordable .complete .charges) (omega (arith, few-charges, room .0))
+        in
+        let off : take (personsOf (ride .party)) reductions ≡ reductionsOf cuts =
+        starts-with taken (reductionsOf cuts) (made .1 .cuts) (reductions-length cuts ∙ persons) (omega (arith, few-persons, room .1 .0))
+        in
+        let caps : take (personsOf (ride .party)) names ≡ namesOf cuts =
+        starts-with named (namesOf cuts) (made .1 .caps) (names-length cuts ∙ persons) (omega (arith, few-persons, room .1 .1))
+        in
+        rw (paid, off, caps, cuts-back cuts (ok .recordable .cuts))
 
     -- its record can be written, whatever else was written meanwhile
     pub writable :
-        {before : List ℕ} {here : ℕ} → length before ≡ length statement → here ≡ place → Writable before here (window .opening .0) ride amounts count
+        {before : List ℕ} {here : ℕ} → length before ≡ length statement → here ≡ place
+        → Writable before here (window .opening .0) ride amounts reductions names
     writable same at =
         record {
-          there = omega (arith, ok .recordable .few, made .0, charged .size);
-          room = omega (arith, count-is, made .0, ok .room);
-          recordable = rw listed (ok .recordable);
+          amounts-there = omega (arith, few-charges, charged .size);
+          reductions-there = omega (arith, few-persons, room-again .0);
+          names-there = omega (arith, few-persons, room-again .1);
+          room = omega (arith, same, at, ok .room);
+          recordable = subst Recordable (sym part-is) (ok .recordable);
         }
 
     pub recorded :
-        {before after : List ℕ} {here r : ℕ} → Wrote (recordOf (partWith (window .opening .0) ride amounts count)) before here after r
+        {before after : List ℕ} {here r : ℕ}
+        → Wrote (recordOf (partWith (window .opening .0) ride amounts reductions names)) before here after r
         → Wrote (recordOf (partAfter tariff counts book window earlier ride)) before here after r
-    recorded wrote = rw listed at wrote
+    recorded {before} {after} {here} {r} wrote = subst (λ (part : said.Part). Wrote (recordOf part) before here after r) part-is wrote
 
 -- A record's place is behind the one before it.
 pub writable-behind :
     {tariff : List ℕ} {counts : Counts} {book : List ℕ} {window : Window} {first second : Ride} {earlier earlier′ : Earlier} {statement between : List ℕ}
     {next : ℕ} → Stateable tariff counts book window first earlier statement 0
     → Wrote (recordOf (partAfter tariff counts book window earlier first)) statement 0 between next
-    → (ok : Stateable tariff counts book window second earlier′ statement (recordSize (first .party))) (start : List ℕ) {amounts : List ℕ} {count : ℕ}
-    → length start ≡ 31
+    → (ok : Stateable tariff counts book window second earlier′ statement (recordSize (first .party)))
+    → (start : List ℕ) {taken named amounts reductions names : List ℕ} {count : ℕ}
     → AllCharged tariff counts (wordsAfter tariff counts (inWindow (window .current) book) earlier′) second start amounts count
-    → Writable between next (window .opening .0) second amounts count
-writable-behind {tariff} {counts} {book} {window} {first} {earlier = earlier} {statement = statement} one wrote ok start full made =
+    × AllCut tariff counts (wordsAfter tariff counts (inWindow (window .current) book) earlier′) second taken named reductions names
+    → PartyRoom start taken named → Writable between next (window .opening .0) second amounts reductions names
+writable-behind {tariff} {counts} {book} {window} {first} {earlier = earlier} {statement = statement} one wrote ok start made room =
     let bytes = recordOf (partAfter tariff counts book window earlier first) in
-    writable ok start full made (ap length (wrote .stored) ∙ length-sets statement 0 bytes) (omega (arith, wrote .next, record-size one))
+    writable ok start made room (ap length (wrote .stored) ∙ length-sets statement 0 bytes) (omega (arith, wrote .next, record-size one))
 
 -- ---- Rides charged one after another.
 
@@ -136,8 +177,16 @@ first-of (more is others) = is
 others-of : {P : Ride → Type 0} {ride : Ride} {rest : List Ride} → EachRide P (ride ∷ rest) → EachRide P rest
 others-of (more is others) = others
 
+-- A ride's part has a charge for each of the party, and a cut for each person.
+pub part-complete :
+    (tariff : List ℕ) (counts : Counts) (book : List ℕ) (window : Window) (ride : Ride) → Complete (partOf tariff counts book window ride)
+unfolding partOf
+part-complete tariff counts book window ride =
+    let words = inWindow (window .current) book in
+    record { charges = charges-length tariff counts words ride; cuts = cuts-length tariff counts words ride }
+
 -- The fields of a ride's record hold what it says.
-can-record :
+pub can-record :
     {tariff : List ℕ} {counts : Counts} {book : List ℕ} {window : Window} {checkout : ℕ} {ride : Ride} → Rideable tariff counts book ride
     → WindowRight book window checkout → Recordable (partOf tariff counts book window ride)
 unfolding partOf
@@ -149,8 +198,15 @@ can-record {tariff} {counts} {book} {window} {ride = ride} ok right =
       area = omega (arith, ok .area);
       km = omega (arith, ok .km);
       minutes = omega (arith, ok .minutes);
-      few = omega (arith, charges-length tariff counts (inWindow (window .current) book) ride, ok .adults, ok .children, ok .bicycles);
+      adults = ok .adults;
+      children = ok .children;
+      bicycles = ok .bicycles;
+      complete = part-complete tariff counts book window ride;
       charges = λ i. omega (arith, charges-most ok (window .current) i);
+      cuts =
+          λ i h.
+          let range = cuts-in-range ok (inWindow (window .current) book) uncut i h in
+          record { reduction = omega (arith, range .reduction); area = omega (arith, range .area); class = omega (arith, range .class) };
     }
 
 module _ (tariff : List ℕ) (counts : Counts) (checkout : ℕ) where
@@ -186,8 +242,7 @@ module _ (tariff : List ℕ) (counts : Counts) (checkout : ℕ) where
       length-append (recordOf (partOf tariff counts book window ride)) _
       ∙ omega (
         arith,
-        length-record (partOf tariff counts book window ride),
-        charges-length tariff counts (inWindow (window .current) book) ride,
+        length-record (partOf tariff counts book window ride) (part-complete tariff counts book window ride),
         parts-size (posted tariff counts book window checkout ride) (oneMore window) rest,
       )
 
@@ -243,7 +298,7 @@ module _ {tariff : List ℕ} {counts : Counts} {book : List ℕ} {window : Windo
       partAfter tariff counts book window (Part first) second
       ≡ partOf tariff counts (posted tariff counts book window checkout first) (oneMore window) second
   unfolding partOf oneMore
-  part-behind = rw (charged-behind one second (other .area) window checkout)
+  part-behind = rw (charged-behind one second (other .area) window checkout, cut-behind one second (other .area) window checkout)
 
   pub both-stateable : OfOneTrip first second → BothStateable tariff counts book window first second statement
   unfolding partOf statementSize oneMore

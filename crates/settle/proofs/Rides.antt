@@ -46,7 +46,7 @@ module _ (tariff : List ℕ) (counts : Counts) (bytes : List ℕ) (trip : Trip) 
       sizes (recordSize (trip .party)) refl (ridesOf tariff counts bytes trip) (rides-of-trip tariff counts bytes trip)
       ∙ ap (λ (n : ℕ). n * recordSize (trip .party)) rides-count
 
-  -- The records of the largest party take 137 bytes each.
+  -- The records of the largest party take 266 bytes each.
   pub rides-most :
       trip .party .adults ≤ 10 → trip .party .children ≤ 10 → trip .party .bicycles ≤ 10
       → statementSize (ridesOf tariff counts bytes trip) ≤ 2 * largestSize

@@ -21,6 +21,7 @@ use Rattle.book.specs.declared.Earlier.the-variants.{Nothing, Part}
 use Rattle.book.specs.Sound.{sound}
 use Rattle.book.specs.Windows.{tooEarly, windowOf, inWindow}
 use Rattle.book.specs.Charging.{chargesOf}
+use Rattle.book.specs.Cuts.{cutsOf}
 use Rattle.book.specs.Posting.{wordsAfter, posted}
 use Rattle.book.specs.Contracts.{Rideable, Ridden, PartyAmounts, Postable}
 use Rattle.book.proofs.SoundAgain.{WindowRight}
@@ -51,10 +52,12 @@ recordsSize breaking party = ridesIn breaking * recordSize party
 -- a ride charged beside the book, with what goes before it in its trip
 abbrev pub partAfter : List ℕ → Counts → List ℕ → Window → Earlier → Ride → said.Part
 partAfter tariff counts book window earlier ride =
+    let words = wordsAfter tariff counts (inWindow (window .current) book) earlier in
     record {
       opening = window .opening .0;
       ride = ride;
-      charges = chargesOf tariff counts (wordsAfter tariff counts (inWindow (window .current) book) earlier) ride;
+      charges = chargesOf tariff counts words ride;
+      cuts = cutsOf tariff counts words ride;
     }
 
 -- what stating a ride asks: it can be charged, its record's fields hold what it says, and there is room for it at a place of the statement

@@ -16,6 +16,7 @@ use Rattle.fare.specs.Parts.{breakOf, ridesOf}
 use Rattle.book.specs.declared.Window.{Window}
 use Rattle.book.specs.Windows.{windowOf, inWindow}
 use Rattle.book.specs.Charging.{chargesOf}
+use Rattle.book.specs.Cuts.{cutsOf}
 use Rattle.book.specs.Posting.{posted}
 use Rattle.statement.specs.Record.{Part, statementOf}
 use Rattle.settle.specs.declared.decide.Decision.{Decision}
@@ -41,7 +42,13 @@ decidedUnder tariff counts book trip room =
 -- a ride charged in a window of the book
 unfoldable pub partOf : List ℕ → Counts → List ℕ → Window → Ride → Part
 partOf tariff counts book window ride =
-    record { opening = window .opening .0; ride = ride; charges = chargesOf tariff counts (inWindow (window .current) book) ride }
+    let words = inWindow (window .current) book in
+    record {
+      opening = window .opening .0;
+      ride = ride;
+      charges = chargesOf tariff counts words ride;
+      cuts = cutsOf tariff counts words ride;
+    }
 
 -- the same window, which is open now, with one trip more
 unfoldable pub oneMore : Window → Window

@@ -1,7 +1,8 @@
 // What a trip that meets no refusal leaves: the charge records of its rides, one or two, and the book with them.
 //
 // A ride is stated beside the book: its charges are found and its record is written while the book is only read. Both parts of a trip are
-// stated before either is posted, the second on what the first leaves.
+// stated before either is posted, the second on what the first leaves. What caps took off is only told, never posted: the arrays for it
+// stand where a ride is stated, and serve both parts, since the first one's record is written before the second is charged.
 use book::Earlier;
 use book::MOST_CHARGES;
 use book::Window;
@@ -12,6 +13,7 @@ use fare::Ride;
 use fare::parts::first_part;
 use fare::parts::second_part;
 use fare::rides::ride_of;
+use statement::MOST_PERSONS;
 use statement::writing::write_record;
 use tariff::Counts;
 use trip::Trip;
@@ -43,7 +45,9 @@ fn state_ride(
 {
     let current = window.current;
     let opening = window.opening;
-    let count = charges_of(
+    let mut reductions = [0u32; MOST_PERSONS];
+    let mut names = [0u16; MOST_PERSONS];
+    charges_of(
         tariff,
         counts,
         book,
@@ -52,8 +56,10 @@ fn state_ride(
         Earlier::Nothing,
         none,
         amounts,
+        &mut reductions,
+        &mut names,
     );
-    write_record(statement, 0, opening, ride, amounts, count)
+    write_record(statement, 0, opening, ride, amounts, &reductions, &names)
 }
 
 // Two parts of a trip stated: the charges of the first go to `paid`, those of the second to the amounts, and their records one after the
@@ -74,7 +80,9 @@ fn state_both(
 {
     let current = window.current;
     let opening = window.opening;
-    let before = charges_of(
+    let mut reductions = [0u32; MOST_PERSONS];
+    let mut names = [0u16; MOST_PERSONS];
+    charges_of(
         tariff,
         counts,
         book,
@@ -83,8 +91,11 @@ fn state_both(
         Earlier::Nothing,
         amounts,
         paid,
+        &mut reductions,
+        &mut names,
     );
-    let count = charges_of(
+    let next = write_record(statement, 0, opening, first, paid, &reductions, &names);
+    charges_of(
         tariff,
         counts,
         book,
@@ -93,9 +104,18 @@ fn state_both(
         Earlier::Part(first),
         paid,
         amounts,
+        &mut reductions,
+        &mut names,
     );
-    let next = write_record(statement, 0, opening, first, paid, before);
-    write_record(statement, next, opening, second, amounts, count)
+    write_record(
+        statement,
+        next,
+        opening,
+        second,
+        amounts,
+        &reductions,
+        &names,
+    )
 }
 
 // The same window, with one trip more.

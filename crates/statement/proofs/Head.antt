@@ -1,20 +1,49 @@
--- The charge record's head: what its fields make, put one after another, and how many bytes they are.
+-- The charge record's head, and a person's charge and cut: what their fields make, put one after another, and how many bytes they are.
 -- Assumes nothing.
-use Prim.Native.Nat.{ℕ}
-use mathlib.Core.Path.{_≡_, refl}
-use mathlib.Core.List.{_++_}
+use Prim.Native.Nat.{ℕ, _/_, _%_}
+use native.Mathlib.Omega.{arith}
+use mathlib.Core.Path.{_≡_, refl, ap}
+use mathlib.Core.List.{List, [], _∷_, _++_}
 use lib.ListN.{length}
 use Rattle.wire.specs.Number.{bytesOf}
-use Rattle.statement.specs.Record.{headSize, headBytes}
+use Rattle.fare.specs.declared.Ride.{Ride}
+use Rattle.book.specs.declared.Cut.{Cut}
+use Rattle.statement.specs.Record.{headSize, cutSize, personSize, headBytes, headOf, cutBytes, personBytes}
+use Rattle.statement.specs.Contracts.{cutFrom}
 
--- Length, kind, opening minute, area, kilometres and minutes, each put after those before it, are the head.
+-- Length, kind, opening minute, area, kilometres, minutes and the party's numbers, each put after those before it, are the head.
 pub head-is :
-    (long opening area km minutes : ℕ)
-    → bytesOf 2 long ++ bytesOf 2 4 ++ bytesOf 4 opening ++ bytesOf 1 area ++ bytesOf 2 km ++ bytesOf 2 minutes ≡ headBytes long opening area km minutes
+    (long opening area km minutes adults children bicycles : ℕ)
+    → bytesOf 2 long
+    ++ bytesOf 2 6
+    ++ bytesOf 4 opening
+    ++ bytesOf 1 area
+    ++ bytesOf 2 km
+    ++ bytesOf 2 minutes
+    ++ bytesOf 1 adults
+    ++ bytesOf 1 children
+    ++ bytesOf 1 bicycles
+    ≡ headBytes long opening area km minutes adults children bicycles
 unfolding bytesOf headBytes
-head-is long opening area km minutes = refl
+head-is long opening area km minutes adults children bicycles = refl
 
--- The head has 13 bytes.
-pub length-head : (long opening area km minutes : ℕ) → length (headBytes long opening area km minutes) ≡ headSize
-unfolding bytesOf headBytes
-length-head long opening area km minutes = refl
+-- The head has 16 bytes.
+pub length-head : (opening : ℕ) (ride : Ride) → length (headOf opening ride) ≡ headSize
+unfolding bytesOf headBytes headOf
+length-head opening ride = refl
+
+-- A charge, what was taken off and the named cap, each put after those before it, are a person's.
+pub person-is :
+    (charge reduction name : ℕ) → bytesOf 4 charge ++ bytesOf 4 reduction ++ bytesOf 2 name ≡ personBytes charge (cutFrom reduction name)
+unfolding bytesOf personBytes cutBytes
+person-is charge reduction name =
+    ap (λ (low : ℕ). bytesOf 4 charge ++ (bytesOf 4 reduction ++ (low ∷ (name / 256 % 256 ∷ [])))) (omega arith)
+
+-- A cut has 6 bytes, a person 10.
+pub length-cut : (cut : Cut) → length (cutBytes cut) ≡ cutSize
+unfolding bytesOf cutBytes
+length-cut cut = refl
+
+pub length-person : (charge : ℕ) (cut : Cut) → length (personBytes charge cut) ≡ personSize
+unfolding bytesOf cutBytes personBytes
+length-person charge cut = refl

@@ -1,9 +1,9 @@
 -- A charge record read off its bytes, wherever in a statement it stands: each field of the record at a place, and what its charges add up
 -- to.
-use Prim.Native.Nat.{ℕ, zero, suc, _+_, _-_, _*_, _/_}
+use Prim.Native.Nat.{ℕ, zero, suc, _+_, _*_, min}
 use mathlib.Core.List.{List, [], _∷_}
 use Rattle.wire.specs.Number.{getLe}
-use Rattle.statement.specs.Record.{headSize, chargeSize}
+use Rattle.statement.specs.Record.{headSize, chargeSize, cutSize, personSize}
 
 -- what the length field counts: kind and body
 abbrev pub longIn : List ℕ → ℕ → ℕ
@@ -24,17 +24,53 @@ kmIn statement place = getLe 2 statement (place + 9)
 abbrev pub minutesIn : List ℕ → ℕ → ℕ
 minutesIn statement place = getLe 2 statement (place + 11)
 
+abbrev pub adultsIn : List ℕ → ℕ → ℕ
+adultsIn statement place = getLe 1 statement (place + 13)
+
+abbrev pub childrenIn : List ℕ → ℕ → ℕ
+childrenIn statement place = getLe 1 statement (place + 14)
+
+abbrev pub bicyclesIn : List ℕ → ℕ → ℕ
+bicyclesIn statement place = getLe 1 statement (place + 15)
+
 -- the record's own bytes: the next one stands behind them
 abbrev pub sizeIn : List ℕ → ℕ → ℕ
 sizeIn statement place = 2 + longIn statement place
 
--- charge i, counted from 0
-abbrev pub chargeIn : List ℕ → ℕ → ℕ → ℕ
-chargeIn statement place i = getLe 4 statement (place + headSize + chargeSize * i)
+-- account holder, adults and children
+abbrev pub personsIn : List ℕ → ℕ → ℕ
+personsIn statement place = 1 + adultsIn statement place + childrenIn statement place
 
--- how many charges the record has: what its length counts besides the head's other 11 bytes
+-- how many charges the record has
 abbrev pub countIn : List ℕ → ℕ → ℕ
-countIn statement place = (longIn statement place - 11) / chargeSize
+countIn statement place = personsIn statement place + bicyclesIn statement place
+
+-- where charge i stands, in a record of so many persons at a place: behind the charges before it, and the cuts of those of them that are
+-- persons'
+abbrev pub chargePlace : ℕ → ℕ → ℕ → ℕ
+chargePlace place persons i = place + headSize + chargeSize * i + cutSize * min i persons
+
+-- charge i of the party, counted from 0: account holder, adults, children, bicycles
+abbrev pub chargeIn : List ℕ → ℕ → ℕ → ℕ
+chargeIn statement place i = getLe 4 statement (chargePlace place (personsIn statement place) i)
+
+-- bicycle k's charge, counted from 0
+abbrev pub bicycleIn : List ℕ → ℕ → ℕ → ℕ
+bicycleIn statement place k = chargeIn statement place (personsIn statement place + k)
+
+-- where person i's cut stands: behind the persons before, and the person's charge
+abbrev pub cutPlace : ℕ → ℕ → ℕ
+cutPlace place i = place + headSize + personSize * i + chargeSize
+
+-- what caps took off person i's price, and the named cap's area and class
+abbrev pub reductionIn : List ℕ → ℕ → ℕ → ℕ
+reductionIn statement place i = getLe 4 statement (cutPlace place i)
+
+abbrev pub capAreaIn : List ℕ → ℕ → ℕ → ℕ
+capAreaIn statement place i = getLe 1 statement (cutPlace place i + 4)
+
+abbrev pub capClassIn : List ℕ → ℕ → ℕ → ℕ
+capClassIn statement place i = getLe 1 statement (cutPlace place i + 5)
 
 -- the first so many charges, added up
 unfoldable pub centsUpTo : List ℕ → ℕ → ℕ → ℕ

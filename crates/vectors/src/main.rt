@@ -17,11 +17,15 @@ use settle::refusals::number;
 use settle::settle;
 use statement::LARGEST_STATEMENT;
 use statement::reading::area_at;
+use statement::reading::cap_area_at;
+use statement::reading::cap_class_at;
 use statement::reading::charge_at;
 use statement::reading::count_at;
 use statement::reading::km_at;
 use statement::reading::minutes_at;
 use statement::reading::opening_at;
+use statement::reading::persons_at;
+use statement::reading::reduction_at;
 use statement::reading::size_at;
 use tariff::Counts;
 use tariff::Reading;
@@ -29,10 +33,12 @@ use tariff::areas::area;
 use tariff::scan::read_tariff;
 use trip::Trip;
 use wire::four_at;
+ghost use Prim.Native.Nat.{_<_};
 ghost use mathlib.Core.Path.{_≡_};
 ghost use Rattle.tariff.specs.Areas.{Read};
 ghost use Rattle.fare.specs.Parts.{breakOf};
 ghost use Rattle.fare.specs.Contracts.{Riding, InOrder, RideIs};
+ghost use Rattle.statement.specs.Reading.{personsIn};
 ghost use Rattle.statement.specs.Contracts.{RecordAt};
 ghost use Rattle.roll.specs.Contracts.{Readable};
 
@@ -130,15 +136,34 @@ fn show_price(tariff: &[u8], trip: &[u8]) {
     }
 }
 
-fn show_charges(statement: &[u8], place: usize)
+// A person's charge, what caps took off the price, and the named cap's area and class.
+fn show_person(statement: &[u8], place: usize, i: usize)
+    requires { ⌜ RecordAt (now statement) place × (i < personsIn (now statement) place) ⌝ }
+{
+    say_number(b" ", charge_at(statement, place, i) as u64);
+    say_number(b" off ", reduction_at(statement, place, i) as u64);
+    say_number(b" by ", cap_area_at(statement, place, i) as u64);
+    say_number(b" ", cap_class_at(statement, place, i) as u64);
+}
+
+fn show_persons(statement: &[u8], place: usize)
     requires { ⌜ RecordAt (now statement) place ⌝ }
 {
-    for i in 0..count_at(statement, place) {
+    for i in 0..persons_at(statement, place) {
+        show_person(statement, place, i);
+    }
+}
+
+// The charges behind the persons'.
+fn show_bicycles(statement: &[u8], place: usize)
+    requires { ⌜ RecordAt (now statement) place ⌝ }
+{
+    for i in persons_at(statement, place)..count_at(statement, place) {
         say_number(b" ", charge_at(statement, place, i) as u64);
     }
 }
 
-// The charge record at a place: the window's opening, area, kilometres, minutes, and each charge.
+// The charge record at a place: the window's opening, area, kilometres, minutes, each person's charge and cut, and each bicycle's charge.
 fn show_record(statement: &[u8], place: usize)
     requires { ⌜ RecordAt (now statement) place ⌝ }
 {
@@ -147,7 +172,8 @@ fn show_record(statement: &[u8], place: usize)
     say_number(b" km ", km_at(statement, place) as u64);
     say_number(b" min ", minutes_at(statement, place) as u64);
     say(b" cents");
-    show_charges(statement, place);
+    show_persons(statement, place);
+    show_bicycles(statement, place);
     say(b"\n");
 }
 

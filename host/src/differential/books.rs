@@ -38,6 +38,12 @@ pub fn pair(pair: usize) -> (usize, usize) {
     (3 + 2 * pair, 4 + 2 * pair)
 }
 
+/// A pair that most trips read: of the holder or the first carried, in an area of the tariff.
+fn read_pair(random: &mut Random, areas: usize) -> (usize, usize) {
+    let rider = random.pick(&[0, 0, 1, 11]);
+    pair(32 * rider + random.index(areas))
+}
+
 /// A sound book for a tariff of so many areas, with its last check-out at `latest` or shortly before, and its numbers at
 /// the ends of their ranges.
 pub fn sound_at_the_edges(random: &mut Random, areas: usize, latest: u64) -> Vec<u8> {
@@ -51,7 +57,7 @@ pub fn sound_at_the_edges(random: &mut Random, areas: usize, latest: u64) -> Vec
     let limit = trips * MOST_A_TRIP;
     let filled = random.pick(&[0, 1, 5, 30, 300]);
     for _ in 0..filled {
-        let (second, all) = pair(random.index(PAIRS));
+        let (second, all) = if random.chance(50) { pair(random.index(PAIRS)) } else { read_pair(random, areas) };
         let sum = random.pick(&[1, 100, 200, 400, 800, 1_500, 2_500, 60_000, limit - 1, limit, limit]);
         set_word(&mut book, second, random.pick(&[0, 1, sum / 2, sum - 1, sum, sum]));
         set_word(&mut book, all, sum);

@@ -2,10 +2,11 @@
 
 use super::books::{word, TRIPS};
 use super::cases::Case;
+use super::cuts::RARE;
 use super::kinds::{kinds_of, KINDS};
 use crate::answer::Refusal;
 use crate::model::book::TRIPS_IN_A_WINDOW;
-use crate::model::charge::ChargeRecord;
+use crate::model::statement::ChargeRecord;
 use crate::model::trip::Trip;
 use std::fmt;
 
@@ -13,7 +14,7 @@ use std::fmt;
 pub struct Counts {
     accepted: u64,
     /// One case may be of several kinds.
-    kinds: [u64; KINDS.len()],
+    kinds: Vec<u64>,
     /// By number, from 1.
     refusals: [u64; 13],
     /// Those of 11 and of 12 that hold of the second part alone.
@@ -23,6 +24,7 @@ pub struct Counts {
 impl Counts {
     pub fn count_accepted(&mut self, case: &Case, records: &[ChargeRecord]) {
         self.accepted += 1;
+        self.kinds.resize(KINDS.concat().len(), 0);
         for (count, is_of_it) in self.kinds.iter_mut().zip(kinds_of(case, records)) {
             *count += u64::from(is_of_it);
         }
@@ -48,11 +50,17 @@ impl Counts {
         self.accepted + self.refused()
     }
 
+    /// Each kind with its count.
+    fn counted_kinds(&self) -> impl Iterator<Item = (&'static str, u64)> + '_ {
+        KINDS.concat().into_iter().zip(self.kinds.iter().copied())
+    }
+
     /// The refusals and kinds that fewer than 1 % of their half ended in, and what was not met at all.
     pub fn too_few(&self) -> Vec<String> {
         let refusals =
             Refusal::ALL.into_iter().filter(|&refusal| self.refusals[refusal as usize] * 100 < self.refused());
-        let kinds = KINDS.iter().zip(self.kinds).filter(|&(_, count)| count * 100 < self.accepted);
+        let is_few = |kind, count| if kind == RARE { count == 0 } else { count * 100 < self.accepted };
+        let kinds = self.counted_kinds().filter(|&(kind, count)| is_few(kind, count));
         let refusals = refusals.map(|refusal| format!("refusal {}", refusal as u32));
         let mut all: Vec<String> = refusals.chain(kinds.map(|(kind, _)| kind.to_string())).collect();
         for (number, count) in [11, 12].into_iter().zip(self.by_second_part) {
@@ -84,7 +92,7 @@ impl fmt::Display for Counts {
             line(out, count, self.refused(), &format!("{number} by the second part alone"))?;
         }
         writeln!(out, "accepted {}; one case may be of several kinds", self.accepted)?;
-        for (kind, count) in KINDS.iter().zip(self.kinds) {
+        for (kind, count) in self.counted_kinds() {
             line(out, count, self.accepted, kind)?;
         }
         write!(out, "cases {}", self.cases())

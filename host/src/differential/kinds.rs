@@ -1,16 +1,18 @@
 //! The kinds of acceptance that the run has to meet.
 
 use super::cases::Case;
+use super::cuts::{kinds_of_cuts, CUTS};
 use crate::model::book::Book;
-use crate::model::charge::{charges_of, window_for, ChargeRecord};
-use crate::model::fare::{child_price, price, raised_for_first_class, reduced_for_children, squared_distance, Ride};
+use crate::model::charge::{costs_of, window_for};
+use crate::model::fare::{price, squared_distance, Ride};
 use crate::model::parts::{farthest_change, parts_of};
+use crate::model::read_tariff;
+use crate::model::statement::ChargeRecord;
 use crate::model::tariff::{Area, Level, Tariff, TripCap};
 use crate::model::trip::Trip;
-use crate::model::{read_tariff, Cents};
 
-/// First those of a trip, then those of a part of one.
-pub const KINDS: [&str; OF_A_TRIP + OF_A_PART] = [
+/// Those of a trip.
+const OF_A_TRIP: [&str; 11] = [
     "next window opened",
     "first class",
     "child",
@@ -22,19 +24,16 @@ pub const KINDS: [&str; OF_A_TRIP + OF_A_PART] = [
     "not broken inside a city whose region says so",
     "broken, and another change is as far",
     "largest statement",
-    "charge cut by a city's cap",
-    "charge cut by a region's cap",
-    "charge cut by the state's cap",
-    "bicycle moved up",
-    "several periods",
-    "price cut by a trip cap",
 ];
 
-const OF_A_TRIP: usize = 11;
-const OF_A_PART: usize = 6;
+/// Those of a part of one.
+const OF_A_PART: [&str; 3] = ["bicycle moved up", "several periods", "price cut by a trip cap"];
+
+/// All of them, with those of cuts.
+pub const KINDS: [&[&str]; 3] = [&OF_A_TRIP, &OF_A_PART, &CUTS];
 
 /// Which kinds an accepted case is of; it may be of several, or of none.
-pub fn kinds_of(case: &Case, records: &[ChargeRecord]) -> [bool; KINDS.len()] {
+pub fn kinds_of(case: &Case, records: &[ChargeRecord]) -> Vec<bool> {
     let tariff = read_tariff(&case.tariff).expect("accepted, so faultless");
     let trip = Trip::read(&case.trip).expect("accepted, so a trip");
     let before = Book::read(&case.book).expect("accepted, so a book");
@@ -42,24 +41,29 @@ pub fn kinds_of(case: &Case, records: &[ChargeRecord]) -> [bool; KINDS.len()] {
     let duration = records[0].minutes;
     let was_open = before.trips() != 0;
     let mut book = window_for(before, check_in, check_in + duration);
-    let mut kinds = [false; KINDS.len()];
-    let (of_trip, of_part) = kinds.split_at_mut(OF_A_TRIP);
-    of_trip[..5].copy_from_slice(&[
+    let of_trip = [
         was_open && book.trips() == 0,
         trip.class == 1,
         trip.children > 0,
         trip.check_in.day != trip.check_out.day,
         records[0].charges.len() == 31,
-    ]);
-    of_trip[5..].copy_from_slice(&kinds_of_breaking(&tariff, &trip, records.len() == 2));
+    ];
+    let of_breaking = kinds_of_breaking(&tariff, &trip, records.len() == 2);
+    let (mut of_part, mut of_cuts) = ([false; OF_A_PART.len()], [false; CUTS.len()]);
     for (part, record) in parts_of(&tariff, &trip.stops, duration).iter().zip(records) {
         let ride = Ride::of(&tariff, &trip, part);
-        for (kind, is_of_it) in of_part.iter_mut().zip(kinds_of_part(&tariff, &trip, &ride, &book, record)) {
-            *kind |= is_of_it;
-        }
-        charges_of(&tariff, &trip, &ride, &mut book);
+        join(&mut of_part, &kinds_of_part(&tariff, &trip, &ride, &book, record));
+        join(&mut of_cuts, &kinds_of_cuts(&tariff, &trip, &ride, &book, record));
+        costs_of(&tariff, &trip, &ride, &mut book);
     }
-    kinds
+    [of_trip.as_slice(), &of_breaking, &of_part, &of_cuts].concat()
+}
+
+/// Those of one, and those of another besides.
+pub fn join(kinds: &mut [bool], others: &[bool]) {
+    for (kind, is_of_it) in kinds.iter_mut().zip(others) {
+        *kind |= is_of_it;
+    }
 }
 
 fn kinds_of_breaking(tariff: &Tariff, trip: &Trip, is_broken: bool) -> [bool; 6] {
@@ -80,15 +84,10 @@ fn kinds_of_breaking(tariff: &Tariff, trip: &Trip, is_broken: bool) -> [bool; 6]
 }
 
 /// The book is the one that the part finds.
-fn kinds_of_part(tariff: &Tariff, trip: &Trip, ride: &Ride, book: &Book, record: &ChargeRecord) -> [bool; OF_A_PART] {
+fn kinds_of_part(tariff: &Tariff, trip: &Trip, ride: &Ride, book: &Book, record: &ChargeRecord) -> [bool; 3] {
     let area = &tariff.areas[ride.area];
     let uncapped = Area { trip_cap: TripCap::None, ..area.clone() };
-    let [city, region, state] = [Level::City, Level::Region, Level::State]
-        .map(|level| is_cut_by(level, tariff, trip, ride, book, &record.charges));
     [
-        city,
-        region,
-        state,
         (0..trip.bicycles).any(|bicycle| {
             let old = book.covering_area(bicycle);
             old.is_some_and(|old| !tariff.contains(old, ride.area))
@@ -96,31 +95,4 @@ fn kinds_of_part(tariff: &Tariff, trip: &Trip, ride: &Ride, book: &Book, record:
         record.minutes > area.base_validity,
         price(area, ride) < price(&uncapped, ride),
     ]
-}
-
-/// Whether someone's charge is below the price and is just what a cap of an area of this level had left.
-fn is_cut_by(level: Level, tariff: &Tariff, trip: &Trip, ride: &Ride, book: &Book, charges: &[Cents]) -> bool {
-    let own = &tariff.areas[ride.area];
-    (0..1 + trip.adults + trip.children).any(|place| {
-        let is_child = place > trip.adults;
-        let rider = if is_child { 11 + place - trip.adults - 1 } else { place };
-        let due = if is_child { child_price(own, ride) } else { price(own, ride) };
-        charges[place] < due
-            && tariff.area_and_those_above(ride.area).into_iter().any(|number| {
-                let area = &tariff.areas[number];
-                area.level == level && lefts(area, number, rider, is_child, ride, book).contains(&charges[place])
-            })
-    })
-}
-
-/// What the caps of this area have left for a rider.
-fn lefts(area: &Area, number: usize, rider: usize, is_child: bool, ride: &Ride, book: &Book) -> Vec<Cents> {
-    let Some(day_cap) = area.day_cap else { return Vec::new() };
-    let for_rider = |cap| if is_child { reduced_for_children(area, cap) } else { cap };
-    let all = for_rider(raised_for_first_class(area, day_cap));
-    let mut lefts = vec![all.saturating_sub(book.all_classes_sum(rider, number))];
-    if ride.class == 2 {
-        lefts.push(for_rider(day_cap).saturating_sub(book.second_class_sum(rider, number)));
-    }
-    lefts
 }

@@ -5,7 +5,7 @@ use super::counts::Counts;
 use super::guarded::{Guarded, Page};
 use super::report::{answer_in_words, books_differ, case_in_words, slices_differ};
 use super::signals::{now_at, set_alarm};
-use crate::model::charge::ChargeRecord;
+use crate::model::statement::ChargeRecord;
 use crate::model::{self, Refusal};
 
 /// Something that settles as the library does: tariff, book, trip, statement, and the answer's number.

@@ -138,9 +138,10 @@ fn next_area(random: &mut Random, earlier: &[Area], per_cent_regions: u64, numbe
     } else {
         (2, random.pick(&regions))
     };
-    let most = earlier.get(parent).map_or(60_000, |above| above.flat);
+    let above = earlier.get(parent);
+    let most = above.map_or(60_000, |above| above.flat);
     let (sort, trip_cap) = trip_cap(random, numbers);
-    Area {
+    let mut area = Area {
         level,
         parent,
         base: money(random, numbers, 60, 300, 10_000),
@@ -152,7 +153,15 @@ fn next_area(random: &mut Random, earlier: &[Area], per_cent_regions: u64, numbe
         trip_cap,
         day_cap: day_cap(random, numbers, level),
         flat: money(random, numbers, 100, 600, 60_000).min(most),
+    };
+    match (random.below(10), above) {
+        // The caps of the area above, so that both leave the same.
+        (0..2, Some(above)) => (area.first, area.child, area.day_cap) = (above.first, above.child, above.day_cap),
+        // Caps of some whole prices, so that one leaves exactly a price.
+        (2, _) => (area.km, area.day_cap) = (0, area.base * random.within(1, 4)),
+        _ => (),
     }
+    area
 }
 
 /// An amount of up to `most`; an ordinary one is from `low` to `high`.
@@ -174,7 +183,7 @@ fn minutes(random: &mut Random, numbers: Numbers) -> u64 {
 
 fn percentage(random: &mut Random, numbers: Numbers) -> u64 {
     match numbers {
-        Numbers::Ordinary => random.pick(&[50, 50, 50, 33, 25, 60, 0]),
+        Numbers::Ordinary => random.pick(&[50, 50, 50, 33, 25, 60, 0, 0]),
         Numbers::Wide => random.within(0, 100),
         Numbers::Ends => random.pick(&[0, 1, 99, 100]),
     }

@@ -45,7 +45,8 @@ impl Plan {
 
     /// The bytes of the charge record of one part.
     pub fn record_bytes(&self) -> usize {
-        17 + 4 * self.party.iter().sum::<u64>() as usize
+        let [adults, children, bicycles] = self.party.map(|many| many as usize);
+        26 + 10 * (adults + children) + 4 * bicycles
     }
 
     /// In how many parts the trip is charged; one where the tariff lacks a stop.

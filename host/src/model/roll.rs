@@ -2,15 +2,12 @@
 //! broken.
 
 use super::book::BOOK_BYTES;
-use super::charge::ChargeRecord;
 use super::record::record_at;
+use super::statement::{ChargeRecord, LARGEST_STATEMENT};
 use super::{read_tariff, settle, Cents};
 
 /// The run stops after so many records.
 pub const MOST_RECORDS: u64 = 65_535;
-
-/// Room for the two charge records of a broken trip, each with 31 charges.
-pub const LARGEST_STATEMENT: usize = 274;
 
 /// The text that the program prints for this tariff and this roll.
 pub fn settle_roll(tariff: &[u8], roll: &[u8]) -> String {

@@ -7,7 +7,7 @@ pub struct Planted {
     pub edits: &'static [(&'static str, &'static str, &'static str)],
 }
 
-pub const PLANTED: [Planted; 7] = [
+pub const PLANTED: [Planted; 9] = [
     // Promise 1: a refusal changes nothing, and the refusals are tried in their order.
     Planted {
         name: "refusal_12_writes_the_book",
@@ -69,5 +69,18 @@ pub const PLANTED: [Planted; 7] = [
     Planted {
         name: "second_part_with_the_duration",
         edits: &[("parts.rs", "minutes: 0 },", "minutes: duration },")],
+    },
+    // Which cap was it: the widest of equals, and none where the whole price is charged.
+    Planted {
+        name: "narrowest_of_equals",
+        edits: &[("caps.rs", "narrowness(cap.level), cap.class", "2 - narrowness(cap.level), cap.class")],
+    },
+    Planted {
+        name: "named_at_the_whole_price",
+        edits: &[(
+            "caps.rs",
+            "named.filter(|_| reduction != 0)",
+            "named.filter(|cap| reduction != 0 || cap.left() == price)",
+        )],
     },
 ];

@@ -5,7 +5,7 @@ use milecopper_host::differential::books::{fresh, set_word, BICYCLES, TRIPS};
 use milecopper_host::differential::random::Random;
 use milecopper_host::differential::trips::Plan;
 use milecopper_host::model;
-use milecopper_host::model::roll::LARGEST_STATEMENT;
+use milecopper_host::model::statement::LARGEST_STATEMENT;
 
 /// In which table a case stands.
 #[derive(Clone, Copy, Debug, PartialEq, Eq)]
@@ -39,7 +39,7 @@ pub struct Case {
 }
 
 /// The charge record of a party of 31.
-const LARGEST_RECORD: usize = 137;
+const LARGEST_RECORD: usize = 266;
 
 /// The opening of the used books' window: 2026-05-04 07:00.
 const OPENING: u64 = 13_853_220;
@@ -185,7 +185,7 @@ fn parties(network: &Network) -> [Case; 4] {
 #[cfg(test)]
 mod tests {
     use super::*;
-    use milecopper_host::model::charge::ChargeRecord;
+    use milecopper_host::model::statement::ChargeRecord;
 
     #[test]
     fn each_is_answered_as_it_is_meant() {

@@ -32,6 +32,9 @@ add-all c =
     let s = c .before .before .before .before in
     omega (arith, all-whole (s .before .before .before .pre .1 .1) (s .before .pair .ensures .0) (s .lacking .ensures) (c .before .get-in2 .ensures .value))
 
+cast-capped-here : tie.Need-cast-capped-here
+cast-capped-here c = search needs
+
 capped-here-requires : tie.Need-capped-here-requires
 capped-here-requires c κs = search needs
 
@@ -59,5 +62,6 @@ capped-at-spec =
     add-get-in
     get-in-requires-2
     add-all
+    cast-capped-here
     capped-here-requires
     returns)

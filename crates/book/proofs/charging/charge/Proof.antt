@@ -1,10 +1,13 @@
 -- `book::charging::charge` meets its contract: the caps of the three areas of the chain, one after another.
 -- Assumes nothing.
-use native.Mathlib.Omega.{arith}
+use native.Mathlib.Nat.{le-trans}
 use borrow.Author.Needs.{needs}
-use Rattle.book.specs.Contracts.{chargeBy}
+use Rattle.book.specs.Contracts.{restBy}
 use Rattle.book.proofs.charging.charge.Statement.{statement}
 use Rattle.book.proofs.charging.charge.Tie as tie
+
+uncapped-requires : tie.Need-uncapped-requires
+uncapped-requires c κs = search needs
 
 capped-at-requires : tie.Need-capped-at-requires
 capped-at-requires c κs = search needs
@@ -16,13 +19,22 @@ capped-at-requires-3 : tie.Need-capped-at-requires-3
 capped-at-requires-3 c κs = search needs
 
 returns : tie.Need-returns
-unfolding chargeBy
+unfolding restBy
 returns c =
+    let whole = c .before .before .before .uncapped .ensures in
     record {
-      value = rw (c .capped-at3 .ensures .0, c .before .capped-at2 .ensures .0, c .before .before .capped-at .ensures .0);
-      range = omega arith;
+      value = rw (c .capped-at3 .ensures .0, c .before .capped-at2 .ensures .0, c .before .before .capped-at .ensures .0, whole);
+      range =
+          le-trans (c .capped-at3 .ensures .1)
+          (le-trans (c .before .capped-at2 .ensures .1) (rw whole at (c .before .before .capped-at .ensures .1)));
     }
 
 pub charge-spec : {M : Type 1} → statement M
 charge-spec =
-    tie.close (tie.spec capped-at-requires capped-at-requires-2 capped-at-requires-3 returns)
+    tie.close
+    (tie.spec
+    uncapped-requires
+    capped-at-requires
+    capped-at-requires-2
+    capped-at-requires-3
+    returns)

@@ -1,47 +1,50 @@
--- `book::charging::charge_riders` meets its contract. The loop's invariant: the charges of the first `i` riders by the chain are in. The
--- measure is the number of riders left.
+-- `book::charging::charge_riders` meets its contract. The loop's invariant: the charges and cuts of the first `i` riders by the chain are in.
+-- The measure is the number of riders left.
 -- Assumes nothing.
 use Prim.Native.Nat.{_+_, _-_, _≤_}
-use native.Mathlib.Nat.{le-refl}
 use native.Mathlib.Omega.{arith}
 use mathlib.Core.Path.{_∙_}
 use lib.ListN.{getD}
 use Rattle.book.specs.Windows.{inWindow}
 use Rattle.book.specs.Charging.{riderCharges}
-use Rattle.book.specs.Contracts.{chargeBy}
+use Rattle.book.specs.Cuts.{riderCuts}
+use Rattle.book.specs.Contracts.{restBy, cutBy, nameOf, reductionsOf, namesOf}
 use Rattle.book.proofs.SoundLaws.{sound-has}
 use Rattle.book.proofs.ChargeLaws.{Filled, filled-none, filled-size, filled-more, filled-all, priceable}
-use Rattle.book.proofs.EarlierLaws.{earlier-there, riders-fit, riders-after}
+use Rattle.book.proofs.EarlierLaws.{earlier-there, riders-fit, riders-after, reductions-after, names-after}
 use Rattle.book.proofs.charging.charge_riders.Statement.{statement}
 use Rattle.book.proofs.charging.charge_riders.Tie as tie
 
 abbrev Inv-loop : tie.InvT-loop
-Inv-loop tariff book current paid amounts₀ count child first from class at fare chain i₀ amounts i =
-    Filled (λ k. chargeBy chain (inWindow current book) (first + k) class (getD paid (from + k) 0) (fare .0)) amounts₀ amounts from count i
+Inv-loop tariff book current paid amounts₀ reductions₀ names₀ count child first from class at fare chain i₀ amounts reductions names i =
+    Filled (λ k. restBy chain (inWindow current book) (first + k) class (getD paid (from + k) 0) (fare .0) .amount .0) amounts₀ amounts from count i
+    × Filled (λ k. cutBy (fare .0) (restBy chain (inWindow current book) (first + k) class (getD paid (from + k) 0) (fare .0)) .reduction .0)
+    reductions₀ reductions from count i
+    × Filled (λ k. nameOf (cutBy (fare .0) (restBy chain (inWindow current book) (first + k) class (getD paid (from + k) 0) (fare .0))))
+    names₀ names from count i
 
 abbrev μ-loop : tie.MeasureT-loop
-μ-loop tariff book current paid amounts₀ count child first from class at fare chain i₀ amounts i = count - i
+μ-loop tariff book current paid amounts₀ reductions₀ names₀ count child first from class at fare chain i₀ amounts reductions names i = count - i
 
 returns : tie.Need-returns Inv-loop μ-loop
-unfolding riderCharges
-returns c = rw (c .if1 .taken)
+unfolding riderCharges riderCuts reductionsOf namesOf
+returns c = record { charges = rw (c .if1 .taken); cuts = rw (c .if1 .taken); caps = rw (c .if1 .taken) }
 
 area-requires : tie.Need-area-requires Inv-loop μ-loop
-area-requires c κs = let p = c .before .before .before .before .before .pre .ridden .rideable in (p .read, p .area)
+area-requires c κs = let p = c .before .before .before .before .before .before .before .pre .ridden .rideable in (p .read, p .area)
 
 price-requires : tie.Need-price-requires Inv-loop μ-loop
-price-requires c κs = rw (c .area .ensures) (priceable (c .before .before .before .before .before .before .pre .ridden .rideable))
+price-requires c κs = rw (c .area .ensures) (priceable (c .before .before .before .before .before .before .before .before .pre .ridden .rideable))
 
 chain-of-requires : tie.Need-chain-of-requires Inv-loop μ-loop
-chain-of-requires c κs =
-    let r = c .before .before .before .before .before .before .before .pre .ridden in (r .rideable .read, (r .rideable .area, earlier-there r))
+chain-of-requires c κs = let r = c .before .before .before .before .before .before .before .before .before .pre .ridden in (r .rideable .read, (r .rideable .area, earlier-there r))
 
 loop-holds : tie.Need-loop-holds Inv-loop μ-loop
-loop-holds c = filled-none _ _ _ _
+loop-holds c = (filled-none _ _ _ _, filled-none _ _ _ _, filled-none _ _ _ _)
 
--- the riders' amounts stand among 31
-room : (s : tie.After-slice-known Inv-loop μ-loop) → let a = s .before .before .before .before .args in a .riders .from + a .riders .count ≤ 31
-room s = s .before .before .before .before .pre .few
+-- the riders' amounts stand among 21
+room : (s : tie.After-slice-known3 Inv-loop μ-loop) → let a = s .before .before .before .before .before .before .args in a .riders .from + a .riders .count ≤ 21
+room s = s .before .before .before .before .before .before .pre .few
 
 add-before : tie.Need-add-before Inv-loop μ-loop
 add-before c = omega (arith, room (c .before .before .before .before .before .before))
@@ -50,45 +53,89 @@ mul-before : tie.Need-mul-before Inv-loop μ-loop
 mul-before c = omega (arith, room (c .before .before .before .before .before .before))
 
 shared-slice-read-before : tie.Need-shared-slice-read-before Inv-loop μ-loop
-shared-slice-read-before c = omega (arith, room (c .before .before .before .before .before .before .before), c .before .before .before .before .before .before .before .before .before .before .before .pre .paid-before .size)
+shared-slice-read-before c = omega (arith, room (c .before .before .before .before .before .before .before), c .before .before .before .before .before .before .before .before .before .before .before .before .before .pre .paid-before .size)
 
 add-charge : tie.Need-add-charge Inv-loop μ-loop
-add-charge c = omega (arith, c .before .before .before .before .before .before .before .before .before .before .before .pre .known)
+add-charge c = omega (arith, c .before .before .before .before .before .before .before .before .before .before .before .before .before .pre .known)
 
 charge-requires : tie.Need-charge-requires Inv-loop μ-loop
 charge-requires c κs =
     let s = c .before in
-    let p = s .before .before .before .before .before .before .before .before .before .before .pre in
+    let p = s .before .before .before .before .before .before .before .before .before .before .before .before .pre in
     (sound-has _ _ (p .ridden .rideable .sound-book) .size, (omega (arith, p .known), riders-fit p _ (s .loop-test .taken) (s .before .before .chain-of .ensures)))
 
+cut-of-requires : tie.Need-cut-of-requires Inv-loop μ-loop
+cut-of-requires c κs = c .charge .ensures .range
+
 add-amounts : tie.Need-add-amounts Inv-loop μ-loop
-add-amounts c = omega (arith, room (c .before .before .before .before .before .before .before .before .before))
+add-amounts c = omega (arith, room (c .before .before .before .before .before .before .before .before .before .before .before))
 
 mul-amounts : tie.Need-mul-amounts Inv-loop μ-loop
-mul-amounts c = omega (arith, room (c .before .before .before .before .before .before .before .before .before))
+mul-amounts c = omega (arith, room (c .before .before .before .before .before .before .before .before .before .before .before))
 
 slice-write-amounts : tie.Need-slice-write-amounts Inv-loop μ-loop
-slice-write-amounts c = omega (arith, filled-size (c .before .before .before .before .loop .inv), c .before .before .before .before .before .before .before .before .before .before .before .before .before .pre .places)
+slice-write-amounts c = omega (arith, filled-size (c .before .before .before .before .before .before .loop .inv .0), c .before .before .before .before .before .before .before .before .before .before .before .before .before .before .before .before .before .pre .places)
+
+add-reductions : tie.Need-add-reductions Inv-loop μ-loop
+add-reductions c = omega (arith, room (c .before .before .before .before .before .before .before .before .before .before .before))
+
+mul-reductions : tie.Need-mul-reductions Inv-loop μ-loop
+mul-reductions c = omega (arith, room (c .before .before .before .before .before .before .before .before .before .before .before))
+
+slice-write-reductions : tie.Need-slice-write-reductions Inv-loop μ-loop
+slice-write-reductions c = omega (arith, filled-size (c .before .before .before .before .before .before .loop .inv .1), c .before .before .before .before .before .before .before .before .before .before .before .before .before .before .before .before .before .pre .reduction-places)
+
+number-of-requires : tie.Need-number-of-requires Inv-loop μ-loop
+number-of-requires c κs = tt
+
+add-names : tie.Need-add-names Inv-loop μ-loop
+add-names c = omega (arith, room (c .before .before .before .before .before .before .before .before .before .before .before .before))
+
+mul-names : tie.Need-mul-names Inv-loop μ-loop
+mul-names c = omega (arith, room (c .before .before .before .before .before .before .before .before .before .before .before .before))
+
+slice-write-names : tie.Need-slice-write-names Inv-loop μ-loop
+slice-write-names c = omega (arith, filled-size (c .before .before .before .before .before .before .before .loop .inv .2), c .before .before .before .before .before .before .before .before .before .before .before .before .before .before .before .before .before .before .pre .name-places)
 
 add-i : tie.Need-add-i Inv-loop μ-loop
-add-i c = omega (arith, room (c .before .before .before .before .before .before .before .before .before))
+add-i c = omega (arith, room (c .before .before .before .before .before .before .before .before .before .before .before .before))
 
 loop-less : tie.Need-loop-less Inv-loop μ-loop
 loop-less c = omega arith
 
 loop-again : tie.Need-loop-again Inv-loop μ-loop
 loop-again c =
-    let s = c .before .before .before in filled-more (s .before .loop .inv) _ (s .loop-test .taken) (c .before .charge .ensures .value)
+    let s = c .before .before .before .before in
+    let l = c .before .before .before .before .before .before in
+    let inv = l .before .loop .inv in
+    let cut = c .before .before .before .cut-of .ensures in (
+      filled-more (inv .0) _ (l .loop-test .taken) (rw (s .charge .ensures .value)),
+      filled-more (inv .1) _ (l .loop-test .taken) (rw (cut, s .charge .ensures .value)),
+      filled-more (inv .2) _ (l .loop-test .taken) (rw (c .number-of .ensures, cut, s .charge .ensures .value)),
+    )
 
 same-length : tie.Need-same-length Inv-loop μ-loop
-same-length c = filled-size (c .before .loop .inv)
+same-length c = filled-size (c .before .loop .inv .0)
+
+same-length-2 : tie.Need-same-length-2 Inv-loop μ-loop
+same-length-2 c = filled-size (c .before .loop .inv .1)
+
+same-length-3 : tie.Need-same-length-3 Inv-loop μ-loop
+same-length-3 c = filled-size (c .before .loop .inv .2)
 
 returns-2 : tie.Need-returns-2 Inv-loop μ-loop
 returns-2 c =
     let s = c .before .before in
-    let p = s .before .before .before .before .before .before .before .before .pre in
-    let listed = riders-after p (s .before .before .area .ensures) (s .chain-of .ensures .value) (s .before .price .ensures .value) _ (le-refl _) in
-    filled-all (c .before .loop .inv) (c .loop-test .left) ∙ rw listed
+    let p = s .before .before .before .before .before .before .before .before .before .before .pre in
+    let area = s .before .before .area .ensures in
+    let chain = s .chain-of .ensures .value in
+    let fare = s .before .price .ensures .value in
+    let inv = c .before .loop .inv in
+    record {
+      charges = filled-all (inv .0) (c .loop-test .left) ∙ rw (riders-after p area chain fare);
+      cuts = filled-all (inv .1) (c .loop-test .left) ∙ rw (reductions-after p area chain fare);
+      caps = filled-all (inv .2) (c .loop-test .left) ∙ rw (names-after p area chain fare);
+    }
 
 pub charge-riders-spec : {M : Type 1} → statement M
 charge-riders-spec =
@@ -106,11 +153,21 @@ charge-riders-spec =
     shared-slice-read-before
     add-charge
     charge-requires
+    cut-of-requires
     add-amounts
     mul-amounts
     slice-write-amounts
+    add-reductions
+    mul-reductions
+    slice-write-reductions
+    number-of-requires
+    add-names
+    mul-names
+    slice-write-names
     add-i
     loop-less
     loop-again
     same-length
+    same-length-2
+    same-length-3
     returns-2)

@@ -5,6 +5,9 @@ use borrow.Author.Needs.{needs}
 use Rattle.statement.proofs.reading.cents_at.Statement.{statement}
 use Rattle.statement.proofs.reading.cents_at.Tie as tie
 
+persons-at-requires : tie.Need-persons-at-requires
+persons-at-requires c κs = search needs
+
 count-at-requires : tie.Need-count-at-requires
 count-at-requires c κs = search needs
 
@@ -17,4 +20,4 @@ returns c =
     record { value = rw (← counted .0) (c .cents-up-to .ensures .value); range = omega arith }
 
 pub cents-at-spec : {M : Type 1} → statement M
-cents-at-spec = tie.close (tie.spec count-at-requires cents-up-to-requires returns)
+cents-at-spec = tie.close (tie.spec persons-at-requires count-at-requires cents-up-to-requires returns)

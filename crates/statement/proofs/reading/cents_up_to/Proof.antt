@@ -8,19 +8,19 @@ use Rattle.statement.proofs.reading.cents_up_to.Statement.{statement}
 use Rattle.statement.proofs.reading.cents_up_to.Tie as tie
 
 abbrev Inv-loop : tie.InvT-loop
-Inv-loop statement place count cents₀ i₀ cents i = (i ≤ count) × CentsUpTo statement place i cents
+Inv-loop statement place persons count cents₀ i₀ cents i = (i ≤ count) × CentsUpTo statement place i cents
 
 abbrev μ-loop : tie.MeasureT-loop
-μ-loop statement place count cents₀ i₀ cents i = count - i
+μ-loop statement place persons count cents₀ i₀ cents i = count - i
 
 loop-holds : tie.Need-loop-holds Inv-loop μ-loop
 loop-holds c = (omega arith, cents-none _ _)
 
-charge-at-requires : tie.Need-charge-at-requires Inv-loop μ-loop
-charge-at-requires c κs = omega arith
+charge-of-requires : tie.Need-charge-of-requires Inv-loop μ-loop
+charge-of-requires c κs = let asked = c .before .before .before .pre in (asked .0, (asked .1 .0, omega arith))
 
 cast-cents : tie.Need-cast-cents Inv-loop μ-loop
-cast-cents c = omega arith
+cast-cents c = omega (arith, c .charge-of .ensures .range)
 
 add-cents : tie.Need-add-cents Inv-loop μ-loop
 add-cents c = omega arith
@@ -34,7 +34,7 @@ loop-less c = omega arith
 loop-again : tie.Need-loop-again Inv-loop μ-loop
 loop-again c = (
   omega arith,
-  cents-more _ _ _ _ _ (c .before .before .loop .inv .1) (c .charge-at .ensures .value) (c .charge-at .ensures .range),
+  cents-more _ _ _ _ _ (c .before .before .loop .inv .1) (c .charge-of .ensures .value) (c .charge-of .ensures .range),
 )
 
 returns : tie.Need-returns Inv-loop μ-loop
@@ -47,7 +47,7 @@ cents-up-to-spec =
     Inv-loop
     μ-loop
     loop-holds
-    charge-at-requires
+    charge-of-requires
     cast-cents
     add-cents
     add-i

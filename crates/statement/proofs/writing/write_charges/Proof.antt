@@ -1,9 +1,9 @@
--- `statement::writing::write_charges` meets its contract. The loop's invariant: behind the place stand the first `i` charges.
+-- `statement::writing::write_charges` meets its contract. The loop's invariant: behind the place stand the first `i` bicycles' charges.
 -- Assumes nothing.
 use Prim.Native.Nat.{ℕ, _+_, _*_, _-_, _≤_}
 use native.Mathlib.Omega.{arith}
 use mathlib.Core.Path.{_≡_, refl, _∙_}
-use mathlib.Core.List.{List}
+use mathlib.Core.List.{List, []}
 use lib.ListN.{length, take}
 use Rattle.statement.specs.Record.{chargeBytes}
 use Rattle.statement.specs.Contracts.{Wrote}
@@ -13,7 +13,7 @@ use Rattle.statement.proofs.writing.write_charges.Tie as tie
 
 abbrev Inv-loop : tie.InvT-loop
 Inv-loop statement₀ place amounts count next₀ i₀ statement next i =
-    (i ≤ count) × (length statement ≡ length statement₀) × (next ≡ place + 4 * i) × Wrote (chargeBytes (take i amounts)) statement₀ place statement next
+    (i ≤ count) × (length statement ≡ length statement₀) × (next ≡ place + 4 * i) × Wrote (chargeBytes (take i amounts) []) statement₀ place statement next
 
 abbrev μ-loop : tie.MeasureT-loop
 μ-loop statement₀ place amounts count next₀ i₀ statement next i = count - i

@@ -1,4 +1,4 @@
--- `write_head` meets its contract: a walk of its MIR, by hand. Each call on the writer is one rule (`Rattle.wire.proofs.Written`), which adds a field's bytes to those put so far; after the sixth these are the head's.
+-- `write_head` meets its contract: a walk of its MIR, by hand. Each call on the writer is one rule (`Rattle.wire.proofs.Written`), which adds a field's bytes to those put so far; after the ninth these are the head's.
 -- The statement is given up to the writer for good, and what `end` says of its last bytes is what this contract says.
 -- Assumes nothing.
 use mathlib.Core.Path.{refl}
@@ -57,43 +57,43 @@ use Rattle.statement.proofs.writing.write_head.Statement as stated
 use Rattle.statement.proofs.writing.write_head.Code as code
 
 abbrev stayed : Stays (write-head.ended .signature .params) (write-head.ended .kept)
-stayed = (gave-slice (0 ∷ []) tt (plain (λ _. u8)), (stay-none (λ _. usize) yes, (stay-none (λ _. u16) yes, (stay-none (λ _. u32) yes, (stay-none (λ _. u8) yes, (stay-none (λ _. u16) yes, (stay-none (λ _. u16) yes, tt)))))))
+stayed = (gave-slice (0 ∷ []) tt (plain (λ _. u8)), (stay-none (λ _. usize) yes, (stay-none (λ _. u16) yes, (stay-none (λ _. u32) yes, (stay-none (λ _. u8) yes, (stay-none (λ _. u16) yes, (stay-none (λ _. u16) yes, (stay-none (λ _. u8) yes, (stay-none (λ _. u8) yes, (stay-none (λ _. u8) yes, tt))))))))))
 
-module _ {M : Type 1} (𝓤 : URA M) (H : Heap 𝓤) (A : Atoms 𝓤) (W : Given 𝓤 H A) (mem : Memory → SProp 𝓤) (run : Routine → Fun 𝓤) (κ : Lft) (q : Share) (x : RefT (List ℕ)) (place long opening area km minutes : ℕ)
-    (place-fits : place < 2 ^ 64) (long-fits : long < 2 ^ 16) (opening-fits : opening < 2 ^ 32) (area-fits : area < 2 ^ 8) (km-fits : km < 2 ^ 16) (minutes-fits : minutes < 2 ^ 16) (room : Room u8 (length (x .now))) (fits : place + 13 ≤ length (x .now)) where
+module _ {M : Type 1} (𝓤 : URA M) (H : Heap 𝓤) (A : Atoms 𝓤) (W : Given 𝓤 H A) (mem : Memory → SProp 𝓤) (run : Routine → Fun 𝓤) (κ : Lft) (q : Share) (x : RefT (List ℕ)) (place long opening area km minutes adults children bicycles : ℕ)
+    (place-fits : place < 2 ^ 64) (long-fits : long < 2 ^ 16) (opening-fits : opening < 2 ^ 32) (area-fits : area < 2 ^ 8) (km-fits : km < 2 ^ 16) (minutes-fits : minutes < 2 ^ 16) (adults-fits : adults < 2 ^ 8) (children-fits : children < 2 ^ 8) (bicycles-fits : bicycles < 2 ^ 8) (room : Room u8 (length (x .now))) (fits : place + 16 ≤ length (x .now)) where
   abbrev s : Val
   s = sliceVal (x .ptr) (length (x .now))
 
   abbrev Arg : Type 0
-  Arg = RefT (List ℕ) × (ℕ × (ℕ × (ℕ × (ℕ × (ℕ × (ℕ × Unit {0}))))))
+  Arg = RefT (List ℕ) × (ℕ × (ℕ × (ℕ × (ℕ × (ℕ × (ℕ × (ℕ × (ℕ × (ℕ × Unit {0})))))))))
 
   abbrev a : Arg
-  a = (x, (place, (long, (opening, (area, (km, (minutes, tt)))))))
+  a = (x, (place, (long, (opening, (area, (km, (minutes, (adults, (children, (bicycles, tt))))))))))
 
   abbrev Passed : Type 0
-  Passed = List Val × (List Val × (List Val × (List Val × (List Val × (List Val × (List Val × Unit {0}))))))
+  Passed = List Val × (List Val × (List Val × (List Val × (List Val × (List Val × (List Val × (List Val × (List Val × (List Val × Unit {0})))))))))
 
   abbrev vals : Passed
-  vals = (s ∷ [], (vint w64 place ∷ [], (vint w16 long ∷ [], (vint w32 opening ∷ [], (vint w8 area ∷ [], (vint w16 km ∷ [], (vint w16 minutes ∷ [], tt)))))))
+  vals = (s ∷ [], (vint w64 place ∷ [], (vint w16 long ∷ [], (vint w32 opening ∷ [], (vint w8 area ∷ [], (vint w16 km ∷ [], (vint w16 minutes ∷ [], (vint w8 adults ∷ [], (vint w8 children ∷ [], (vint w8 bicycles ∷ [], tt))))))))))
 
   abbrev Post : Val → SProp 𝓤
   Post = walkOf 𝓤 H A write-head.ended stayed (write-head.clauses 𝓤 H A mem run) .post (((κ, tt), (q, tt), tt, a, vals), tt)
 
   abbrev last-bytes : List ℕ
-  last-bytes = sets (x .now) place (headBytes long opening area km minutes)
+  last-bytes = sets (x .now) place (headBytes long opening area km minutes adults children bicycles)
 
-  exits : ent 𝓤 (sep 𝓤 (sem 𝓤 H A (usize .own (place + 13) (vint w64 (place + 13) ∷ []))) (sep 𝓤 (sep 𝓤 (A .lft κ q) (sem 𝓤 H A ftrue)) (sem 𝓤 H A (finally u8 (x .name) last-bytes)))) (Post (vint w64 (place + 13)))
+  exits : ent 𝓤 (sep 𝓤 (sem 𝓤 H A (usize .own (place + 16) (vint w64 (place + 16) ∷ []))) (sep 𝓤 (sep 𝓤 (A .lft κ q) (sem 𝓤 H A ftrue)) (sem 𝓤 H A (finally u8 (x .name) last-bytes)))) (Post (vint w64 (place + 16)))
   exits =
-      qed W (‵ (usize .own (place + 13) (vint w64 (place + 13) ∷ [])) ∷ (‵ (flft κ q) ⊛ ‵ ftrue) ∷ ‵ (finally u8 (x .name) last-bytes) ∷ []) ∵
-      suffices ! _ (ends-at 𝓤 H A write-head.ended stayed (write-head.clauses 𝓤 H A mem run) W (((κ, tt), (q, tt), tt, a, vals), tt) (vint w64 (place + 13)) (place + 13) (last-bytes, (tt, (tt, (tt, (tt, (tt, (tt, tt))))))) (length-sets (x .now) place (headBytes long opening area km minutes), (tt, (tt, (tt, (tt, (tt, (tt, tt)))))))) $
-      says ! (refl, refl) $ move ! (1 ∷ []) $ frame ! $ nothing ! $ number ! w16 minutes minutes-fits $ number ! w16 km km-fits $ number ! w8 area area-fits $ number ! w32 opening opening-fits $ number ! w16 long long-fits $ number ! w64 place place-fits $ move ! (2 ∷ 0 ∷ []) $ fjoin ! $ done !
+      qed W (‵ (usize .own (place + 16) (vint w64 (place + 16) ∷ [])) ∷ (‵ (flft κ q) ⊛ ‵ ftrue) ∷ ‵ (finally u8 (x .name) last-bytes) ∷ []) ∵
+      suffices ! _ (ends-at 𝓤 H A write-head.ended stayed (write-head.clauses 𝓤 H A mem run) W (((κ, tt), (q, tt), tt, a, vals), tt) (vint w64 (place + 16)) (place + 16) (last-bytes, (tt, (tt, (tt, (tt, (tt, (tt, (tt, (tt, (tt, tt)))))))))) (length-sets (x .now) place (headBytes long opening area km minutes adults children bicycles), (tt, (tt, (tt, (tt, (tt, (tt, (tt, (tt, (tt, tt))))))))))) $
+      says ! (refl, refl) $ move ! (1 ∷ []) $ frame ! $ nothing ! $ number ! w8 bicycles bicycles-fits $ number ! w8 children children-fits $ number ! w8 adults adults-fits $ number ! w16 minutes minutes-fits $ number ! w16 km km-fits $ number ! w8 area area-fits $ number ! w32 opening opening-fits $ number ! w16 long long-fits $ number ! w64 place place-fits $ move ! (2 ∷ 0 ∷ []) $ fjoin ! $ done !
 
   -- what is put, up to each field's end
   abbrev to-length : List ℕ
   to-length = bytesOf 2 long
 
   abbrev to-kind : List ℕ
-  to-kind = to-length ++ bytesOf 2 4
+  to-kind = to-length ++ bytesOf 2 6
 
   abbrev to-opening : List ℕ
   to-opening = to-kind ++ bytesOf 4 opening
@@ -107,39 +107,53 @@ module _ {M : Type 1} (𝓤 : URA M) (H : Heap 𝓤) (A : Atoms 𝓤) (W : Given
   abbrev to-minutes : List ℕ
   to-minutes = to-km ++ bytesOf 2 minutes
 
-  within : (m : ℕ) → Holds (leb m 13) → place + m ≤ length (x .now)
-  within m ok = let small = leb→le m 13 ok in omega arith
+  abbrev to-adults : List ℕ
+  to-adults = to-minutes ++ bytesOf 1 adults
+
+  abbrev to-children : List ℕ
+  to-children = to-adults ++ bytesOf 1 children
+
+  abbrev to-bicycles : List ℕ
+  to-bicycles = to-children ++ bytesOf 1 bicycles
+
+  within : (m : ℕ) → Holds (leb m 16) → place + m ≤ length (x .now)
+  within m ok = let small = leb→le m 16 ok in omega arith
 
   module _
-      (C : Calls 𝓤 H) (Λ : Loops 𝓤 H) (fm : FmC 𝓤 H (W .laws) C) (known-new : Triple 𝓤 (C new-def.name) (New 𝓤 H A mem run)) (known-one : Triple 𝓤 (C one-def.name) (Method w8 1 𝓤 H A))
-      (known-two : Triple 𝓤 (C two-def.name) (Method w16 2 𝓤 H A)) (known-four : Triple 𝓤 (C four-def.name) (Method w32 4 𝓤 H A)) (known-end : Triple 𝓤 (C end-def.name) (End 𝓤 H A mem run)) where
+      (C : Calls 𝓤 H) (Λ : Loops 𝓤 H) (fm : FmC 𝓤 H (W .laws) C) (known-new : Triple 𝓤 (C new-def.name) (New 𝓤 H A mem run)) (known-one : Triple 𝓤 (C one-def.name) (Method w8 1 𝓤 H A)) (known-two : Triple 𝓤 (C two-def.name) (Method w16 2 𝓤 H A)) (known-four : Triple 𝓤 (C four-def.name) (Method w32 4 𝓤 H A)) (known-end : Triple 𝓤 (C end-def.name) (End 𝓤 H A mem run)) where
     abbrev at : ℕ → ℕ → ℕ
-    at = local-at 16
+    at = local-at 22
 
-    walk : ent 𝓤 (onEntry 𝓤 H A write-head.signature (κ, tt) (q, tt) a vals) (WpFn 𝓤 H C Λ code.function (s ∷ vint w64 place ∷ vint w16 long ∷ vint w32 opening ∷ vint w8 area ∷ vint w16 km ∷ vint w16 minutes ∷ []) Post)
+    walk : ent 𝓤 (onEntry 𝓤 H A write-head.signature (κ, tt) (q, tt) a vals) (WpFn 𝓤 H C Λ code.function (s ∷ vint w64 place ∷ vint w16 long ∷ vint w32 opening ∷ vint w8 area ∷ vint w16 km ∷ vint w16 minutes ∷ vint w8 adults ∷ vint w8 children ∷ vint w8 bicycles ∷ []) Post)
     unfolding bytesOf
     walk =
-        qed W ((‵ (flft κ q) ⊛ ‵ ftrue) ∷ ‵ (owns (MutSlice (named 0) κ u8 ∷ usize ∷ u16 ∷ u32 ∷ u8 ∷ u16 ∷ u16 ∷ []) a vals) ∷ []) ∵
-        enter ! C Λ code.function (s ∷ vint w64 place ∷ vint w16 long ∷ vint w32 opening ∷ vint w8 area ∷ vint w16 km ∷ vint w16 minutes ∷ []) _ $
-        alloc1 ! (λ l₀. alloc1 ! (λ l₁. alloc1 ! (λ l₂. alloc1 ! (λ l₃. alloc1 ! (λ l₄. alloc1 ! (λ l₅. alloc1 ! (λ l₆. alloc1 ! (λ l₇. alloc1 ! (λ l₈. alloc1 ! (λ l₉. alloc1 ! (λ l₁₀. alloc1 ! (λ l₁₁. alloc1 ! (λ l₁₂. alloc1 ! (λ l₁₃. alloc1 ! (λ l₁₄. alloc1 ! (λ l₁₅. alloc1 ! (λ l₁₆. alloc0 ! $ params1 ! $
+        qed W ((‵ (flft κ q) ⊛ ‵ ftrue) ∷ ‵ (owns (MutSlice (named 0) κ u8 ∷ usize ∷ u16 ∷ u32 ∷ u8 ∷ u16 ∷ u16 ∷ u8 ∷ u8 ∷ u8 ∷ []) a vals) ∷ []) ∵
+        enter ! C Λ code.function (s ∷ vint w64 place ∷ vint w16 long ∷ vint w32 opening ∷ vint w8 area ∷ vint w16 km ∷ vint w16 minutes ∷ vint w8 adults ∷ vint w8 children ∷ vint w8 bicycles ∷ []) _ $
+        alloc1 ! (λ l₀. alloc1 ! (λ l₁. alloc1 ! (λ l₂. alloc1 ! (λ l₃. alloc1 ! (λ l₄. alloc1 ! (λ l₅. alloc1 ! (λ l₆. alloc1 ! (λ l₇. alloc1 ! (λ l₈. alloc1 ! (λ l₉. alloc1 ! (λ l₁₀. alloc1 ! (λ l₁₁. alloc1 ! (λ l₁₂. alloc1 ! (λ l₁₃. alloc1 ! (λ l₁₄. alloc1 ! (λ l₁₅. alloc1 ! (λ l₁₆. alloc1 ! (λ l₁₇. alloc1 ! (λ l₁₈. alloc1 ! (λ l₁₉. alloc1 ! (λ l₂₀. alloc1 ! (λ l₂₁. alloc1 ! (λ l₂₂. alloc0 ! $ params1 ! $
         pass1 ! (init ! (at 0 1) refl (tt, (tt, (record { fits = room .0 }, tt)))) $ pass1 ! (init ! (at 0 2) refl (tt, record { fits = place-fits })) $ pass1 ! (init ! (at 0 3) refl (tt, record { fits = long-fits })) $ pass1 ! (init ! (at 0 4) refl (tt, record { fits = opening-fits })) $
-        pass1 ! (init ! (at 0 5) refl (tt, record { fits = area-fits })) $ pass1 ! (init ! (at 0 6) refl (tt, record { fits = km-fits })) $ pass1 ! (init ! (at 0 7) refl (tt, record { fits = minutes-fits })) $ pass0 ! $
-        assigns ! (addr ! (from ! (fld ! refl (hop ! (look-in ! (at 0 1) (sub ! 0 refl (whole !))) (stop !))))) (from ! (stop !)) (init ! (at 0 15) refl (tt, tt)) $
-        assigns ! (agg ! (and-then ! (of-local ! (at 0 15) refl) (and-then ! (load ! (from ! (fld ! refl (stop !))) (look-in ! (at 0 1) (sub ! 1 refl (whole !)))) (no-more !)))) (from ! (stop !)) (init ! (at 0 16) refl (tt, (tt, (record { fits = room .0 }, tt)))) $
-        -- [the locals, from _16 to _0; the token; what the parameters own]: what the statement owns, and the token, come to the front, and stay there
-        move ! (35 ∷ 34 ∷ []) $ fsplit ! $ move ! (1 ∷ []) $ drop ! $
-        calls-new ! mem run fm known-new x place place-fits (at 0 14) refl (and-then ! (of-local ! (at 1 16) refl) (and-then ! (of-local ! (at 1 2) refl) (no-more !))) (from ! (stop !)) $
-        calls-put ! fm w16 2 known-two x place [] long long-fits (within 2 tt) (at 0 13) refl (and-then ! (of-local ! (at 1 14) refl) (and-then ! (of-local ! (at 1 3) refl) (no-more !))) (from ! (stop !)) $
-        calls-put ! fm w16 2 known-two x place to-length 4 (lit< tt) (within 4 tt) (at 0 12) refl (and-then ! (of-local ! (at 1 13) refl) (and-then ! (lit ! tt) (no-more !))) (from ! (stop !)) $
-        calls-put ! fm w32 4 known-four x place to-kind opening opening-fits (within 8 tt) (at 0 11) refl (and-then ! (of-local ! (at 1 12) refl) (and-then ! (of-local ! (at 1 4) refl) (no-more !))) (from ! (stop !)) $
-        calls-put ! fm w8 1 known-one x place to-opening area area-fits (within 9 tt) (at 0 10) refl (and-then ! (of-local ! (at 1 11) refl) (and-then ! (of-local ! (at 1 5) refl) (no-more !))) (from ! (stop !)) $
-        calls-put ! fm w16 2 known-two x place to-area km km-fits (within 11 tt) (at 0 9) refl (and-then ! (of-local ! (at 1 10) refl) (and-then ! (of-local ! (at 1 6) refl) (no-more !))) (from ! (stop !)) $
-        calls-put ! fm w16 2 known-two x place to-km minutes minutes-fits (within 13 tt) (at 0 8) refl (and-then ! (of-local ! (at 1 9) refl) (and-then ! (of-local ! (at 1 7) refl) (no-more !))) (from ! (stop !)) $
-        calls-end ! mem run fm known-end x place to-minutes (at 0 0) refl (and-then ! (of-local ! (at 1 8) refl) (no-more !)) (from ! (stop !)) $
+        pass1 ! (init ! (at 0 5) refl (tt, record { fits = area-fits })) $ pass1 ! (init ! (at 0 6) refl (tt, record { fits = km-fits })) $ pass1 ! (init ! (at 0 7) refl (tt, record { fits = minutes-fits })) $ pass1 ! (init ! (at 0 8) refl (tt, record { fits = adults-fits })) $
+        pass1 ! (init ! (at 0 9) refl (tt, record { fits = children-fits })) $ pass1 ! (init ! (at 0 10) refl (tt, record { fits = bicycles-fits })) $ pass0 ! $
+        assigns ! (addr ! (from ! (fld ! refl (hop ! (look-in ! (at 0 1) (sub ! 0 refl (whole !))) (stop !))))) (from ! (stop !)) (init ! (at 0 21) refl (tt, tt)) $
+        assigns ! (agg ! (and-then ! (of-local ! (at 0 21) refl) (and-then ! (load ! (from ! (fld ! refl (stop !))) (look-in ! (at 0 1) (sub ! 1 refl (whole !)))) (no-more !)))) (from ! (stop !)) (init ! (at 0 22) refl (tt, (tt, (record { fits = room .0 }, tt)))) $
+        -- [the locals, from _22 to _0; the token; what the parameters own]: what the statement owns, and the token, come to the front, and stay there
+        move ! (47 ∷ 46 ∷ []) $ fsplit ! $ move ! (1 ∷ []) $ drop ! $
+        calls-new ! mem run fm known-new x place place-fits (at 0 20) refl (and-then ! (of-local ! (at 1 22) refl) (and-then ! (of-local ! (at 1 2) refl) (no-more !))) (from ! (stop !)) $
+        calls-put ! fm w16 2 known-two x place [] long long-fits (within 2 tt) (at 0 19) refl (and-then ! (of-local ! (at 1 20) refl) (and-then ! (of-local ! (at 1 3) refl) (no-more !))) (from ! (stop !)) $
+        calls-put ! fm w16 2 known-two x place to-length 6 (lit< tt) (within 4 tt) (at 0 18) refl (and-then ! (of-local ! (at 1 19) refl) (and-then ! (lit ! tt) (no-more !))) (from ! (stop !)) $
+        calls-put ! fm w32 4 known-four x place to-kind opening opening-fits (within 8 tt) (at 0 17) refl (and-then ! (of-local ! (at 1 18) refl) (and-then ! (of-local ! (at 1 4) refl) (no-more !))) (from ! (stop !)) $
+        calls-put ! fm w8 1 known-one x place to-opening area area-fits (within 9 tt) (at 0 16) refl (and-then ! (of-local ! (at 1 17) refl) (and-then ! (of-local ! (at 1 5) refl) (no-more !))) (from ! (stop !)) $
+        calls-put ! fm w16 2 known-two x place to-area km km-fits (within 11 tt) (at 0 15) refl (and-then ! (of-local ! (at 1 16) refl) (and-then ! (of-local ! (at 1 6) refl) (no-more !))) (from ! (stop !)) $
+        calls-put ! fm w16 2 known-two x place to-km minutes minutes-fits (within 13 tt) (at 0 14) refl (and-then ! (of-local ! (at 1 15) refl) (and-then ! (of-local ! (at 1 7) refl) (no-more !))) (from ! (stop !)) $
+        calls-put ! fm w8 1 known-one x place to-minutes adults adults-fits (within 14 tt) (at 0 13) refl (and-then ! (of-local ! (at 1 14) refl) (and-then ! (of-local ! (at 1 8) refl) (no-more !))) (from ! (stop !)) $
+        calls-put ! fm w8 1 known-one x place to-adults children children-fits (within 15 tt) (at 0 12) refl (and-then ! (of-local ! (at 1 13) refl) (and-then ! (of-local ! (at 1 9) refl) (no-more !))) (from ! (stop !)) $
+        calls-put ! fm w8 1 known-one x place to-children bicycles bicycles-fits (within 16 tt) (at 0 11) refl (and-then ! (of-local ! (at 1 12) refl) (and-then ! (of-local ! (at 1 10) refl) (no-more !))) (from ! (stop !)) $
+        calls-end ! mem run fm known-end x place to-bicycles (at 0 0) refl (and-then ! (of-local ! (at 1 11) refl) (no-more !)) (from ! (stop !)) $
         -- [what the result owns; the token; the statement's last bytes; the locals]
-        rewrite ! 2 (λ (bs : List ℕ). ‵ (finally u8 (x .name) (sets (x .now) place bs))) (head-is long opening area km minutes) refl $
-        returns ! (look ! (at 3 0) refl) $ frees-at ! (at 3 0) refl refl $ frees-at ! (at 3 1) refl refl $ frees-at ! (at 3 2) refl refl $ frees-at ! (at 3 3) refl refl $ frees-at ! (at 3 4) refl refl $ frees-at ! (at 3 5) refl refl $ frees-at ! (at 3 6) refl refl $ frees-at ! (at 3 7) refl refl $ frees-at ! (at 3 8) refl refl $
-        frees-at ! (at 3 9) refl refl $ frees-at ! (at 3 10) refl refl $ frees-at ! (at 3 11) refl refl $ frees-at ! (at 3 12) refl refl $ frees-at ! (at 3 13) refl refl $ frees-at ! (at 3 14) refl refl $ frees-at ! (at 3 15) refl refl $ frees-at ! (at 3 16) refl refl $ free0 ! $ by ! exits)))))))))))))))))
+        rewrite ! 2 (λ (bs : List ℕ). ‵ (finally u8 (x .name) (sets (x .now) place bs))) (head-is long opening area km minutes adults children bicycles) refl $
+        returns ! (look ! (at 3 0) refl) $ frees-at ! (at 3 0) refl refl $ frees-at ! (at 3 1) refl refl $ frees-at ! (at 3 2) refl refl $ frees-at ! (at 3 3) refl refl $ frees-at ! (at 3 4) refl refl $ frees-at ! (at 3 5) refl refl $ frees-at ! (at 3 6) refl refl $ frees-at ! (at 3 7) refl refl $
+        frees-at ! (at 3 8) refl refl $ frees-at ! (at 3 9) refl refl $ frees-at ! (at 3 10) refl refl $ frees-at ! (at 3 11) refl refl $ frees-at ! (at 3 12) refl refl $ frees-at ! (at 3 13) refl refl $ frees-at ! (at 3 14) refl refl $ frees-at ! (at 3 15) refl refl $ frees-at ! (at 3 16) refl refl $
+        frees-at ! (at 3 17) refl refl $ frees-at ! (at 3 18) refl refl $ frees-at ! (at 3 19) refl refl $ frees-at ! (at 3 20) refl refl $ frees-at ! (at 3 21) refl refl $ frees-at ! (at 3 22) refl refl $
+        free0 ! $ by ! exits)))))))))))))))))))))))
 
 pub write-head-spec : {M : Type 1} → stated.statement M
 unfolding code.routine
@@ -149,13 +163,13 @@ write-head-spec 𝓤 H 𝓜 𝓖 𝓡 =
     let C = tables 𝓤 H 𝓜 𝓡 code.env .C in
     let Λ = tables 𝓤 H 𝓜 𝓡 code.env .Λ in
     by-walk 𝓤 H 𝓜 𝓖 𝓡 write-head.ended stayed (write-head.clauses 𝓤 H A (𝓜 .mem) (𝓡 .run))
-    (goes-gave-slice 𝓤 H A W 1 0 tt (plain (λ _. u8)), (goes-none 𝓤 H A W 1 (λ _. usize) yes (λ κs x f. refl), (goes-none 𝓤 H A W 1 (λ _. u16) yes (λ κs x f. refl), (goes-none 𝓤 H A W 1 (λ _. u32) yes (λ κs x f. refl), (goes-none 𝓤 H A W 1 (λ _. u8) yes (λ κs x f. refl), (goes-none 𝓤 H A W 1 (λ _. u16) yes (λ κs x f. refl), (goes-none 𝓤 H A W 1 (λ _. u16) yes (λ κs x f. refl), tt)))))))
+    (goes-gave-slice 𝓤 H A W 1 0 tt (plain (λ _. u8)), (goes-none 𝓤 H A W 1 (λ _. usize) yes (λ κs x f. refl), (goes-none 𝓤 H A W 1 (λ _. u16) yes (λ κs x f. refl), (goes-none 𝓤 H A W 1 (λ _. u32) yes (λ κs x f. refl), (goes-none 𝓤 H A W 1 (λ _. u8) yes (λ κs x f. refl), (goes-none 𝓤 H A W 1 (λ _. u16) yes (λ κs x f. refl), (goes-none 𝓤 H A W 1 (λ _. u16) yes (λ κs x f. refl), (goes-none 𝓤 H A W 1 (λ _. u8) yes (λ κs x f. refl), (goes-none 𝓤 H A W 1 (λ _. u8) yes (λ κs x f. refl), (goes-none 𝓤 H A W 1 (λ _. u8) yes (λ κs x f. refl), tt))))))))))
     code.env name code.function (code.unfolded 𝓤 H 𝓜 𝓡) (λ fm.
     walked 𝓤 H A write-head.ended stayed (write-head.clauses 𝓤 H A (𝓜 .mem) (𝓡 .run)) (WpFn 𝓤 H C Λ code.function)
-    (λ κs. (slice-vals, (uint-vals w64, (uint-vals w16, (uint-vals w32, (uint-vals w8, (uint-vals w16, (uint-vals w16, tt)))))))) (λ κs. (mut-slice-tells (named 0) (κs .0) u8, (uint-tells w64, (uint-tells w16, (uint-tells w32, (uint-tells w8, (uint-tells w16, (uint-tells w16, tt))))))))
-    (λ κs qs bounds a g are. needs 𝓤 (a .1 .0 + 13 ≤ length (a .0 .now)) _ (λ fits.
-    walk 𝓤 H A W (𝓜 .mem) (𝓡 .run) (κs .0) (qs .0) (a .0) (a .1 .0) (a .1 .1 .0) (a .1 .1 .1 .0) (a .1 .1 .1 .1 .0) (a .1 .1 .1 .1 .1 .0) (a .1 .1 .1 .1 .1 .1 .0)
-    (are .1 .0 .1) (are .1 .1 .0 .1) (are .1 .1 .1 .0 .1) (are .1 .1 .1 .1 .0 .1) (are .1 .1 .1 .1 .1 .0 .1) (are .1 .1 .1 .1 .1 .1 .0 .1) (are .0 .0 .1) fits C Λ fm
+    (λ κs. (slice-vals, (uint-vals w64, (uint-vals w16, (uint-vals w32, (uint-vals w8, (uint-vals w16, (uint-vals w16, (uint-vals w8, (uint-vals w8, (uint-vals w8, tt))))))))))) (λ κs. (mut-slice-tells (named 0) (κs .0) u8, (uint-tells w64, (uint-tells w16, (uint-tells w32, (uint-tells w8, (uint-tells w16, (uint-tells w16, (uint-tells w8, (uint-tells w8, (uint-tells w8, tt)))))))))))
+    (λ κs qs bounds a g are. needs 𝓤 (a .1 .0 + 16 ≤ length (a .0 .now)) _ (λ fits.
+    walk 𝓤 H A W (𝓜 .mem) (𝓡 .run) (κs .0) (qs .0) (a .0) (a .1 .0) (a .1 .1 .0) (a .1 .1 .1 .0) (a .1 .1 .1 .1 .0) (a .1 .1 .1 .1 .1 .0) (a .1 .1 .1 .1 .1 .1 .0) (a .1 .1 .1 .1 .1 .1 .1 .0) (a .1 .1 .1 .1 .1 .1 .1 .1 .0) (a .1 .1 .1 .1 .1 .1 .1 .1 .1 .0)
+    (are .1 .0 .1) (are .1 .1 .0 .1) (are .1 .1 .1 .0 .1) (are .1 .1 .1 .1 .0 .1) (are .1 .1 .1 .1 .1 .0 .1) (are .1 .1 .1 .1 .1 .1 .0 .1) (are .1 .1 .1 .1 .1 .1 .1 .0 .1) (are .1 .1 .1 .1 .1 .1 .1 .1 .0 .1) (are .1 .1 .1 .1 .1 .1 .1 .1 .1 .0 .1) (are .0 .0 .1) fits C Λ fm
     (cited 𝓤 H (New 𝓤 H A (𝓜 .mem) (𝓡 .run)) 𝓜 𝓡 code.env new-def.name new-def.routine code.calls-wire·writer·Writer·new (new-thm.met 𝓤 H 𝓜 𝓖 𝓡))
     (cited 𝓤 H (Method w8 1 𝓤 H A) 𝓜 𝓡 code.env one-def.name one-def.routine code.calls-wire·writer·Writer·one (one-thm.met 𝓤 H 𝓜 𝓖 𝓡))
     (cited 𝓤 H (Method w16 2 𝓤 H A) 𝓜 𝓡 code.env two-def.name two-def.routine code.calls-wire·writer·Writer·two (two-thm.met 𝓤 H 𝓜 𝓖 𝓡))

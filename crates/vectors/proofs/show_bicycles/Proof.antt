@@ -1,24 +1,26 @@
--- `vectors::show_charges` is safe and ends: the record goes as far as its charges do.
+-- `vectors::show_bicycles` is safe and ends: it passes each charge behind the persons' once.
 -- Assumes nothing.
-use Prim.Native.Nat.{_+_, _-_, _≤_}
-use native.Mathlib.Omega.{arith}
-use lib.ListN.{length}
+use Prim.Native.Nat.{_-_, _≤_}
+use mathlib.Core.Path.{_≡_}
 use borrow.Author.Needs.{needs}
-use Rattle.statement.specs.Record.{mostCharges, sizeWith}
-use Rattle.vectors.proofs.show_charges.Statement.{statement}
-use Rattle.vectors.proofs.show_charges.Tie as tie
+use Rattle.statement.specs.Reading.{countIn}
+use Rattle.vectors.proofs.show_bicycles.Statement.{statement}
+use Rattle.vectors.proofs.show_bicycles.Tie as tie
 
 abbrev Inv-loop : tie.InvT-loop
-Inv-loop statement place i₀ t4 i-end i = (i ≤ i-end) × (i-end ≤ mostCharges) × (place + sizeWith i-end ≤ length statement)
+Inv-loop statement place i₀ t4 i-end i = (i ≤ i-end) × (i-end ≡ countIn statement place)
 
 abbrev μ-loop : tie.MeasureT-loop
 μ-loop statement place i₀ t4 i-end i = i-end - i
+
+persons-at-requires : tie.Need-persons-at-requires Inv-loop μ-loop
+persons-at-requires c κs = search needs
 
 count-at-requires : tie.Need-count-at-requires Inv-loop μ-loop
 count-at-requires c κs = search needs
 
 loop-holds : tie.Need-loop-holds Inv-loop μ-loop
-loop-holds c = (omega arith, omega arith, omega arith)
+loop-holds c = search needs
 
 slice-aggregate-say-number : tie.Need-slice-aggregate-say-number Inv-loop μ-loop
 slice-aggregate-say-number c = search needs
@@ -44,12 +46,13 @@ loop-again c = search needs
 returns : tie.Need-returns Inv-loop μ-loop
 returns c = search needs
 
-pub show-charges-spec : {M : Type 1} → statement M
-show-charges-spec =
+pub show-bicycles-spec : {M : Type 1} → statement M
+show-bicycles-spec =
     tie.close
     (tie.spec
     Inv-loop
     μ-loop
+    persons-at-requires
     count-at-requires
     loop-holds
     slice-aggregate-say-number
