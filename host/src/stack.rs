@@ -4,7 +4,7 @@ use crate::library::milecopper_settle;
 #[cfg(any(target_arch = "x86_64", target_arch = "aarch64"))]
 use std::arch::asm;
 
-/// A call may take so many bytes.
+/// A call may take so many bytes. docs/DECISIONS.md says why, under the arrays of reductions and names.
 pub const LIMIT: usize = 1_536;
 
 /// Whether a call can be made on another stack here.
