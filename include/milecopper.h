@@ -18,6 +18,12 @@
  * All numbers in a tariff, a book, a trip and a charge record are little-endian on every machine, so these bytes can
  * be stored and sent as they are. No slice needs any alignment.
  *
+ * A trip is a record of kind MILECOPPER_TRIP_KIND. Its check-in and its check-out are stamps of MILECOPPER_STAMP_BYTES
+ * bytes each: a local date of 2000 to 2099 and a clock time (year in 2 bytes, month, day, hour, minute), then the hours
+ * that this clock is ahead of UTC, 1 for winter time and 2 for summer time. Durations, windows, the order of trips, the
+ * book and the opening minute count UTC. So in the night in October 02:50 summer time to 02:10 winter time is 20 minutes,
+ * and so is 01:50 winter time to 03:10 summer time in the night in March. An offset is not compared with the season.
+ *
  * Duties of the caller
  *
  *   - Each pointer points to at least as many bytes as the length beside it says. `tariff` and `trip` are only read;
@@ -69,10 +75,15 @@
 #define MILECOPPER_MOST_CHILDREN 10
 #define MILECOPPER_MOST_BICYCLES 10
 
-/* A trip's stops, and its record's length with the most stops. */
+/* A trip record: its kind, the length of each of its two stamps and the offsets from UTC that they may have; its stops, and
+ * its length with the most stops. */
+#define MILECOPPER_TRIP_KIND 7
+#define MILECOPPER_STAMP_BYTES 7
+#define MILECOPPER_WINTER_OFFSET 1
+#define MILECOPPER_SUMMER_OFFSET 2
 #define MILECOPPER_FEWEST_STOPS_IN_A_TRIP 2
 #define MILECOPPER_MOST_STOPS_IN_A_TRIP 32
-#define MILECOPPER_LARGEST_TRIP_BYTES 86
+#define MILECOPPER_LARGEST_TRIP_BYTES 88
 
 /* What a tariff may hold, and its length with the most of each: a factor record for each area, where none is a city. */
 #define MILECOPPER_MOST_AREAS 32
@@ -98,7 +109,7 @@ enum milecopper_refusal {
     MILECOPPER_TRIP_MISSHAPEN = 5,    /* trip: frame, kind or length wrong, or bytes after the record */
     MILECOPPER_TRIP_COUNTS = 6,       /* trip: class, ticket level, party or number of stops out of range */
     MILECOPPER_UNKNOWN_STOP = 7,      /* trip: a stop number that the tariff lacks */
-    MILECOPPER_NO_SUCH_TIME = 8,      /* trip: no date of 2000 to 2099, or no clock time */
+    MILECOPPER_NO_SUCH_TIME = 8,      /* trip: a stamp's date, clock time or offset is none, or it is before minute 0 */
     MILECOPPER_TRIP_BACKWARD = 9,     /* trip: check-out before check-in, or over 1,440 minutes after it */
     MILECOPPER_BEFORE_LAST_TRIP = 10, /* trip: check-in before the book's last check-out */
     MILECOPPER_WINDOW_FULL = 11,      /* trip: it, or its second part, would be the 257th of its window */
@@ -178,7 +189,8 @@ static inline const char *milecopper_refusal_text(enum milecopper_refusal refusa
     case MILECOPPER_UNKNOWN_STOP:
         return "The trip uses a stop that is not in the price file.";
     case MILECOPPER_NO_SUCH_TIME:
-        return "The trip has a date or a time of day that does not exist, or one outside the years 2000 to 2099.";
+        return "The trip has a date or a time of day that does not exist, or one outside the years 2000 to 2099, or a clock "
+               "that shows neither winter nor summer time.";
     case MILECOPPER_TRIP_BACKWARD:
         return "The trip ends before it starts, or it lasts longer than 24 hours.";
     case MILECOPPER_BEFORE_LAST_TRIP:
@@ -235,8 +247,8 @@ static inline size_t milecopper_record_bytes(const uint8_t *record)
     return 2 + (size_t)milecopper_number(record, 2);
 }
 
-/* The minute at which the trip's window opened, the same for both parts. Minute 0 is 2000-01-01 00:00; every day has
- * 1,440 minutes. */
+/* The minute at which the trip's window opened, the same for both parts. Minutes count UTC; minute 0 is 2000-01-01 00:00
+ * UTC. */
 static inline uint32_t milecopper_record_opening(const uint8_t *record)
 {
     return milecopper_number(record + 4, 4);
@@ -254,7 +266,7 @@ static inline unsigned milecopper_record_km(const uint8_t *record)
     return (unsigned)milecopper_number(record + 9, 2);
 }
 
-/* The minutes from check-in to check-out; 0 for a second part. */
+/* The minutes from check-in to check-out, counted in UTC; 0 for a second part. */
 static inline unsigned milecopper_record_minutes(const uint8_t *record)
 {
     return (unsigned)milecopper_number(record + 11, 2);

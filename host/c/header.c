@@ -22,7 +22,8 @@ static void sizes(void)
     check(milecopper_record_bytes_for(0, 0, 0) == MILECOPPER_SMALLEST_RECORD_BYTES, "the smallest record");
     check(milecopper_record_bytes_for(10, 10, 10) == MILECOPPER_LARGEST_RECORD_BYTES, "the largest record");
     check(milecopper_record_bytes_for(1, 2, 3) == 16 + 10 * 4 + 4 * 3, "a record's length by its party");
-    check(MILECOPPER_LARGEST_TRIP_BYTES == 4 + 18 + 2 * MILECOPPER_MOST_STOPS_IN_A_TRIP, "the largest trip");
+    check(MILECOPPER_LARGEST_TRIP_BYTES == 4 + 2 * MILECOPPER_STAMP_BYTES + 6 + 2 * MILECOPPER_MOST_STOPS_IN_A_TRIP,
+          "the largest trip");
     check(MILECOPPER_LARGEST_STATEMENT_BYTES == MILECOPPER_MOST_PARTS * MILECOPPER_LARGEST_RECORD_BYTES,
           "the largest statement");
     check(MILECOPPER_LARGEST_TARIFF_BYTES == (29 + 6) * MILECOPPER_MOST_AREAS + 13 * MILECOPPER_MOST_STOPS,

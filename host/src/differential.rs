@@ -16,6 +16,7 @@ mod fields;
 mod guarded;
 mod kinds;
 mod options;
+mod particulars;
 pub mod random;
 mod report;
 mod run;

@@ -160,7 +160,7 @@ impl Desk {
             area[25..27].fill(0xff);
         }
         let mut with_a_child = trip.to_vec();
-        with_a_child[18..21].copy_from_slice(&[0, 1, 0]);
+        with_a_child[20..23].copy_from_slice(&[0, 1, 0]);
         let settled = self.settled(&tariff, &mut [0; BOOK_BYTES], &with_a_child, LARGEST_STATEMENT);
         let lines = settled.expect("the trip is no refusal").into_iter().map(|record| {
             let ChargeRecord { area, km, minutes, charges, .. } = record;
@@ -191,7 +191,8 @@ fn used_book(area: u8) -> Vec<u8> {
 }
 
 fn trip_between(stop: usize) -> Vec<u8> {
-    let text = "trip 2000-01-01 00:00 to 2000-01-01 00:00 class 2 level 0 adults 0 children 0 bikes 0 stops";
+    let time = "2000-01-01T01:00+01:00";
+    let text = format!("trip {time} to {time} class 2 level 0 adults 0 children 0 bikes 0 stops");
     bytes_of(&format!("{text} {stop} {stop}")).expect("a trip")
 }
 

@@ -8,16 +8,17 @@
 //! area region parent 0 base 173 km 29 valid 240 first 50 child 50 cap levels 1 2 3 4 5 day 2890 bike 350
 //! factor 3 mark 0
 //! stop 2 300000 200000
-//! trip 2000-12-31 22:00 to 2000-12-31 22:08 class 2 level K adults 0 children 0 bikes 0 stops 0 1
+//! trip 2026-10-25T02:50+02:00 to 2026-10-25T02:10+01:00 class 2 level K adults 0 children 0 bikes 0 stops 0 1
 //! record 9 0a0b 0c
 //! bytes 01 02
 //! repeat 3
 //! stop 2 300000 200000
 //! ```
 //!
-//! `area`, `factor` and `trip` take their fields in this order. A level may also be a number. Numbers are checked only for their
-//! width in bytes, so that bad records can be written. `record` gives a kind and a body in hexadecimal, `bytes` anything
-//! at all. `repeat` stands on its own line and writes the next record that many times.
+//! `area`, `factor` and `trip` take their fields in this order. A time is written as in ISO 8601, with its offset from UTC
+//! in whole hours. A level may also be a number. Numbers are checked only for their width in bytes, so that bad records can
+//! be written. `record` gives a kind and a body in hexadecimal, `bytes` anything at all. `repeat` stands on its own line
+//! and writes the next record that many times.
 //!
 //! A case file has sections besides (see [`cases`]).
 

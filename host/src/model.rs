@@ -42,7 +42,7 @@ pub type Cents = u64;
 pub type Km = u64;
 /// Metres in one plane.
 pub type Metres = u64;
-/// Minutes, also counted from 2000-01-01 00:00.
+/// Minutes, also counted from 2000-01-01 00:00 UTC.
 pub type Minutes = u64;
 
 /// The refusal's number, and its place: for 1 to 3 the offset in the tariff, else 0.
@@ -74,7 +74,7 @@ fn outcome(tariff: &[u8], book: &[u8], trip: &[u8], room: usize) -> Result<(Book
     unless(trip.counts_are_in_range(), 6)?;
     // 7: a stop number the tariff lacks
     unless(trip.stops.iter().all(|&stop| stop < tariff.stops.len()), 7)?;
-    // 8: a stamp that is no date or no clock time
+    // 8: a stamp with no local date or clock time, with another offset, or before minute 0 UTC
     let check_in = trip.check_in.minute_number().ok_or(refused(8))?;
     let check_out = trip.check_out.minute_number().ok_or(refused(8))?;
     // 9: check-out before check-in, or over 1,440 minutes after it

@@ -14,9 +14,11 @@ fn block(name: &str) -> Vec<u8> {
     text.split_whitespace().map(|byte| u8::from_str_radix(byte, 16).expect("two hexadecimal digits")).collect()
 }
 
-/// The trip, settled on a fresh book, gives the record; the ride out and back gives two, and is two trips of its window.
+/// Each trip, settled on a fresh book, gives its record; the ride out and back gives two, and is two trips of its window.
 fn gives_the_records(settle: Settle) {
-    for (trip, records, trips) in [("trip", "record", 1), ("ride-out-and-back", "two-records", 2)] {
+    for (trip, records, trips) in
+        [("trip", "record", 1), ("october-trip", "october-record", 1), ("ride-out-and-back", "two-records", 2)]
+    {
         let (mut book, mut statement) = ([0; 5_428], [0xaa; 532]);
         let records = block(records);
         let written = records.len();
@@ -34,7 +36,7 @@ fn gives_the_cut(settle: Settle) {
     let record = block("cut-record");
     for _ in 0..5 {
         assert_eq!(settle(&block("tariff"), &mut book, &trip, &mut statement), 2 * record.len() as u64);
-        trip.copy_within(10..16, 4);
+        trip.copy_within(11..18, 4);
     }
     assert_eq!(statement[record.len()..2 * record.len()], record);
     assert_eq!(book[0], 10);

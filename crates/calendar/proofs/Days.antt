@@ -2,12 +2,12 @@
 -- Assumes nothing.
 use Prim.Native.Nat.{ℕ, zero, suc, _+_, _-_, _*_, _/_, _%_, _≤_, _<_}
 use native.Mathlib.Nat.{le-refl, le-trans, le-add-right}
-use native.Mathlib.Decide.{ℕ-discrete, le-ind}
+use native.Mathlib.Decide.{ℕ-discrete, decLt, le-ind}
 use native.Mathlib.Omega.{arith}
 use mathlib.Core.Path.{_≡_, refl}
-use mathlib.Core.Bool.{Bool, true, false, cond, and-true}
-use borrow.Author.Tests.{eqb-true, eqb-false, ne-eqb}
-use lib.Dec.{eqb}
+use mathlib.Core.Bool.{Bool, true, false, cond, _||_, and-true}
+use borrow.Author.Tests.{eqb-true, eqb-false, ne-eqb, lt-ltb, le-ltb}
+use lib.Dec.{eqb, ltb}
 use Rattle.calendar.specs.Days.{leap, monthDays, daysOfMonths, daysOfYears, dayNumber, DayNumber}
 use Rattle.calendar.proofs.Fields.{Date}
 
@@ -87,3 +87,46 @@ by-month y m d m′ d′ date h =
 pub by-day : (y m d d′ : ℕ) → Date y m d → d < d′ → dayNumber y m d < dayNumber y m d′
 unfolding dayNumber
 by-day y m d d′ date h = omega arith
+
+-- 1 January is a date
+year-start : (year : ℕ) → 2000 ≤ year → year ≤ 2099 → Date year 1 1
+unfolding monthDays
+year-start y low high =
+    record { first-year = low; last-year = high; first-month = omega arith; last-month = omega arith; first-day = omega arith; last-day = omega arith }
+
+first-date : (y m d : ℕ) → y ≤ 2000 → m ≤ 1 → d ≤ 1 → dayNumber y m d ≤ 0
+unfolding dayNumber daysOfYears daysOfMonths
+first-date y m d year month day =
+    let years : y - 2000 ≡ 0 = omega arith in
+    let months : m - 1 ≡ 0 = omega arith in
+    rw (years, months) (omega arith)
+
+later-day : (y m d : ℕ) → 1 < d → 0 < dayNumber y m d
+unfolding dayNumber
+later-day y m d h = omega arith
+
+-- the first date of the calendar has no days before it, and every other one has
+pub day-zero : (y m d : ℕ) → Date y m d → ltb 2000 y || ltb 1 m || ltb 1 d ≡ ltb 0 (dayNumber y m d)
+day-zero y m d date =
+    elim (decLt 2000 y) [
+      | yes year ↦
+          rw (lt-ltb 2000 y year, lt-ltb 0 (dayNumber y m d) (omega (arith, by-year 2000 1 1 y m d (year-start 2000 (omega arith) (omega arith)) year)))
+      | no first-year ↦
+          let same-year = le-ltb 2000 y (omega arith) in
+          elim (decLt 1 m) [
+            | yes month ↦
+                rw (
+                  same-year,
+                  lt-ltb 1 m month,
+                  lt-ltb 0 (dayNumber y m d) (omega (arith, by-month y 1 1 m d (year-start y (date .first-year) (date .last-year)) month)),
+                )
+            | no january ↦
+                let same-month = le-ltb 1 m (omega arith) in
+                elim (decLt 1 d) [
+                  | yes day ↦ rw (same-year, same-month, lt-ltb 1 d day, lt-ltb 0 (dayNumber y m d) (later-day y m d day))
+                  | no first-day ↦
+                      let none = first-date y m d (omega arith) (omega arith) (omega arith) in
+                      rw (same-year, same-month, le-ltb 1 d (omega arith), le-ltb 0 (dayNumber y m d) none)
+                ]
+          ]
+    ]

@@ -1,12 +1,14 @@
--- What a true test of a date, of a clock time and of a stamp says of the fields.
+-- What a true test of a date, of a clock time, of an offset and of a stamp says of the fields.
 -- Assumes nothing.
-use Prim.Native.Nat.{ℕ, _≤_}
-use mathlib.Core.Path.{_≡_}
-use mathlib.Core.Bool.{Bool, true, _&&_, and-eq-true-iff}
-use borrow.Author.Tests.{leb-true}
-use lib.Dec.{leb}
+use Prim.Native.Nat.{ℕ, _*_, _≤_}
+use native.Mathlib.Omega.{arith}
+use mathlib.Core.Path.{_≡_, refl}
+use mathlib.Core.Logic.{_⊎_, inl, inr}
+use mathlib.Core.Bool.{Bool, true, false, _&&_, _||_, and-eq-true-iff}
+use borrow.Author.Tests.{leb-true, eqb-true}
+use lib.Dec.{leb, eqb}
 use Rattle.calendar.specs.Days.{leap, monthDays}
-use Rattle.calendar.specs.Stamps.{isDate, isClock, isStamp}
+use Rattle.calendar.specs.Stamps.{isDate, isClock, isOffset, localMinute, isStamp}
 use Rattle.calendar.specs.declared.Stamp.{Stamp}
 
 pub record Date (year month day : ℕ) : Type 0 where
@@ -48,6 +50,27 @@ clock-fields h n e =
     let two = last (leb h 23) n 59 e in
     record { last-hour = leb-true h 23 (two .0); last-minute = two .1 }
 
--- a stamp is a date and a clock time
-pub stamp-parts : (s : Stamp) → isStamp s ≡ true → (isDate (s .year) (s .month) (s .day) ≡ true) × (isClock (s .hour) (s .minute) ≡ true)
-stamp-parts s = and-eq-true-iff (isDate (s .year) (s .month) (s .day)) (isClock (s .hour) (s .minute)) .0
+pub offset-range : (offset : ℕ) → isOffset offset ≡ true → (1 ≤ offset) × (offset ≤ 2)
+offset-range o e = go (eqb o 1) refl e
+  where
+    go : (t : Bool) → eqb o 1 ≡ t → t || eqb o 2 ≡ true → (1 ≤ o) × (o ≤ 2)
+    go true is e′ = let one = eqb-true o 1 is in (omega arith, omega arith)
+    go false is e′ = let two = eqb-true o 2 e′ in (omega arith, omega arith)
+
+pub an-offset : (offset : ℕ) → (offset ≡ 1) ⊎ (offset ≡ 2) → isOffset offset ≡ true
+an-offset o (inl e) = rw e
+an-offset o (inr e) = rw e
+
+-- a stamp is a date, a clock time and an offset, and not before minute 0
+pub record StampParts (s : Stamp) : Type 0 where
+  pub date : isDate (s .year) (s .month) (s .day) ≡ true
+  pub clock : isClock (s .hour) (s .minute) ≡ true
+  pub offset : isOffset (s .offset) ≡ true
+  pub from-zero : 60 * s .offset ≤ localMinute s
+
+pub stamp-parts : (s : Stamp) → isStamp s ≡ true → StampParts s
+stamp-parts s e =
+    let four = last _ (60 * s .offset) (localMinute s) e in
+    let three = and-eq-true-iff (isDate (s .year) (s .month) (s .day) && isClock (s .hour) (s .minute)) (isOffset (s .offset)) .0 (four .0) in
+    let two = and-eq-true-iff (isDate (s .year) (s .month) (s .day)) (isClock (s .hour) (s .minute)) .0 (three .0) in
+    record { date = two .0; clock = two .1; offset = three .1; from-zero = four .1 }

@@ -1,4 +1,5 @@
-// Stamps and minute numbers: a moment of 2000 to 2099 as its date and clock time, and as minutes since 2000-01-01 00:00.
+// Stamps and minute numbers: a moment as its local date and clock time, 2000 to 2099, with the hours ahead of UTC, and as minutes since
+// 2000-01-01 00:00 UTC.
 // Every day has 1,440 minutes. The days before each month stand as a table, one row for common and one for leap years.
 use units::DAY;
 use units::Minutes;
@@ -6,22 +7,25 @@ ghost use mathlib.Core.Path.{_≡_};
 ghost use mathlib.Core.Bool.{true};
 ghost use Prim.Native.Nat.{_≤_};
 ghost use Rattle.calendar.specs.Days.{leap, monthDays, DaysBefore, DayNumber};
-ghost use Rattle.calendar.specs.Stamps.{isDate, isClock, isStamp, stampOf, MinuteNumber};
+ghost use Rattle.calendar.specs.Contracts.{fromZero};
+ghost use Rattle.calendar.specs.Stamps.{isDate, isClock, isOffset, isStamp, stampOf, MinuteNumber};
 
 // The days before each month: of a common year, and of a leap year.
 const COMMON: [u32; 12] = [0, 31, 59, 90, 120, 151, 181, 212, 243, 273, 304, 334];
 
 const LEAP: [u32; 12] = [0, 31, 60, 91, 121, 152, 182, 213, 244, 274, 305, 335];
 
+// The date and clock time are local; the offset is the hours that they are ahead of UTC.
 pub struct Stamp {
     pub year: u16,
     pub month: u8,
     pub day: u8,
     pub hour: u8,
     pub minute: u8,
+    pub offset: u8,
 }
 
-// What the maker answers: the stamp, or that the fields are no date 2000..2099 or no clock time.
+// What the maker answers: the stamp, or that the fields are none.
 pub enum Made {
     Good(Stamp),
     Refused,
@@ -60,6 +64,19 @@ fn is_clock(hour: u8, minute: u8) -> bool
     (hour <= 23) & (minute <= 59)
 }
 
+fn is_offset(offset: u8) -> bool
+    ensures { λ r. ⌜ r ≡ isOffset offset ⌝ }
+{
+    (offset == 1) | (offset == 2)
+}
+
+// Whether a moment is not before minute 0: only the first hours of 2000-01-01 are.
+fn from_zero(year: u16, month: u8, day: u8, hour: u8, offset: u8) -> bool
+    ensures { λ r. ⌜ r ≡ fromZero year month day hour offset ⌝ }
+{
+    (offset <= hour) | (Stamp::FIRST_YEAR < year) | (1 < month) | (1 < day)
+}
+
 // The days of the year that go before a month's first.
 fn days_before(leap_year: bool, month: u8) -> u32
     requires { ⌜ (1 ≤ month) × (month ≤ 12) ⌝ }
@@ -81,36 +98,41 @@ fn day_number(year: u16, month: u8, day: u8) -> u32
 
 impl Stamp {
     // A stamp's bytes in a record.
-    pub const SIZE: usize = 6;
+    pub const SIZE: usize = 7;
 
     pub const FIRST_YEAR: u16 = 2000;
 
     pub const LAST_YEAR: u16 = 2099;
-    // 2099-12-31 23:59.
+    // The bound of a book's minutes.
     pub const LAST_MINUTE: u32 = 52_595_999;
 
-    pub fn make(year: u16, month: u8, day: u8, hour: u8, minute: u8) -> Made
-        ensures { λ r. ⌜ r ≡ stampOf year month day hour minute ⌝ }
+    pub fn make(year: u16, month: u8, day: u8, hour: u8, minute: u8, offset: u8) -> Made
+        ensures { λ r. ⌜ r ≡ stampOf year month day hour minute offset ⌝ }
     {
-        if is_date(year, month, day) & is_clock(hour, minute) {
+        if is_date(year, month, day)
+            & is_clock(hour, minute)
+            & is_offset(offset)
+            & from_zero(year, month, day, hour, offset)
+        {
             Made::Good(Stamp {
                 year,
                 month,
                 day,
                 hour,
                 minute,
+                offset,
             })
         } else {
             Made::Refused
         }
     }
 
-    // The minutes from 2000-01-01 00:00 to the stamp.
+    // The minutes from 2000-01-01 00:00 UTC to the stamp's moment.
     pub fn minutes(self) -> Minutes
         requires { ⌜ isStamp self ≡ true ⌝ }
         ensures { λ r. ⌜ MinuteNumber self (r .0) ⌝ }
     {
         let day = day_number(self.year, self.month, self.day);
-        Minutes(DAY * day + 60 * self.hour as u32 + self.minute as u32)
+        Minutes(DAY * day + 60 * self.hour as u32 + self.minute as u32 - 60 * self.offset as u32)
     }
 }

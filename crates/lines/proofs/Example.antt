@@ -29,14 +29,14 @@ entry area km minutes opening cents = record { area = area; km = km; minutes = m
 
 pub five-trips :
     textOf
-    (Charged (entry 2 3 8 526920 221)
-    ∷ Charged (entry 2 5 11 526920 230)
-    ∷ Charged (entry 2 5 12 526920 99)
-    ∷ Charged (entry 2 8 15 526920 0)
-    ∷ Charged (entry 2 3 1 528360 221)
+    (Charged (entry 2 3 8 526860 221)
+    ∷ Charged (entry 2 5 11 526860 230)
+    ∷ Charged (entry 2 5 12 526860 99)
+    ∷ Charged (entry 2 8 15 526860 0)
+    ∷ Charged (entry 2 3 1 528300 221)
     ∷ [])
     ≡ bytes
-    "trip area km min open cents\n1 2 3 8 526920 221\n2 2 5 11 526920 230\n3 2 5 12 526920 99\n4 2 8 15 526920 0\n5 2 3 1 528360 221\naccepted 5 refused 0 cents 771\n"
+    "trip area km min open cents\n1 2 3 8 526860 221\n2 2 5 11 526860 230\n3 2 5 12 526860 99\n4 2 8 15 526860 0\n5 2 3 1 528300 221\naccepted 5 refused 0 cents 771\n"
 unfolding bytes digit digitsIn decimal header spaced entryText lineText tailText acceptedOf refusedOf centsOf linesText textOf
 five-trips = refl
 
@@ -48,9 +48,9 @@ a-refusal = refl
 
 -- two lines under one number, one accepted, and the cents of both
 pub two-parts :
-    textOf (Charged (entry 2 3 8 526920 221) ∷ Both (entry 2 5 30 526920 230) (entry 4 5 0 526920 99) ∷ Refused 11 ∷ [])
+    textOf (Charged (entry 2 3 8 526860 221) ∷ Both (entry 2 5 30 526860 230) (entry 4 5 0 526860 99) ∷ Refused 11 ∷ [])
     ≡ bytes
-    "trip area km min open cents\n1 2 3 8 526920 221\n2 2 5 30 526920 230\n2 4 5 0 526920 99\n3 refused 11\naccepted 2 refused 1 cents 550\n"
+    "trip area km min open cents\n1 2 3 8 526860 221\n2 2 5 30 526860 230\n2 4 5 0 526860 99\n3 refused 11\naccepted 2 refused 1 cents 550\n"
 unfolding bytes digit digitsIn decimal header spaced entryText lineText tailText acceptedOf refusedOf centsOf linesText textOf
 two-parts = refl
 

@@ -2,6 +2,7 @@ pub mod Promises
 pub mod Rolls
 pub mod Answers
 pub mod Midnight
+pub mod Offsets
 pub mod Table
 pub mod Refusing
 pub mod Shifts

@@ -4,19 +4,20 @@
 use Prim.Native.Nat.{ℕ, _+_, _<_}
 use native.Mathlib.Nat.{add-zero}
 use native.Mathlib.Omega.{arith}
-use mathlib.Core.Path.{_≡_, refl, sym, ap}
+use mathlib.Core.Path.{_≡_, refl, sym, ap, _∙_}
 use mathlib.Core.Logic.{_↔_, _⊎_, inl, inr, ⊎-elim}
 use mathlib.Core.List.{List}
 use mathlib.Core.Bool.{Bool, true, false, not, _&&_, false≢true}
-use borrow.Author.Tests.{leb-true, leb-false, eq-eqb, ne-eqb, eqb-true, eqb-false}
+use borrow.Author.Tests.{leb-true, leb-false, le-leb, eq-eqb, ne-eqb, eqb-true, eqb-false}
 use lib.Dec.{leb, eqb}
 use Rattle.units.specs.Day.{dayMinutes}
+use Rattle.calendar.specs.Stamps.{lastMinute}
 use Rattle.tariff.specs.declared.Counts.{Counts}
 use Rattle.tariff.specs.declared.Reading.{Reading}
 use Rattle.tariff.specs.declared.Reading.the-variants.{Fault, Faultless}
 use Rattle.tariff.specs.Scan.{readTariff}
 use Rattle.tariff.specs.Areas.{Read}
-use Rattle.book.specs.Words.{freshBook, tripsOf, openingOf}
+use Rattle.book.specs.Words.{freshBook, tripsOf, openingOf, lastOutOf}
 use Rattle.book.specs.Windows.{belongs, windowOf}
 use Rattle.book.proofs.WordLaws.{word-fresh}
 use Rattle.statement.specs.Record.{Part}
@@ -78,7 +79,8 @@ shifted {d} {book} t b =
       last = λ used. omega (arith, rw (ne-eqb (tripsOf book) 0 used) at (b .last));
       unused = λ none.
           (omega (arith, rw (eq-eqb (tripsOf book) 0 none) at (b .opening)), omega (arith, rw (eq-eqb (tripsOf book) 0 none) at (b .last)));
-      in-calendar = (omega (arith, b .last, b .in-calendar), b .in-calendar);
+      in-calendar =
+          le-leb _ lastMinute (b .in-calendar) ∙ sym (le-leb (lastOutOf book) lastMinute (omega (arith, b .last, b .in-calendar)));
     }
 
 module _ (tariff : List ℕ) (room d : ℕ) {book bytes book′ bytes′ : List ℕ} (trip : MovedTrip d bytes bytes′) (moved : MovedBook d book book′) where

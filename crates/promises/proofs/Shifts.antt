@@ -62,7 +62,7 @@ pub record Shifted (c d : ℕ) (book bytes book′ bytes′ : List ℕ) : Type 0
   pub opening : (tripsOf book ≡ 0 → ⊥) → Moved c d (openingOf book) (openingOf book′)
   pub last : (tripsOf book ≡ 0 → ⊥) → Moved c d (lastOutOf book) (lastOutOf book′)
   pub unused : tripsOf book ≡ 0 → (openingOf book′ ≡ openingOf book) × (lastOutOf book′ ≡ lastOutOf book)
-  pub in-calendar : (lastOutOf book ≤ lastMinute) × (lastOutOf book′ ≤ lastMinute)
+  pub in-calendar : leb (lastOutOf book′) lastMinute ≡ leb (lastOutOf book) lastMinute
 
 -- a test of two numbers holds of two others alike
 leb-alike : (a b a′ b′ : ℕ) → (a ≤ b → a′ ≤ b′) → (a′ ≤ b′ → a ≤ b) → leb a′ b′ ≡ leb a b
@@ -127,8 +127,7 @@ module _ {c d : ℕ} {book bytes book′ bytes′ : List ℕ} (s : Shifted c d b
       rw (
         trips-same,
         leb-alike (openingOf book) (lastOutOf book) (openingOf book′) (lastOutOf book′) (λ h. omega arith) (λ h. omega arith),
-        le-leb (lastOutOf book′) lastMinute (s .in-calendar .1),
-        le-leb (lastOutOf book) lastMinute (s .in-calendar .0),
+        s .in-calendar,
         leb-alike (lastOutOf book) (openingOf book + dayMinutes) (lastOutOf book′) (openingOf book′ + dayMinutes) (λ h. omega arith) (λ h. omega arith),
       )
 

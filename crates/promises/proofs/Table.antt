@@ -11,7 +11,7 @@ use Rattle.wire.specs.Number.{getLe, putLe, bytesOf}
 use Rattle.wire.specs.Each.{each}
 use Rattle.wire.specs.Frame.{broken, frameAt}
 use Rattle.calendar.specs.Days.{monthDays, daysOfMonths, daysOfYears, dayNumber}
-use Rattle.calendar.specs.Stamps.{minuteNumber}
+use Rattle.calendar.specs.Stamps.{localMinute, minuteNumber}
 use Rattle.caps.specs.Limits.{leftOf, cappedHere}
 use Rattle.caps.specs.Named.{leaves, namedHere, nameIn}
 use Rattle.caps.specs.Rides.{ChargedRide}
@@ -163,7 +163,7 @@ saidSums c = record { come-to = results c; window = ridesIn (results c) [] }
 
 -- all cases, computed
 computed : map settledSums cases ≡ map saidSums cases
-unfolding dividedUp hundredthsOf periods getLe putLe bytesOf each broken frameAt monthDays daysOfMonths daysOfYears dayNumber minuteNumber leftOf
+unfolding dividedUp hundredthsOf periods getLe putLe bytesOf each broken frameAt monthDays daysOfMonths daysOfYears dayNumber localMinute minuteNumber leftOf
     cappedHere foldUp among chargeIn leaves namedHere nameIn areaFields stopFields levelCap tripCapOf dayCapOf areaOf areaAt stopAt liesWithin smallestOf shapeAt partyAt
     stopNumber checkinOf checkoutOf isTrip partyRight stopsKnown stampsRight apart kmFrom kmOf stopOf areaOfStops rideBetween rideOf step1 step2 step3 step4
     tripCap priceOf secondCap allCap riderCharge riderCharges bicycleCharges chargesOf riderCut riderCuts cutsOf cutOf belongs tooEarly windowOf addHere addUp addList coverBicycles
@@ -177,7 +177,7 @@ on-each : {A B : Type 0} (f g : A → B) (l : List A) → map f l ≡ map g l �
 on-each f g (y ∷ l) e x (List·Memᴰ·head is) = rw is (cc e)
 on-each f g (y ∷ l) e x (List·Memᴰ·tail there) = on-each f g l (cc e) x there
 
--- Every starred sum comes out, its trips settled one after another from a fresh book on.
+-- Every sum comes out, its trips settled one after another from a fresh book on.
 pub table : (c : Case) → List·Memᴰ c cases → Holds c
 table c there =
     let sums = on-each settledSums saidSums cases computed c there in

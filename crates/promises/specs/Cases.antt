@@ -142,23 +142,24 @@ sampleCounts = record { areas = 7; factors = 3; stops = 28 }
 
 -- ---- Trips.
 
--- year, month, day, hour and minute
-abbrev pub stamp : ℕ → ℕ → ℕ → ℕ → ℕ → Stamp
-stamp year month day hour minute = record { year = year; month = month; day = day; hour = hour; minute = minute }
+-- year, month, day, hour, minute and hours ahead of UTC
+abbrev pub stamp : ℕ → ℕ → ℕ → ℕ → ℕ → ℕ → Stamp
+stamp year month day hour minute offset = record { year = year; month = month; day = day; hour = hour; minute = minute; offset = offset }
 
--- a stamp: year 2, month, day, hour, minute
+-- a stamp: year 2, month, day, hour, minute, hours ahead of UTC
 unfoldable pub stampBytes : Stamp → List ℕ
-stampBytes s = bytesOf 2 (s .year) ++ (bytesOf 1 (s .month) ++ (bytesOf 1 (s .day) ++ (bytesOf 1 (s .hour) ++ bytesOf 1 (s .minute))))
+stampBytes s =
+    bytesOf 2 (s .year) ++ (bytesOf 1 (s .month) ++ (bytesOf 1 (s .day) ++ (bytesOf 1 (s .hour) ++ (bytesOf 1 (s .minute) ++ bytesOf 1 (s .offset)))))
 
 -- stops of 2 bytes
 unfoldable pub numbersBytes : List ℕ → List ℕ
 numbersBytes [] = []
 numbersBytes (stop ∷ more) = bytesOf 2 stop ++ numbersBytes more
 
--- a trip record, kind 3, of its check-in, check-out, class, ticket level, party and stops; the length counts the kind and a body of 18 + 2n
+-- a trip record, kind 7, of its check-in, check-out, class, ticket level, party and stops; the length counts the kind and a body of 20 + 2n
 unfoldable pub tripBytes : Stamp → Stamp → ℕ → ℕ → Party → List ℕ → List ℕ
 tripBytes from to class level party stops =
-    bytesOf 2 (20 + 2 * length stops) ++ (bytesOf 2 3
+    bytesOf 2 (22 + 2 * length stops) ++ (bytesOf 2 7
     ++ (stampBytes from ++ (stampBytes to ++ (bytesOf 1 class ++ (bytesOf 1 level
     ++ (bytesOf 1 (party .adults) ++ (bytesOf 1 (party .children) ++ (bytesOf 1 (party .bicycles) ++ (bytesOf 1 (length stops) ++ numbersBytes stops)))))))))
 
@@ -174,9 +175,9 @@ unfoldable pub offered : Stamp → Stamp → ℕ → ℕ → Party → ℕ → �
 offered from to class level party first last =
     record { bytes = tripBytes from to class level party (first ∷ last ∷ []); room = largestStatement }
 
--- so many minutes after a full hour of 2026-03-02, in the same day
+-- so many minutes after a full hour of 2026-03-02, in the same day, in winter time
 abbrev pub after : ℕ → ℕ → Stamp
-after hour minutes = stamp 2026 3 2 (hour + minutes / 60) (minutes % 60)
+after hour minutes = stamp 2026 3 2 (hour + minutes / 60) (minutes % 60) 1
 
 -- the holder's trip: the full hour of its check-in, its minutes, class and ticket level (3 is B), its first and its last stop
 abbrev pub trip : ℕ → ℕ → ℕ → ℕ → ℕ → ℕ → Offer
@@ -259,7 +260,7 @@ abbrev pub childRide : ℕ → ℕ → ℕ → ℕ → ℕ → ℕ → ℕ → R
 childRide area km minutes class price charge holder =
     ridden (record { area = area; class = class; price = price; charge = charge }) km minutes (holder ∷ charge ∷ []) uncut
 
--- the starred sums, in their order, with what caps took off
+-- the starred sums, in their order, with what caps took off; and the two nights of a year in which the clock changes
 unfoldable pub cases : List Case
 cases =
     -- region 6: 6 km; 21 km; 21 km at level B; that in class 1; that for a child
@@ -300,6 +301,9 @@ cases =
     ∷ one (trip 6 30 2 0 0 5) (ride 2 1 30 2 167 167)
     ∷ one (trip 6 30 2 0 0 6) (ride 2 2 30 2 194 194)
     -- 02-28 23:50 to 03-01 00:15, in 2026; in 2028
-    ∷ one (offered (stamp 2026 2 28 23 50) (stamp 2026 3 1 0 15) 2 0 alone 0 2) (ride 2 5 25 2 230 230)
-    ∷ one (offered (stamp 2028 2 28 23 50) (stamp 2028 3 1 0 15) 2 0 alone 0 2) (refusedWith 9 0)
+    ∷ one (offered (stamp 2026 2 28 23 50 1) (stamp 2026 3 1 0 15 1) 2 0 alone 0 2) (ride 2 5 25 2 230 230)
+    ∷ one (offered (stamp 2028 2 28 23 50 1) (stamp 2028 3 1 0 15 1) 2 0 alone 0 2) (refusedWith 9 0)
+    -- 10-25 02:50 summer time to 02:10 winter time; 03-29 01:50 winter time to 03:10 summer time
+    ∷ one (offered (stamp 2026 10 25 2 50 2) (stamp 2026 10 25 2 10 1) 2 0 alone 0 2) (ride 2 5 20 2 230 230)
+    ∷ one (offered (stamp 2026 3 29 1 50 1) (stamp 2026 3 29 3 10 2) 2 0 alone 0 2) (ride 2 5 20 2 230 230)
     ∷ []

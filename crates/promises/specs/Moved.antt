@@ -1,4 +1,4 @@
--- Nights moved on the calendar: trips, books, parts and outcomes that are alike but for their minutes, which are all d later.
+-- Nights moved on the calendar: trips, books, parts and outcomes that are alike but for their minutes of UTC, which are all d later.
 use Prim.Native.Nat.{ℕ, _+_, _≤_}
 use mathlib.Core.Path.{_≡_}
 use mathlib.Core.List.{List, [], _∷_}
@@ -6,9 +6,9 @@ use mathlib.Core.Bool.{true, cond}
 use lib.ListN.{length}
 use lib.Dec.{eqb}
 use Rattle.wire.specs.Frame.{frameAt}
-use Rattle.calendar.specs.Stamps.{lastMinute}
-use Rattle.trip.specs.Record.{classAt, levelAt, partyAt, countAt, stopNumber}
-use Rattle.trip.specs.Moments.{checkinOf, checkoutOf}
+use Rattle.calendar.specs.Stamps.{lastMinute, MovedStamp}
+use Rattle.trip.specs.Record.{checkinPlace, checkoutPlace, classAt, levelAt, partyAt, countAt, stopNumber}
+use Rattle.trip.specs.Moments.{stampAt, checkinOf, checkoutOf}
 use Rattle.trip.specs.Trips.{stampsRight}
 use Rattle.book.specs.Words.{word, tripsOf, openingOf, lastOutOf}
 use Rattle.statement.specs.Record.{Part}
@@ -25,13 +25,21 @@ pub record SameTrip (trip trip′ : List ℕ) : Type 0 where
   pub count : countAt trip′ 0 ≡ countAt trip 0
   pub stop : (i : ℕ) → stopNumber trip′ i ≡ stopNumber trip i
 
--- such trips; all four stamps are dates and clock times, the second's d minutes later
+-- such trips; all four stamps are right, and the second's moments d minutes later
 pub record MovedTrip (d : ℕ) (trip trip′ : List ℕ) : Type 0 where
   pub same : SameTrip trip trip′
   pub stamps : stampsRight trip ≡ true
   pub stamps′ : stampsRight trip′ ≡ true
   pub checkin : checkinOf trip′ ≡ checkinOf trip + d
   pub checkout : checkoutOf trip′ ≡ checkoutOf trip + d
+
+-- the same, told by the stamps: local dates and clock times, each with its own offset
+pub record MovedStamps (d : ℕ) (trip trip′ : List ℕ) : Type 0 where
+  pub same : SameTrip trip trip′
+  pub stamps : stampsRight trip ≡ true
+  pub stamps′ : stampsRight trip′ ≡ true
+  pub checkin : MovedStamp d (stampAt trip checkinPlace) (stampAt trip′ checkinPlace)
+  pub checkout : MovedStamp d (stampAt trip checkoutPlace) (stampAt trip′ checkoutPlace)
 
 -- two books of one length, the same in every word but the opening minute and the last check-out: the trips, and from word 3 on each rider's
 -- sums and each bicycle's covering area
@@ -65,8 +73,14 @@ pub data MovedOutcome (d : ℕ) : Outcome → Outcome → Type 0 where
   both-accepted : {new new′ : List ℕ} {parts parts′ : List Part} → MovedBook d new new′ → MovedParts d parts parts′
       → MovedOutcome d (accepted new parts) (accepted new′ parts′)
 
--- two runs, trip by trip alike but for their stamps, which are d minutes later in the second
+-- two runs, trip by trip alike but for their moments, which are d minutes later in the second
 pub data MovedRun (d : ℕ) : List Offer → List Offer → Type 0 where
   moved-none : MovedRun d [] []
   moved-more : {o o′ : Offer} {run run′ : List Offer} → MovedTrip d (o .bytes) (o′ .bytes) → o′ .room ≡ o .room → MovedRun d run run′
       → MovedRun d (o ∷ run) (o′ ∷ run′)
+
+-- the same, told by the stamps
+pub data MovedNight (d : ℕ) : List Offer → List Offer → Type 0 where
+  night-none : MovedNight d [] []
+  night-more : {o o′ : Offer} {run run′ : List Offer} → MovedStamps d (o .bytes) (o′ .bytes) → o′ .room ≡ o .room → MovedNight d run run′
+      → MovedNight d (o ∷ run) (o′ ∷ run′)

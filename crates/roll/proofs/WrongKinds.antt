@@ -13,6 +13,7 @@ use Rattle.wire.proofs.Number.{get-take}
 use Rattle.wire.proofs.Frames.{whole, whole-back}
 use Rattle.tariff.specs.declared.Counts.{Counts}
 use Rattle.tariff.specs.Areas.{Read}
+use Rattle.trip.specs.Record.{tripKind}
 use Rattle.trip.specs.Conditions.{other-kind, no-record}
 use Rattle.trip.proofs.Shapes.{five}
 use Rattle.book.specs.Sound.{sound}
@@ -41,7 +42,7 @@ frame-alone piece kind body e =
     })
 
 module _ (tariff : List ℕ) (counts : Counts) (book piece : List ℕ) (more : Bool) (read : Read tariff counts) (is : sound book (counts .areas) ≡ true) where
-  refused-alone : (kind body : ℕ) → frameAt piece 0 ≡ frame.Whole kind body → (kind ≡ 3 → ⊥) → outcomeAt tariff book piece (4 + body) ≡ refused 5 0
+  refused-alone : (kind body : ℕ) → frameAt piece 0 ≡ frame.Whole kind body → (kind ≡ tripKind → ⊥) → outcomeAt tariff book piece (4 + body) ≡ refused 5 0
   unfolding outcomeAt rows
   refused-alone kind body e other =
       let alone = take (4 + body) piece in
@@ -49,7 +50,7 @@ module _ (tariff : List ℕ) (counts : Counts) (book piece : List ℕ) (more : B
       refused-way tariff book alone largestStatement counts read (refused-first tariff counts book alone largestStatement (skip _ _ (rw is) ∙ stop _ _ (rw no-trip)))
 
   pub wrong-kind :
-      (kind body : ℕ) → frameAt piece 0 ≡ frame.Whole kind body → (kind ≡ 3 → ⊥)
+      (kind body : ℕ) → frameAt piece 0 ≡ frame.Whole kind body → (kind ≡ tripKind → ⊥)
       → (stepOf tariff book piece more ≡ Record (Refused 5) (4 + body)) × (bookStep tariff book piece more ≡ book)
   unfolding lineOf
   wrong-kind kind body e other =

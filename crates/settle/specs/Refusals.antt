@@ -51,10 +51,10 @@ abbrev row : Refusal → Bool → Row
 row why test = record { why = why; test = test }
 
 -- 4: book not sound
--- 5: frame broken, record not filling the slice, kind not 3, body under 18 or not 18 + 2n
+-- 5: frame broken, record not filling the slice, kind not 7, body under 20 or not 20 + 2n
 -- 6: class not 1 or 2, level above 5, adults, children or bicycles above 10, n not 2..32
 -- 7: a stop number the tariff lacks
--- 8: a stamp that is no date 2000..2099 or no clock time 00:00..23:59
+-- 8: a stamp that is no local date 2000..2099, no clock time 00:00..23:59, has an offset that is not 1 or 2, or is before minute 0 of UTC
 -- 9: check-out before check-in, or over 1,440 minutes after it
 -- 10: check-in before the book's last check-out (word 0 not 0)
 -- 11: the trip would be the 257th of its window; each of its rides counts as one

@@ -14,7 +14,7 @@ use Rattle.trip.proofs.Stamps.{times-range}
 use Rattle.trip.proofs.Ranges.{PartyRanges, party-ranges, in-order}
 
 -- It fills its slice; class, level, party and number of stops are in their ranges; check-out is not before check-in, nor over 1,440
--- minutes after it, nor past the calendar's last minute.
+-- minutes after it, nor past the bound of a book's minutes.
 pub record GoodFields (trip : List ℕ) : Type 0 where
   pub size : tripSize (countAt trip 0) ≡ length trip
   pub ranges : PartyRanges (classAt trip 0) (levelAt trip 0) (partyAt trip 0) (countAt trip 0)

@@ -16,7 +16,7 @@ use Rattle.wire.specs.declared.Frame.{Frame}
 use Rattle.wire.specs.declared.Frame.the-variants.{Whole, Broken}
 use Rattle.wire.proofs.Frames.{whole}
 use Rattle.wire.proofs.Tests.{one-of}
-use Rattle.trip.specs.Record.{bodySize, tripSize, countAt, shapeAt}
+use Rattle.trip.specs.Record.{tripKind, bodySize, tripSize, countAt, shapeAt}
 use Rattle.trip.specs.Trips.{isTrip}
 use Rattle.trip.specs.Conditions.{NoTripAt, broken-frame, other-kind, short-body, other-body, NoTrip, no-record, not-filling}
 use Rattle.trip.specs.Contracts.{wholeTrip}
@@ -25,14 +25,14 @@ use Rattle.trip.specs.declared.Shape.the-variants as shape
 
 -- The test of a frame that is no trip's by its kind or by its body's least length.
 abbrev pub foreign : ℕ → ℕ → Bool
-foreign kind body = not (eqb kind 3) || ltb body 18
+foreign kind body = not (eqb kind tripKind) || ltb body (bodySize 0)
 
--- A frame that passes it is of kind 3, and its body is not under 18.
-pub own : (kind body : ℕ) → foreign kind body ≡ false → (kind ≡ 3) × (18 ≤ body)
-own kind body e = go (eqb kind 3) refl e
+-- A frame that passes it is of kind 7, and its body is not under 20.
+pub own : (kind body : ℕ) → foreign kind body ≡ false → (kind ≡ tripKind) × (bodySize 0 ≤ body)
+own kind body e = go (eqb kind tripKind) refl e
   where
-    go : (t : Bool) → eqb kind 3 ≡ t → not t || ltb body 18 ≡ false → (kind ≡ 3) × (18 ≤ body)
-    go true is e′ = (eqb-true kind 3 is, ltb-false body 18 e′)
+    go : (t : Bool) → eqb kind tripKind ≡ t → not t || ltb body (bodySize 0) ≡ false → (kind ≡ tripKind) × (bodySize 0 ≤ body)
+    go true is e′ = (eqb-true kind tripKind is, ltb-false body (bodySize 0) e′)
     go false is e′ = absurd (false≢true (sym e′))
 
 -- Each way through `shapeAt`.
@@ -51,9 +51,9 @@ module _ (b : List ℕ) (at : ℕ) where
   unfolding shapeAt
   own-shape kind body n frame e count fits = rw (frame, shapeAt, e, ← count, fits)
 
--- A trip record at a place: a whole frame of kind 3 with the body that its number of stops asks, which ends within the bytes.
+-- A trip record at a place: a whole frame of kind 7 with the body that its number of stops asks, which ends within the bytes.
 pub record TripAt (b : List ℕ) (at n : ℕ) : Type 0 where
-  pub frame : frameAt b at ≡ Whole 3 (bodySize n)
+  pub frame : frameAt b at ≡ Whole tripKind (bodySize n)
   pub count : countAt b at ≡ n
   pub fits : at + tripSize n ≤ length b
 
@@ -70,17 +70,17 @@ module _ (b : List ℕ) (at : ℕ) where
       tested kind body true frame e =
           rw (foreign-shape b at kind body frame e)
           (none
-          (one-of (not (eqb kind 3)) (ltb body 18) e
-          (λ other. other-kind kind body frame (eqb-false kind 3 (not-true (eqb kind 3) other)))
-          (λ short. short-body kind body frame (ltb-true body 18 short))))
+          (one-of (not (eqb kind tripKind)) (ltb body (bodySize 0)) e
+          (λ other. other-kind kind body frame (eqb-false kind tripKind (not-true (eqb kind tripKind) other)))
+          (λ short. short-body kind body frame (ltb-true body (bodySize 0) short))))
       tested kind body false frame e =
           let n = countAt b at in
           elim (ℕ-discrete body (bodySize n)) [
             | yes is ↦
                 let facts = whole b at kind body frame in
-                let three = own kind body e .0 in
+                let kind-is = own kind body e .0 in
                 rw (own-shape b at kind body n frame e refl (eq-eqb body (bodySize n) is))
-                (trip (record { frame = rw (three, is) at frame; count = refl; fits = omega arith }))
+                (trip (record { frame = rw (kind-is, is) at frame; count = refl; fits = omega arith }))
             | no other ↦
                 rw (own-shape b at kind body n frame e refl (ne-eqb body (bodySize n) other)) (none (other-body kind body frame other))
           ]
@@ -98,10 +98,10 @@ module _ (b : List ℕ) (at : ℕ) where
 
   pub trip-given : (n : ℕ) → TripAt b at n → shapeAt b at ≡ shape.Stops n
   trip-given n t =
-      own-shape b at 3 (bodySize n) n (t .frame) (le-ltb (bodySize n) 18 (omega arith)) (sym (t .count))
+      own-shape b at tripKind (bodySize n) n (t .frame) (le-ltb (bodySize n) (bodySize 0) (omega arith)) (sym (t .count))
       (eq-eqb (bodySize n) (bodySize n) refl)
 
-  -- None is given exactly when the frame is broken, the kind not 3, or the body under 18 or not 18 + 2n.
+  -- None is given exactly when the frame is broken, the kind not 7, or the body under 20 or not 20 + 2n.
   pub no-trip-at : shapeAt b at ≡ shape.NoTrip ↔ NoTripAt b at
   no-trip-at = (λ e. meant (rw e at stands), back)
     where
@@ -110,9 +110,9 @@ module _ (b : List ℕ) (at : ℕ) where
 
       back : NoTripAt b at → shapeAt b at ≡ shape.NoTrip
       back (broken-frame frame) = broken-shape b at frame
-      back (other-kind kind body frame other) = foreign-shape b at kind body frame (rw (ne-eqb kind 3 other))
+      back (other-kind kind body frame other) = foreign-shape b at kind body frame (rw (ne-eqb kind tripKind other))
       back (short-body kind body frame short) =
-          foreign-shape b at kind body frame (rw (lt-ltb body 18 short) (or-true (not (eqb kind 3))))
+          foreign-shape b at kind body frame (rw (lt-ltb body (bodySize 0) short) (or-true (not (eqb kind tripKind))))
       back (other-body kind body frame other) = go (foreign kind body) refl
         where
           go : (t : Bool) → foreign kind body ≡ t → shapeAt b at ≡ shape.NoTrip
@@ -150,7 +150,7 @@ module _ (bytes : List ℕ) where
   pub record Filling (n : ℕ) : Type 0 where
     pub is : isTrip bytes ≡ true
     pub count : countAt bytes 0 ≡ n
-    pub frame : frameAt bytes 0 ≡ Whole 3 (bodySize n)
+    pub frame : frameAt bytes 0 ≡ Whole tripKind (bodySize n)
     pub size : tripSize n ≡ length bytes
 
   filling : (s : Shape) → shapeAt bytes 0 ≡ s → isTrip bytes ≡ true → Filling (countAt bytes 0)
@@ -186,7 +186,7 @@ module _ (bytes : List ℕ) where
       there : (s : Shape) → shapeAt bytes 0 ≡ s → isTrip bytes ≡ false → NoTrip bytes
       there shape.NoTrip e is = no-record (no-trip-at bytes 0 .0 e)
       there (shape.Stops n) e is =
-          not-filling 3 (bodySize n) (trip-at bytes 0 n e .frame)
+          not-filling tripKind (bodySize n) (trip-at bytes 0 n e .frame)
           (λ size. false≢true (sym is ∙ with-shape n e (eq-eqb (tripSize n) (length bytes) (omega arith))))
 
       other-size : (kind body : ℕ) → frameAt bytes 0 ≡ Whole kind body → (4 + body ≡ length bytes → ⊥) → (s : Shape) → shapeAt bytes 0 ≡ s → isTrip bytes ≡ false

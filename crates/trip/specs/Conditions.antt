@@ -1,5 +1,5 @@
 -- docs/RULES.md, section 13: the conditions 5 to 9, in the rules' words and order.
-use Prim.Native.Nat.{ℕ, _+_, _≤_, _<_}
+use Prim.Native.Nat.{ℕ, _+_, _*_, _≤_, _<_}
 use mathlib.Core.Path.{_≡_}
 use mathlib.Core.List.{List}
 use mathlib.Core.Bool.{false}
@@ -7,16 +7,17 @@ use lib.ListN.{length}
 use Rattle.wire.specs.Frame.{frameAt}
 use Rattle.wire.specs.declared.Frame.the-variants.{Whole, Broken}
 use Rattle.units.specs.Day.{dayMinutes}
-use Rattle.calendar.specs.Stamps.{isStamp}
+use Rattle.calendar.specs.Stamps.{isDate, isClock, localMinute}
+use Rattle.calendar.specs.declared.Stamp.{Stamp}
 use Rattle.trip.specs.declared.Party.{Party}
 use Rattle.trip.specs.Record.{bodySize, checkinPlace, checkoutPlace, classAt, levelAt, partyAt, countAt, stopNumber}
 use Rattle.trip.specs.Moments.{stampAt, checkinOf, checkoutOf}
 
--- no trip record at a place: frame broken, kind not 3, body under 18 or not 18 + 2n
+-- no trip record at a place: frame broken, kind not 7, body under 20 or not 20 + 2n
 pub data NoTripAt (b : List ℕ) (at : ℕ) : Type 0 where
   broken-frame : frameAt b at ≡ Broken → NoTripAt b at
-  other-kind : (kind body : ℕ) → frameAt b at ≡ Whole kind body → (kind ≡ 3 → ⊥) → NoTripAt b at
-  short-body : (kind body : ℕ) → frameAt b at ≡ Whole kind body → body < 18 → NoTripAt b at
+  other-kind : (kind body : ℕ) → frameAt b at ≡ Whole kind body → (kind ≡ 7 → ⊥) → NoTripAt b at
+  short-body : (kind body : ℕ) → frameAt b at ≡ Whole kind body → body < 20 → NoTripAt b at
   other-body : (kind body : ℕ) → frameAt b at ≡ Whole kind body → (body ≡ bodySize (countAt b at) → ⊥) → NoTripAt b at
 
 -- 5: no trip record, or one that does not fill the slice
@@ -40,10 +41,17 @@ pub record LackingStop (trip : List ℕ) (n known : ℕ) : Type 0 where
   pub of-trip : i < n
   pub lacking : known ≤ stopNumber trip i
 
--- 8: a stamp that is no date 2000..2099 or no clock time 00:00..23:59
+-- no local date 2000..2099, no clock time 00:00..23:59, an offset that is not 1 or 2, or a moment before minute 0 of UTC
+pub data WrongStampAt (s : Stamp) : Type 0 where
+  no-date : isDate (s .year) (s .month) (s .day) ≡ false → WrongStampAt s
+  no-clock : isClock (s .hour) (s .minute) ≡ false → WrongStampAt s
+  other-offset : (s .offset ≡ 1 → ⊥) → (s .offset ≡ 2 → ⊥) → WrongStampAt s
+  before-zero : localMinute s < 60 * s .offset → WrongStampAt s
+
+-- 8: one of the two stamps is wrong
 pub data WrongStamp (trip : List ℕ) : Type 0 where
-  wrong-checkin : isStamp (stampAt trip checkinPlace) ≡ false → WrongStamp trip
-  wrong-checkout : isStamp (stampAt trip checkoutPlace) ≡ false → WrongStamp trip
+  wrong-checkin : WrongStampAt (stampAt trip checkinPlace) → WrongStamp trip
+  wrong-checkout : WrongStampAt (stampAt trip checkoutPlace) → WrongStamp trip
 
 -- 9: check-out before check-in, or over 1,440 minutes after it
 pub data WrongOrder (checkin checkout : ℕ) : Type 0 where

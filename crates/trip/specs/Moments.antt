@@ -1,4 +1,4 @@
--- A stamp is year 2, month, day, hour, minute; the minute that it stands for is the calendar's.
+-- A stamp is year 2, month, day, hour, minute, hours ahead of UTC; the minute that it stands for is the calendar's.
 use Prim.Native.Nat.{ℕ, _+_}
 use mathlib.Core.List.{List}
 use mathlib.Core.Bool.{cond}
@@ -18,13 +18,14 @@ stampAt b at =
       day = getLe 1 b (at + 3);
       hour = getLe 1 b (at + 4);
       minute = getLe 1 b (at + 5);
+      offset = getLe 1 b (at + 6);
     }
 
--- the minute of the stamp at a place; none where it is no date 2000..2099 or no clock time 00:00..23:59
+-- the minute of the stamp at a place; none where it is no stamp
 unfoldable pub momentAt : List ℕ → ℕ → Moment
 momentAt b at = cond (isStamp (stampAt b at)) (At (record { 0 = minuteNumber (stampAt b at) })) NoMoment
 
--- a trip's two minutes
+-- a trip's two minutes, of UTC
 unfoldable pub checkinOf : List ℕ → ℕ
 checkinOf trip = minuteNumber (stampAt trip checkinPlace)
 

@@ -1,4 +1,4 @@
--- docs/RULES.md, section 5, and docs/FORMAT.md, kind 3: check-in 6, check-out 6, class 1, ticket level 1, adults, children and bicycles carried 1 each, n 1,
+-- docs/RULES.md, section 5, and docs/FORMAT.md, kind 7: check-in 7, check-out 7, class 1, ticket level 1, adults, children and bicycles carried 1 each, n 1,
 -- then n stops of 2 bytes, first to last. Two bytes of length and two of kind stand before.
 use Prim.Native.Nat.{ℕ, _+_, _*_}
 use mathlib.Core.List.{List}
@@ -11,45 +11,48 @@ use Rattle.trip.specs.declared.Shape.{Shape}
 use Rattle.trip.specs.declared.Shape.the-variants.{Stops, NoTrip}
 use Rattle.trip.specs.declared.Party.{Party}
 
--- the body with n stops: 18, and 2 for each stop
+abbrev pub tripKind : ℕ
+tripKind = 7
+
+-- the body with n stops: 20, and 2 for each stop
 abbrev pub bodySize : ℕ → ℕ
-bodySize n = 18 + 2 * n
+bodySize n = 20 + 2 * n
 
 -- the whole record with n stops: 4 bytes more
 abbrev pub tripSize : ℕ → ℕ
-tripSize n = 22 + 2 * n
+tripSize n = 24 + 2 * n
 
 -- where a record that starts at 0 has its two stamps
 abbrev pub checkinPlace : ℕ
 checkinPlace = 4
 
 abbrev pub checkoutPlace : ℕ
-checkoutPlace = 10
+checkoutPlace = 11
 
 abbrev pub classAt : List ℕ → ℕ → ℕ
-classAt b at = getLe 1 b (at + 16)
+classAt b at = getLe 1 b (at + 18)
 
 abbrev pub levelAt : List ℕ → ℕ → ℕ
-levelAt b at = getLe 1 b (at + 17)
+levelAt b at = getLe 1 b (at + 19)
 
 unfoldable pub partyAt : List ℕ → ℕ → Party
 partyAt b at =
-    record { adults = getLe 1 b (at + 18); children = getLe 1 b (at + 19); bicycles = getLe 1 b (at + 20) }
+    record { adults = getLe 1 b (at + 20); children = getLe 1 b (at + 21); bicycles = getLe 1 b (at + 22) }
 
 -- the number of stops that the record says it has
 abbrev pub countAt : List ℕ → ℕ → ℕ
-countAt b at = getLe 1 b (at + 21)
+countAt b at = getLe 1 b (at + 23)
 
 -- the number of the record's stop i, counted from 0
 unfoldable pub stopNumber : List ℕ → ℕ → ℕ
 stopNumber b i = getLe 2 b (tripSize i)
 
--- a trip record at a place: a whole frame of kind 3, whose body is not under 18 and is 18 + 2n
+-- a trip record at a place: a whole frame of kind 7, whose body is not under 20 and is 20 + 2n
 unfoldable pub shapeAt : List ℕ → ℕ → Shape
 shapeAt b at =
     elim (frameAt b at) [
       | Broken ↦ NoTrip
       | Whole kind body ↦
-          cond (not (eqb kind 3) || ltb body 18) NoTrip
+          cond (not (eqb kind tripKind) || ltb body (bodySize 0)) NoTrip
           (cond (eqb body (bodySize (countAt b at))) (Stops (countAt b at)) NoTrip)
     ]

@@ -28,7 +28,7 @@ partyRight class level party n =
 unfoldable pub stopsKnown : List ℕ → ℕ → ℕ → Bool
 stopsKnown trip n known = each n (λ i. ltb (stopNumber trip i) known)
 
--- 8: both stamps are dates 2000..2099 and clock times 00:00..23:59
+-- 8: both stamps are local dates 2000..2099 and clock times 00:00..23:59 with an offset of 1 or 2, not before minute 0 of UTC
 unfoldable pub stampsRight : List ℕ → Bool
 stampsRight trip = isStamp (stampAt trip checkinPlace) && isStamp (stampAt trip checkoutPlace)
 

@@ -18,10 +18,10 @@ ghost use Rattle.trip.specs.Moments.{momentAt};
 ghost use Rattle.trip.specs.Trips.{partyRight, stopsKnown, inOrder};
 ghost use Rattle.trip.specs.Contracts.{wholeTrip, timesOf, StopNumber};
 
-pub const KIND: u16 = 3;
+pub const KIND: u16 = 7;
 
 // The record up to its stops: length and kind, two stamps, class, level, adults, children, bicycles and n.
-pub const FIXED: usize = 22;
+pub const FIXED: usize = 24;
 
 const BODY: usize = FIXED - 4;
 
@@ -165,9 +165,9 @@ pub fn stops_known(trip: &[u8], stops: usize, known: usize) -> bool
     all
 }
 
-// The moment whose stamp stands at a place: the one way from a stamp's bytes to its minute.
+// The moment whose stamp stands at a place: the one way from a stamp's bytes, its offset with them, to its minute.
 pub fn moment_at(b: &[u8], at: usize) -> Moment
-    requires { ⌜ at + 6 ≤ length (now b) ⌝ }
+    requires { ⌜ at + 7 ≤ length (now b) ⌝ }
     ensures { λ r. ⌜ r ≡ momentAt (now (b .entry)) at ⌝ }
 {
     let made = Stamp::make(
@@ -176,6 +176,7 @@ pub fn moment_at(b: &[u8], at: usize) -> Moment
         one_at(b, at + 3),
         one_at(b, at + 4),
         one_at(b, at + 5),
+        one_at(b, at + 6),
     );
     match made {
         Made::Good(stamp) => Moment::At(stamp.minutes()),

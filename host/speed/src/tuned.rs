@@ -44,7 +44,7 @@ use trip::Trip;
 type Cents = u32;
 /// Started kilometres.
 type Km = u32;
-/// Minutes, also counted from 2000-01-01 00:00.
+/// Minutes, also counted from 2000-01-01 00:00 UTC.
 type Minutes = u32;
 
 /// A refusal as the answer has it: its number in the upper half, its place in the lower one.

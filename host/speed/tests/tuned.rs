@@ -67,7 +67,7 @@ fn it_prints_the_samples_as_the_model_does() {
 
 #[test]
 fn broken_frames_end_the_run() {
-    let broken: [&[u8]; 5] = [&[1], &[1, 0, 3, 0], &[1, 4, 3, 0], &[24, 0, 3], &[24, 0, 3, 0, 0, 0]];
+    let broken: [&[u8]; 5] = [&[1], &[1, 0, 7, 0], &[1, 4, 7, 0], &[26, 0, 7], &[26, 0, 7, 0, 0, 0]];
     for frame in broken {
         prints_the_same(TARIFF, &[PAPER_ROLL, frame].concat());
         prints_the_same(TARIFF, &[PAPER_ROLL, frame, PAPER_ROLL].concat());
@@ -78,7 +78,7 @@ fn broken_frames_end_the_run() {
 #[test]
 fn wrong_kinds_are_passed_over() {
     let other_kinds = made("record 9\nrecord 1 01 02 03\nrecord 65535\n");
-    let longest = [&[0, 4, 3, 0], [0; 1_022].as_slice()].concat();
+    let longest = [&[0, 4, 7, 0], [0; 1_022].as_slice()].concat();
     prints_the_same(TARIFF, &[&other_kinds, ROLL, &other_kinds, &longest, ROLL].concat());
 }
 
@@ -99,7 +99,7 @@ fn long_rolls() {
             let (class, adults, bicycles) = (hour % 2 + 1, day % 4, hour % 3);
             let (first, last) = (hour % 5, day * 7 % 28);
             text += &format!(
-                "trip 2026-02-{day} {hour}:05 to 2026-02-{day} {hour}:31 class {class} level {} \
+                "trip 2026-02-{day}T{hour}:05+01:00 to 2026-02-{day}T{hour}:31+01:00 class {class} level {} \
                  adults {adults} children 1 bikes {bicycles} stops {first} {last} 0\n",
                 hour % 6
             );
@@ -113,7 +113,8 @@ fn long_rolls() {
 #[test]
 fn broken_trips() {
     let trip = |stops| {
-        let text = "trip 2026-05-04 08:00 to 2026-05-04 08:00 class 2 level 0 adults 1 children 1 bikes 1 stops";
+        let text =
+            "trip 2026-05-04T08:00+02:00 to 2026-05-04T08:00+02:00 class 2 level 0 adults 1 children 1 bikes 1 stops";
         made(&format!("{text} {stops}\n"))
     };
     let (whole, broken) = (trip("14 20"), trip("14 20 14"));
@@ -129,7 +130,7 @@ fn as_many_records_as_there_may_be() {
         "area state parent 0 base 10000 km 1000 valid 30 first 100 child 0 cap none day none bike 0\n\
          factor 1 mark 0\nstop 0 0 0\nstop 0 1000000 1000000\n",
     );
-    let trip = "trip 2026-05-04 08:00 to 2026-05-04 08:00 class 1 level 0 adults 10 children 10 bikes 0 stops 0 1\n";
+    let trip = "trip 2026-05-04T08:00+02:00 to 2026-05-04T08:00+02:00 class 1 level 0 adults 10 children 10 bikes 0 stops 0 1\n";
     let (trip, other) = (made(trip), made("record 9\n"));
     // A total above 32 bits.
     prints_the_same(&tariff, &trip.repeat(80));

@@ -1,13 +1,11 @@
 //! How many cases ended in each refusal and in each kind of acceptance.
 
-use super::books::{word, TRIPS};
 use super::cases::Case;
 use super::cuts::RARE;
 use super::kinds::{kinds_of, KINDS};
+use super::particulars::PARTICULARS;
 use crate::answer::Refusal;
-use crate::model::book::TRIPS_IN_A_WINDOW;
 use crate::model::statement::ChargeRecord;
-use crate::model::trip::Trip;
 use std::fmt;
 
 #[derive(Default)]
@@ -17,8 +15,8 @@ pub struct Counts {
     kinds: Vec<u64>,
     /// By number, from 1.
     refusals: [u64; 13],
-    /// Those of 11 and of 12 that hold of the second part alone.
-    by_second_part: [u64; 2],
+    /// Ways in which single refusals come about.
+    particulars: [u64; PARTICULARS.len()],
 }
 
 impl Counts {
@@ -32,13 +30,8 @@ impl Counts {
 
     pub fn count_refused(&mut self, case: &Case, number: u32) {
         self.refusals[number as usize] += 1;
-        let [full, no_room] = &mut self.by_second_part;
-        match number {
-            11 => *full += u64::from(word(&case.book, TRIPS) < TRIPS_IN_A_WINDOW),
-            12 => {
-                *no_room += u64::from(Trip::read(&case.trip).is_some_and(|trip| ChargeRecord::size(&trip) <= case.room))
-            }
-            _ => (),
+        for (count, (refusal, _, is_so)) in self.particulars.iter_mut().zip(PARTICULARS) {
+            *count += u64::from(refusal == number && is_so(case));
         }
     }
 
@@ -63,9 +56,9 @@ impl Counts {
         let kinds = self.counted_kinds().filter(|&(kind, count)| is_few(kind, count));
         let refusals = refusals.map(|refusal| format!("refusal {}", refusal as u32));
         let mut all: Vec<String> = refusals.chain(kinds.map(|(kind, _)| kind.to_string())).collect();
-        for (number, count) in [11, 12].into_iter().zip(self.by_second_part) {
+        for ((number, way, _), count) in PARTICULARS.into_iter().zip(self.particulars) {
             if count == 0 {
-                all.push(format!("refusal {number} by the second part"));
+                all.push(format!("refusal {number}, {way}"));
             }
         }
         if self.accepted == 0 {
@@ -88,8 +81,8 @@ impl fmt::Display for Counts {
             let what = format!("{:>2} {}", refusal as u32, refusal.text());
             line(out, self.refusals[refusal as usize], self.refused(), &what)?;
         }
-        for (number, count) in [11, 12].into_iter().zip(self.by_second_part) {
-            line(out, count, self.refused(), &format!("{number} by the second part alone"))?;
+        for ((number, way, _), count) in PARTICULARS.into_iter().zip(self.particulars) {
+            line(out, count, self.refused(), &format!("{number:>2}, {way}"))?;
         }
         writeln!(out, "accepted {}; one case may be of several kinds", self.accepted)?;
         for (kind, count) in self.counted_kinds() {

@@ -7,7 +7,7 @@ use crate::numbers::number;
 pub const AREA: usize = 29;
 pub const FACTOR: usize = 6;
 pub const STOP: usize = 13;
-pub const TRIP_HEAD: usize = 22;
+pub const TRIP_HEAD: usize = 24;
 
 /// How many records of each kind a tariff has; they stand in this order.
 #[derive(Clone, Copy, Debug)]
@@ -45,7 +45,7 @@ const fn field(place: usize, width: usize, edges: &'static [u64]) -> Field {
 }
 
 pub const LENGTHS: Field = field(0, 2, &[0, 1, 2, 3, 4, 11, 27, 1_023, 1_024, 1_025, 65_535]);
-pub const KINDS: Field = field(2, 2, &[0, 1, 2, 3, 4, 5, 6, 256, 257, 258, 259, 261, 65_535]);
+pub const KINDS: Field = field(2, 2, &[0, 1, 2, 3, 4, 5, 6, 7, 8, 256, 257, 258, 259, 261, 263, 65_535]);
 
 const PERCENTAGE: &[u64] = &[0, 1, 99, 100, 101, 255];
 const MINUTES: &[u64] = &[0, 29, 30, 31, 1_439, 1_440, 1_441, 65_535];
@@ -84,32 +84,37 @@ const MONTH: &[u64] = &[0, 1, 2, 3, 4, 6, 9, 11, 12, 13, 255];
 const DAY: &[u64] = &[0, 1, 28, 29, 30, 31, 32, 255];
 const HOUR: &[u64] = &[0, 1, 22, 23, 24, 255];
 const MINUTE: &[u64] = &[0, 1, 58, 59, 60, 255];
+const OFFSET: &[u64] = &[0, 1, 2, 3, 254, 255];
 const CARRIED: &[u64] = &[0, 1, 9, 10, 11, 255];
 
-/// Those of both stamps.
-pub static STAMP_FIELDS: [Field; 10] = [
-    field(4, 2, YEAR),
-    field(6, 1, MONTH),
-    field(7, 1, DAY),
-    field(8, 1, HOUR),
-    field(9, 1, MINUTE),
-    field(10, 2, YEAR),
-    field(12, 1, MONTH),
-    field(13, 1, DAY),
-    field(14, 1, HOUR),
-    field(15, 1, MINUTE),
-];
+/// Bytes of a stamp, and where the check-in's begins; the check-out's stands behind it.
+pub const STAMP: usize = 7;
+pub const CHECK_IN: usize = 4;
+
+/// Those of both stamps, in the order of their bytes.
+pub static STAMP_FIELDS: [[Field; 6]; 2] = [stamp_fields(CHECK_IN), stamp_fields(CHECK_IN + STAMP)];
+
+const fn stamp_fields(place: usize) -> [Field; 6] {
+    [
+        field(place, 2, YEAR),
+        field(place + 2, 1, MONTH),
+        field(place + 3, 1, DAY),
+        field(place + 4, 1, HOUR),
+        field(place + 5, 1, MINUTE),
+        field(place + 6, 1, OFFSET),
+    ]
+}
 
 /// Class, ticket level, adults, children and bicycles.
 pub static COUNT_FIELDS: [Field; 5] = [
-    field(16, 1, &[0, 1, 2, 3, 255]),
-    field(17, 1, &[0, 1, 2, 3, 4, 5, 6, 255]),
-    field(18, 1, CARRIED),
-    field(19, 1, CARRIED),
+    field(18, 1, &[0, 1, 2, 3, 255]),
+    field(19, 1, &[0, 1, 2, 3, 4, 5, 6, 255]),
     field(20, 1, CARRIED),
+    field(21, 1, CARRIED),
+    field(22, 1, CARRIED),
 ];
 
-pub const NUMBER_OF_STOPS: Field = field(21, 1, &[0, 1, 2, 3, 31, 32, 33, 127, 255]);
+pub const NUMBER_OF_STOPS: Field = field(23, 1, &[0, 1, 2, 3, 31, 32, 33, 127, 255]);
 
 /// The field of a trip's stop.
 pub fn stop_field(stop: usize) -> Field {

@@ -4,20 +4,28 @@ use super::cases::Case;
 use super::cuts::{kinds_of_cuts, CUTS};
 use crate::model::book::Book;
 use crate::model::charge::{costs_of, window_for};
+use crate::model::clock::{Stamp, MINUTES_IN_AN_HOUR};
 use crate::model::fare::{price, squared_distance, Ride};
 use crate::model::parts::{farthest_change, parts_of};
 use crate::model::read_tariff;
 use crate::model::statement::ChargeRecord;
 use crate::model::tariff::{Area, Level, Tariff, TripCap};
 use crate::model::trip::Trip;
+use crate::model::Minutes;
 
 /// Those of a trip.
-const OF_A_TRIP: [&str; 11] = [
+const OF_A_TRIP: [&str; 17] = [
     "next window opened",
     "first class",
     "child",
     "over midnight",
     "largest record",
+    "both stamps with offset 1",
+    "both stamps with offset 2",
+    "offset 1, then 2",
+    "offset 2, then 1",
+    "the check-out earlier than the check-in by the clock",
+    "check-in in the first two hours from minute 0 on",
     "broken, first and last stop at the same point",
     "broken by the factor",
     "exactly at the factor, not broken",
@@ -48,6 +56,7 @@ pub fn kinds_of(case: &Case, records: &[ChargeRecord]) -> Vec<bool> {
         trip.check_in.day != trip.check_out.day,
         records[0].charges.len() == 31,
     ];
+    let of_stamps = kinds_of_stamps(&trip, check_in);
     let of_breaking = kinds_of_breaking(&tariff, &trip, records.len() == 2);
     let (mut of_part, mut of_cuts) = ([false; OF_A_PART.len()], [false; CUTS.len()]);
     for (part, record) in parts_of(&tariff, &trip.stops, duration).iter().zip(records) {
@@ -56,7 +65,7 @@ pub fn kinds_of(case: &Case, records: &[ChargeRecord]) -> Vec<bool> {
         join(&mut of_cuts, &kinds_of_cuts(&tariff, &trip, &ride, &book, record));
         costs_of(&tariff, &trip, &ride, &mut book);
     }
-    [of_trip.as_slice(), &of_breaking, &of_part, &of_cuts].concat()
+    [of_trip.as_slice(), &of_stamps, &of_breaking, &of_part, &of_cuts].concat()
 }
 
 /// Those of one, and those of another besides.
@@ -64,6 +73,21 @@ pub fn join(kinds: &mut [bool], others: &[bool]) {
     for (kind, is_of_it) in kinds.iter_mut().zip(others) {
         *kind |= is_of_it;
     }
+}
+
+/// The check-in's minute is of UTC.
+fn kinds_of_stamps(trip: &Trip, check_in: Minutes) -> [bool; 6] {
+    let (first, last) = (&trip.check_in, &trip.check_out);
+    let by_the_clock = |stamp: &Stamp| (stamp.year, stamp.month, stamp.day, stamp.hour, stamp.minute);
+    let are = |one, other| (first.offset, last.offset) == (one, other);
+    [
+        are(1, 1),
+        are(2, 2),
+        are(1, 2),
+        are(2, 1),
+        by_the_clock(last) < by_the_clock(first),
+        check_in < 2 * MINUTES_IN_AN_HOUR,
+    ]
 }
 
 fn kinds_of_breaking(tariff: &Tariff, trip: &Trip, is_broken: bool) -> [bool; 6] {

@@ -1,15 +1,15 @@
 //! Two good cases, one of them with a broken trip, and all that lie one step away from each: each field at each of its
 //! edges, each record of the tariff left out or put in once more anywhere, each bit flipped, each cut, each word of the
-//! book a little off, each length of the statement.
+//! book a little off, each length of the statement, the ends of months, the first and the last hours.
 
 use super::books::{fresh, set_word, word, BICYCLES, WORDS};
 use super::cases::Case;
 use super::fields::{set, stop_field, value, values, Field, Layout, AREA, AREA_FIELDS, COUNT_FIELDS, FACTOR};
-use super::fields::{FACTOR_FIELDS, KINDS, LENGTHS, NUMBER_OF_STOPS, STAMP_FIELDS, STOP, STOP_FIELDS};
+use super::fields::{CHECK_IN, FACTOR_FIELDS, KINDS, LENGTHS, NUMBER_OF_STOPS, STAMP, STAMP_FIELDS, STOP, STOP_FIELDS};
 use super::random::Random;
 use super::run::{Difference, Run};
 use super::tariffs::ordinary_tariff;
-use super::trips::{plan, start, Plan};
+use super::trips::{local_stamp, plan, start, Plan, LAST_MINUTE};
 use crate::model::read_tariff;
 
 const AREAS: usize = 5;
@@ -28,6 +28,7 @@ pub fn sweep(random: &mut Random, run: &mut Run) -> Result<(), Difference> {
         book_lengths(run, &good)?;
         statement_lengths(run, &good)?;
         month_ends(run, &good)?;
+        first_and_last_hours(run, &good)?;
     }
     Ok(())
 }
@@ -109,7 +110,7 @@ fn trip_fields(run: &mut Run, good: &Case) -> Result<(), Difference> {
     let stops = value(&good.trip, 0, &NUMBER_OF_STOPS).expect("a number of stops") as usize;
     let heads = [LENGTHS, KINDS, NUMBER_OF_STOPS];
     let of_stops: Vec<Field> = (0..stops).map(stop_field).collect();
-    for field in heads.iter().chain(&STAMP_FIELDS).chain(&COUNT_FIELDS).chain(&of_stops) {
+    for field in heads.iter().chain(STAMP_FIELDS.as_flattened()).chain(&COUNT_FIELDS).chain(&of_stops) {
         let present = value(&good.trip, 0, field).expect("a field of the trip");
         for value in values(field, present, &[STOPS]) {
             let change = |case: &mut Case| set(&mut case.trip, 0, field, value);
@@ -180,13 +181,31 @@ fn month_ends(run: &mut Run, good: &Case) -> Result<(), Difference> {
         for day in 28..=31 {
             let change = |case: &mut Case| {
                 case.book = fresh();
-                for stamp in STAMP_FIELDS.chunks(5) {
-                    for (field, value) in stamp.iter().zip([year, month, day, 23, 59]) {
+                for stamp in &STAMP_FIELDS {
+                    for (field, value) in stamp.iter().zip([year, month, day, 23, 59, 1 + month % 2]) {
                         set(&mut case.trip, 0, field, value);
                     }
                 }
             };
             check_with(run, good, "the end of a month", change)?;
+        }
+    }
+    Ok(())
+}
+
+/// The first and the last hours by the local clock, each with every pair of offsets around 1 and 2, on a fresh book.
+fn first_and_last_hours(run: &mut Run, good: &Case) -> Result<(), Difference> {
+    let offsets = || (0..=3).flat_map(|first| (0..=3).map(move |second| [first, second]));
+    let minutes = [0, 1, 58, 59, 60, 61, 118, 119, 120, 121].into_iter();
+    let minutes = minutes.clone().chain(minutes.map(|minute| LAST_MINUTE - 90 + minute));
+    for (check_in, later) in minutes.flat_map(|minute| [0, 30, 60, 61].map(|later| (minute, later))) {
+        for [first, second] in offsets() {
+            let stamps = [local_stamp(check_in, first), local_stamp(check_in + later, second)];
+            let change = |case: &mut Case| {
+                case.book = fresh();
+                case.trip[CHECK_IN..][..2 * STAMP].copy_from_slice(stamps.as_flattened());
+            };
+            check_with(run, good, "the first or the last hours", change)?;
         }
     }
     Ok(())

@@ -1,22 +1,26 @@
 //! Trips that fit a tariff and a book, so that most of them are accepted.
 
 use super::books::{word, LAST_CHECK_OUT, OPENING, TRIPS};
-use super::fields::TRIP_HEAD;
+use super::fields::{STAMP, TRIP_HEAD};
 use super::random::Random;
 use crate::model::fare::squared_distance;
 use crate::model::parts::parts_of;
+use crate::model::record::KIND_TRIP;
 use crate::model::tariff::{Tariff, TripCap};
 use crate::numbers::put;
 
+pub const HOUR: u64 = 60;
 pub const DAY: u64 = 1_440;
-/// 2099-12-31 23:59.
+/// 2099-12-31 23:59 UTC. No stamp stands for its last hour: the local date would be one of 2100.
 pub const LAST_MINUTE: u64 = 52_595_999;
 
-/// What a trip record is made of. The minutes may lie outside 2000 to 2099.
+/// What a trip record is made of. The minutes are of UTC, and may lie after 2099.
 #[derive(Clone, Debug)]
 pub struct Plan {
     pub check_in: u64,
     pub check_out: u64,
+    /// With which offset each of the two is written.
+    pub offsets: [u64; 2],
     pub class: u64,
     pub level: u64,
     /// Adults, children, bicycles.
@@ -28,9 +32,9 @@ impl Plan {
     pub fn bytes(&self) -> Vec<u8> {
         let mut bytes = Vec::with_capacity(TRIP_HEAD + 2 * self.stops.len());
         put(&mut bytes, 2, (TRIP_HEAD - 2 + 2 * self.stops.len()) as u64);
-        put(&mut bytes, 2, 3);
-        bytes.extend(stamp(self.check_in));
-        bytes.extend(stamp(self.check_out));
+        put(&mut bytes, 2, KIND_TRIP);
+        bytes.extend(stamp(self.check_in, self.offsets[0]));
+        bytes.extend(stamp(self.check_out, self.offsets[1]));
         put(&mut bytes, 1, self.class);
         put(&mut bytes, 1, self.level);
         for carried in self.party {
@@ -60,8 +64,13 @@ impl Plan {
     }
 }
 
-/// The six bytes of the stamp of a minute since 2000-01-01 00:00.
-pub fn stamp(minute: u64) -> [u8; 6] {
+/// The stamp of a minute since 2000-01-01 00:00 UTC, with this offset.
+pub fn stamp(minute: u64, offset: u64) -> [u8; STAMP] {
+    local_stamp(minute + HOUR * offset, offset)
+}
+
+/// The stamp of a minute since 2000-01-01 00:00 by the local clock, with this offset beside it.
+pub fn local_stamp(minute: u64, offset: u64) -> [u8; STAMP] {
     let (mut year, mut month, mut days) = (2000, 1, minute / DAY);
     while days >= days_in_year(year) {
         days -= days_in_year(year);
@@ -72,7 +81,7 @@ pub fn stamp(minute: u64) -> [u8; 6] {
         month += 1;
     }
     let [low, high] = (year as u16).to_le_bytes();
-    [low, high, month as u8, days as u8 + 1, (minute % DAY / 60) as u8, (minute % 60) as u8]
+    [low, high, month as u8, days as u8 + 1, (minute % DAY / HOUR) as u8, (minute % HOUR) as u8, offset as u8]
 }
 
 fn days_in_year(year: u64) -> u64 {
@@ -94,9 +103,10 @@ fn days_in_month(year: u64, month: u64) -> u64 {
 /// A minute at which to start a chain of trips: at times shortly before the end of a month, or at an end of the century.
 pub fn start(random: &mut Random) -> u64 {
     match random.below(20) {
-        0 => random.below(10),
-        1 => LAST_MINUTE - random.below(4 * DAY),
-        2..8 => {
+        0..2 => random.below(10),
+        2 => random.below(2 * HOUR),
+        3 => LAST_MINUTE - random.below(4 * DAY),
+        4..9 => {
             let months = random.below(1_200);
             let days: u64 = (0..=months).map(|month| days_in_month(2000 + month / 12, 1 + month % 12)).sum();
             days * DAY - 1 - random.below(400)
@@ -125,11 +135,17 @@ pub fn plan(random: &mut Random, tariff: &Tariff, book: &[u8], now: u64) -> Plan
     Plan {
         check_in,
         check_out: check_in + duration,
+        offsets: offsets(random),
         class: random.pick(&[1, 2, 2]),
         level: random.pick(&[0, 0, 1, 2, 3, 4, 5]),
         party: party(random),
         stops,
     }
+}
+
+/// Mostly one for both; at times the clock is put back or put on in between, whatever the season.
+fn offsets(random: &mut Random) -> [u64; 2] {
+    random.pick(&[[1, 1], [1, 1], [1, 1], [2, 2], [2, 2], [2, 2], [1, 2], [2, 1]])
 }
 
 /// After the last check-out: at once, soon, later, or so that the trip ends where the window does.
@@ -235,14 +251,17 @@ mod tests {
     #[test]
     fn stamps_are_those_of_their_minutes() {
         let mut random = Random::of(1, 0);
-        let some = [0, 1, 1_439, 1_440, LAST_MINUTE - 1_440, LAST_MINUTE];
-        for minute in some.into_iter().chain((0..5_000).map(|_| start(&mut random))) {
-            let plan =
-                Plan { check_in: minute, check_out: minute, class: 1, level: 0, party: [0; 3], stops: vec![0, 0] };
-            let trip = Trip::read(&plan.bytes()).expect("a trip");
-            assert_eq!(trip.check_in.minute_number(), Some(minute));
-            assert_eq!(trip.check_out.minute_number(), Some(minute));
+        let some = [0, 1, 1_439, 1_440, LAST_MINUTE - 1_440, LAST_MINUTE - 120];
+        for minute in some.into_iter().chain((0..5_000).map(|_| start(&mut random).min(LAST_MINUTE - 120))) {
+            for offsets in [[1, 1], [1, 2], [2, 1], [2, 2]] {
+                let (check_in, check_out, stops) = (minute, minute, vec![0, 0]);
+                let plan = Plan { check_in, check_out, offsets, class: 1, level: 0, party: [0; 3], stops };
+                let trip = Trip::read(&plan.bytes()).expect("a trip");
+                assert_eq!([trip.check_in.offset, trip.check_out.offset], offsets);
+                assert_eq!(trip.check_in.minute_number(), Some(minute));
+                assert_eq!(trip.check_out.minute_number(), Some(minute));
+            }
         }
-        assert_eq!(stamp(LAST_MINUTE + 1)[..4], [0x34, 0x08, 1, 1], "2100-01-01");
+        assert_eq!(stamp(LAST_MINUTE - 59, 1), [0x34, 0x08, 1, 1, 0, 0, 1], "2100-01-01T00:00+01:00");
     }
 }

@@ -10,7 +10,7 @@
 //! = area 6 km 6 min 20 price 347 child 174
 //! settle:        # the one trip that follows is settled
 //! trip ..
-//! = open 526920 area 2 km 3 min 8 cents 221 off 0 by 255 0
+//! = open 526860 area 2 km 3 min 8 cents 221 off 0 by 255 0
 //! ```
 //!
 //! A section's records end at the next line that ends in ':' or starts with '=', 'but' or 'then'. The text of a '='

@@ -198,16 +198,22 @@ fn trip_body(words: &mut Words) -> Result<Vec<u8>, String> {
     Ok(body)
 }
 
-/// A date and a clock time, such as 2000-12-31 22:08.
+/// A date, a clock time and the whole hours that it is ahead of UTC, in one word as ISO 8601 has it.
 fn stamp(words: &mut Words) -> Result<Vec<u8>, String> {
-    let date = parts("the date", words.next("the date")?, '-', 3)?;
-    let time = parts("the clock time", words.next("the clock time")?, ':', 2)?;
+    let word = words.next("the time")?;
+    let told = || format!("the time '{word}' is not of the form 2026-10-25T02:50+02:00, in whole hours ahead of UTC");
+    let (date, rest) = word.split_once('T').ok_or_else(told)?;
+    let (time, offset) = rest.split_once('+').ok_or_else(told)?;
+    let hours = offset.strip_suffix(":00").ok_or_else(told)?;
+    let date = parts("the date", date, '-', 3)?;
+    let time = parts("the clock time", time, ':', 2)?;
     let mut bytes = Vec::new();
     put(&mut bytes, 2, fitting("the year", date[0], 2)?);
     put(&mut bytes, 1, fitting("the month", date[1], 1)?);
     put(&mut bytes, 1, fitting("the day", date[2], 1)?);
     put(&mut bytes, 1, fitting("the hour", time[0], 1)?);
     put(&mut bytes, 1, fitting("the minute", time[1], 1)?);
+    put(&mut bytes, 1, fitting("the offset", hours, 1)?);
     Ok(bytes)
 }
 

@@ -57,23 +57,25 @@ fn a_stop() {
 
 #[test]
 fn a_trip() {
-    let trip = "trip 2000-12-31 22:00 to 2001-01-02 23:59 class 1 level B adults 2 children 3 bikes 4 stops 5 256";
-    let body = [0xd0, 7, 12, 31, 22, 0, 0xd1, 7, 1, 2, 23, 59, 1, 3, 2, 3, 4, 2, 5, 0, 0, 1];
-    assert_eq!(bytes(trip), [&[24, 0, 3, 0][..], &body[..]].concat());
+    let trip =
+        "trip 2000-12-31T22:00+01:00 to 2001-07-02T23:59+02:00 class 1 level B adults 2 children 3 bikes 4 stops 5 256";
+    let body = [0xd0, 7, 12, 31, 22, 0, 1, 0xd1, 7, 7, 2, 23, 59, 2, 1, 3, 2, 3, 4, 2, 5, 0, 0, 1];
+    assert_eq!(bytes(trip), [&[26, 0, 7, 0][..], &body[..]].concat());
 }
 
 #[test]
 fn levels_of_a_trip() {
     for (level, byte) in [("0", 0), ("K", 1), ("A", 2), ("B", 3), ("C", 4), ("D", 5), ("6", 6), ("255", 255)] {
-        let trip = format!("trip 0-0-0 0:0 to 0-0-0 0:0 class 0 level {level} adults 0 children 0 bikes 0 stops");
-        assert_eq!(bytes(&trip)[17], byte);
+        let trip =
+            format!("trip 0-0-0T0:0+0:00 to 0-0-0T0:0+0:00 class 0 level {level} adults 0 children 0 bikes 0 stops");
+        assert_eq!(bytes(&trip)[19], byte);
     }
 }
 
 #[test]
 fn numbers_out_of_range_can_be_written() {
-    let trip = "trip 65535-255-255 255:255 to 0-0-0 0:0 class 255 level 255 adults 255 children 255 bikes 255 stops";
-    assert_eq!(bytes(trip), [[20, 0, 3, 0].as_slice(), &[255; 6], &[0; 6], &[255; 5], &[0]].concat());
+    let trip = "trip 65535-255-255T255:255+255:00 to 0-0-0T0:0+00:00 class 255 level 255 adults 255 children 255 bikes 255 stops";
+    assert_eq!(bytes(trip), [[22, 0, 7, 0].as_slice(), &[255; 7], &[0; 7], &[255; 5], &[0]].concat());
 }
 
 #[test]
@@ -101,7 +103,8 @@ fn repeat_writes_the_next_record_many_times() {
 
 #[test]
 fn faults_name_their_line() {
-    let trip = "trip 2000-1-1 0:00 to 2000-1-1 0:01 class 2 level 0 adults 0 children 0 bikes 0 stops 0 1";
+    let trip = "trip 2000-1-1T1:00+1:00 to 2000-1-1T1:01+1:00 class 2 level 0 adults 0 children 0 bikes 0 stops 0 1";
+    let form = "is not of the form 2026-10-25T02:50+02:00, in whole hours ahead of UTC";
     for (text, told) in [
         ("area", "line 1: the area's level is missing"),
         ("\n\nroute 1", "line 3: 'route' is no sort of line"),
@@ -118,8 +121,11 @@ fn faults_name_their_line() {
         ("stop 0 0 4294967296", "line 1: y 4294967296 does not fit in 4 bytes"),
         ("stop 0 99999999999999999999 0", "line 1: x '99999999999999999999' is not a number"),
         ("stop 0 0 0 0", "line 1: '0' is one word too many"),
-        ("trip 2000-1 0:00", "line 1: the date '2000-1' does not have 3 parts"),
-        ("trip 2000-1-1 0:00:00", "line 1: the clock time '0:00:00' does not have 2 parts"),
+        ("trip 2000-1T0:00+01:00", "line 1: the date '2000-1' does not have 3 parts"),
+        ("trip 2000-1-1T0:00:00+01:00", "line 1: the clock time '0:00:00' does not have 2 parts"),
+        ("trip 2000-1-1T0:00+256:00", "line 1: the offset 256 does not fit in 1 byte"),
+        ("trip 2000-1-1T0:00+:00", "line 1: the offset '' is not a number"),
+        ("trip", "line 1: the time is missing"),
         ("record x", "line 1: the kind 'x' is not a number"),
         ("record 65536", "line 1: the kind 65536 does not fit in 2 bytes"),
         ("bytes 123", "line 1: '123' is not hexadecimal, two digits a byte"),
@@ -130,6 +136,11 @@ fn faults_name_their_line() {
         ("tariff:", "line 1: 'tariff:' is no sort of line"),
     ] {
         assert_eq!(fault(text), told);
+    }
+    for time in
+        ["2026-10-31", "2026-10-31T20:10", "2026-10-31T20:10Z", "2026-10-31T20:10-01:00", "2026-10-31T20:10+01:30"]
+    {
+        assert_eq!(fault(&format!("#\ntrip {time} 20:10 to")), format!("line 2: the time '{time}' {form}"));
     }
     assert_eq!(fault(&trip.replace("level 0", "level E")), "line 1: the ticket level 'E' is not a number");
     assert_eq!(fault(&format!("{trip}{}", " 0".repeat(254))), "line 1: the number of stops 256 does not fit in 1 byte");

@@ -1,4 +1,5 @@
-//! Stamps and minute numbers. Minute 0 is 2000-01-01 00:00; every day has 1,440 minutes.
+//! Stamps and minute numbers. A stamp is a local date and clock time with its offset, the hours ahead of UTC; minute
+//! numbers count in UTC, from 2000-01-01 00:00 UTC.
 
 use super::record::Fields;
 use super::Minutes;
@@ -6,10 +7,11 @@ use super::Minutes;
 pub const MINUTES_IN_A_DAY: Minutes = 1_440;
 pub const FIRST_YEAR: u64 = 2000;
 pub const LAST_YEAR: u64 = 2099;
-/// 2099-12-31 23:59.
+/// The largest minute number that a sound book may hold: 2099-12-31 23:59 UTC.
 pub const LAST_MINUTE: Minutes = 52_595_999;
+pub const MINUTES_IN_AN_HOUR: Minutes = 60;
 
-/// Year in 2 bytes, then month, day, hour and minute in one each.
+/// Year in 2 bytes, then month, day, hour, minute and offset in one each.
 #[derive(Clone, Debug, PartialEq, Eq)]
 pub struct Stamp {
     pub year: u64,
@@ -17,6 +19,8 @@ pub struct Stamp {
     pub day: u64,
     pub hour: u64,
     pub minute: u64,
+    /// The hours that the local clock is ahead of UTC.
+    pub offset: u64,
 }
 
 impl Stamp {
@@ -27,23 +31,37 @@ impl Stamp {
             day: fields.next(1),
             hour: fields.next(1),
             minute: fields.next(1),
+            offset: fields.next(1),
         }
     }
 
-    /// The minute number, or nothing where this is no date 2000..2099 or no clock time 00:00..23:59.
+    /// The minute number, or nothing where this is no stamp: no local date 2000..2099 or no clock time 00:00..23:59,
+    /// another offset than 1 or 2, or a moment before minute 0.
     pub fn minute_number(&self) -> Option<Minutes> {
-        (self.is_date() && self.is_clock_time())
-            .then(|| self.days_before() * MINUTES_IN_A_DAY + self.hour * 60 + self.minute)
+        if !(self.is_date() && self.is_clock_time() && self.is_offset()) {
+            return None;
+        }
+        self.local_minute().checked_sub(self.offset * MINUTES_IN_AN_HOUR)
     }
 
-    fn is_date(&self) -> bool {
+    /// The minutes from 2000-01-01 00:00 to this date and clock time, both of the local clock.
+    fn local_minute(&self) -> Minutes {
+        self.days_before() * MINUTES_IN_A_DAY + self.hour * MINUTES_IN_AN_HOUR + self.minute
+    }
+
+    pub fn is_date(&self) -> bool {
         (FIRST_YEAR..=LAST_YEAR).contains(&self.year)
             && (1..=12).contains(&self.month)
             && (1..=days_in_month(self.year, self.month)).contains(&self.day)
     }
 
-    fn is_clock_time(&self) -> bool {
+    pub fn is_clock_time(&self) -> bool {
         self.hour <= 23 && self.minute <= 59
+    }
+
+    /// Central European winter time is 1 hour ahead of UTC, summer time 2. Which of them the date has is not looked at.
+    pub fn is_offset(&self) -> bool {
+        (1..=2).contains(&self.offset)
     }
 
     /// The days from 2000-01-01 to this date.

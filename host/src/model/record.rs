@@ -7,9 +7,9 @@ pub const HEAD: usize = 4;
 
 pub const KIND_AREA: u64 = 1;
 pub const KIND_STOP: u64 = 2;
-pub const KIND_TRIP: u64 = 3;
 pub const KIND_FACTOR: u64 = 5;
 pub const KIND_CHARGE: u64 = 6;
+pub const KIND_TRIP: u64 = 7;
 
 pub struct Record<'a> {
     pub kind: u64,

@@ -4,9 +4,9 @@ use super::clock::Stamp;
 use super::record::{record_at, Fields, KIND_TRIP};
 
 /// The body before the stops.
-const BODY_HEAD: usize = 18;
+const BODY_HEAD: usize = 20;
 /// Where the body holds n.
-const STOPS_FIELD: usize = 17;
+const STOPS_FIELD: usize = 19;
 
 #[derive(Clone, Debug, PartialEq, Eq)]
 pub struct Trip {
@@ -23,8 +23,8 @@ pub struct Trip {
 }
 
 impl Trip {
-    /// The trip, or nothing where its frame is broken, the record does not fill the slice, the kind is not 3, or the
-    /// body is under 18 or not 18 + 2n.
+    /// The trip, or nothing where its frame is broken, the record does not fill the slice, the kind is not 7, or the
+    /// body is under 20 or not 20 + 2n.
     pub fn read(slice: &[u8]) -> Option<Trip> {
         let record = record_at(slice, 0)?;
         let body = record.body;

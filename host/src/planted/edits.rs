@@ -7,7 +7,7 @@ pub struct Planted {
     pub edits: &'static [(&'static str, &'static str, &'static str)],
 }
 
-pub const PLANTED: [Planted; 9] = [
+pub const PLANTED: [Planted; 10] = [
     // Promise 1: a refusal changes nothing, and the refusals are tried in their order.
     Planted {
         name: "refusal_12_writes_the_book",
@@ -69,6 +69,15 @@ pub const PLANTED: [Planted; 9] = [
     Planted {
         name: "second_part_with_the_duration",
         edits: &[("parts.rs", "minutes: 0 },", "minutes: duration },")],
+    },
+    // The night with two half past twos: the offset is taken off.
+    Planted {
+        name: "offset_added",
+        edits: &[(
+            "clock.rs",
+            "self.local_minute().checked_sub(self.offset * MINUTES_IN_AN_HOUR)",
+            "Some(self.local_minute() + self.offset * MINUTES_IN_AN_HOUR)",
+        )],
     },
     // Which cap was it: the widest of equals, and none where the whole price is charged.
     Planted {

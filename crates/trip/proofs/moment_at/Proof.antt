@@ -34,23 +34,30 @@ add-one-at-4 c = search needs
 one-at-requires-4 : tie.Need-one-at-requires-4
 one-at-requires-4 c κs = search needs
 
+add-one-at-5 : tie.Need-add-one-at-5
+add-one-at-5 c = search needs
+
+one-at-requires-5 : tie.Need-one-at-requires-5
+one-at-requires-5 c κs = search needs
+
 make-requires : tie.Need-make-requires
 make-requires c κs = search needs
 
--- what is made of the five numbers read
+-- what is made of the six numbers read
 made :
     (c : tie.After-make)
     → c .make .result
-    ≡ madeAt (c .before .before .before .before .before .before .before .args .b .now)
-    (c .before .before .before .before .before .before .before .args .at)
+    ≡ madeAt (c .before .before .before .before .before .before .before .before .args .b .now)
+    (c .before .before .before .before .before .before .before .before .args .at)
 made c =
     c .make .ensures
     ∙ rw (
-      c .before .before .before .before .before .two-at .ensures .value,
-      c .before .before .before .before .one-at .ensures .value,
-      c .before .before .before .one-at2 .ensures .value,
-      c .before .before .one-at3 .ensures .value,
-      c .before .one-at4 .ensures .value,
+      c .before .before .before .before .before .before .two-at .ensures .value,
+      c .before .before .before .before .before .one-at .ensures .value,
+      c .before .before .before .before .one-at2 .ensures .value,
+      c .before .before .before .one-at3 .ensures .value,
+      c .before .before .one-at4 .ensures .value,
+      c .before .one-at5 .ensures .value,
     )
 
 enum-known-made : tie.Need-enum-known-made
@@ -84,6 +91,8 @@ moment-at-spec =
     one-at-requires-3
     add-one-at-4
     one-at-requires-4
+    add-one-at-5
+    one-at-requires-5
     make-requires
     enum-known-made
     minutes-requires

@@ -1,4 +1,4 @@
--- `trip::shape_at` meets its contract: each way through its tests is a way through `shapeAt`, and a body of 18 bytes holds the
+-- `trip::shape_at` meets its contract: each way through its tests is a way through `shapeAt`, and a body of 20 bytes holds the
 -- number of stops.
 -- Assumes nothing.
 use Prim.Native.Nat.{_+_, _≤_}
@@ -10,6 +10,7 @@ use lib.ListN.{length}
 use Rattle.wire.specs.Frame.{frameAt}
 use Rattle.wire.specs.declared.Frame.the-variants.{Whole}
 use Rattle.wire.proofs.Frames.{whole}
+use Rattle.trip.specs.Record.{tripSize}
 use Rattle.trip.proofs.Shapes.{own, broken-shape, foreign-shape, own-shape}
 use Rattle.trip.proofs.shape_at.Statement.{statement}
 use Rattle.trip.proofs.shape_at.Tie as tie
@@ -33,7 +34,7 @@ frame c = sym (c .before .before .frame-at .ensures) ∙ c .kind .given .1
 -- the record has its number of stops within the bytes
 room :
     (c : tie.Else1)
-    → c .before .before .before .before .before .before .args .at + 22
+    → c .before .before .before .before .before .before .args .at + tripSize 0
     ≤ length (c .before .before .before .before .before .before .args .b .now)
 room c =
     let facts = whole _ _ _ _ (frame (c .before .before)) in

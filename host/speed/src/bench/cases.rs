@@ -1,6 +1,6 @@
 //! The calls that are measured.
 
-use super::inputs::{grown, largest, sample, Network, Reach, SEED};
+use super::inputs::{grown, largest, sample, Network, Reach, SEED, SUMMER_TIME};
 use milecopper_host::differential::books::{fresh, set_word, BICYCLES, TRIPS};
 use milecopper_host::differential::random::Random;
 use milecopper_host::differential::trips::Plan;
@@ -41,7 +41,7 @@ pub struct Case {
 /// The charge record of a party of 31.
 const LARGEST_RECORD: usize = 266;
 
-/// The opening of the used books' window: 2026-05-04 07:00.
+/// The opening of the used books' window: 2026-05-04 07:00 UTC.
 const OPENING: u64 = 13_853_220;
 /// In that window, and after it.
 const LATER: u64 = OPENING + 600;
@@ -65,7 +65,8 @@ pub fn all() -> Vec<Case> {
 
 /// A trip of 25 minutes from one stop to another.
 fn plan(network: &Network, reach: Reach, check_in: u64, party: [u64; 3]) -> Plan {
-    Plan { check_in, check_out: check_in + 25, class: 2, level: 3, party, stops: stops(network, reach, 2) }
+    let (check_out, stops) = (check_in + 25, stops(network, reach, 2));
+    Plan { check_in, check_out, offsets: SUMMER_TIME, class: 2, level: 3, party, stops }
 }
 
 fn stops(network: &Network, reach: Reach, many: usize) -> Vec<usize> {
@@ -132,10 +133,10 @@ fn refused(network: &Network) -> Vec<Case> {
         ("the last stop in no area", |case| set_from_end(&mut case.tariff, 9, 32)),
         ("the last bicycle in no area", |case| set_word(&mut case.book, BICYCLES + 9, 33)),
         ("a byte behind the record", trip_too_long),
-        ("11 bicycles", |case| case.trip[20] = 11),
+        ("11 bicycles", |case| case.trip[22] = 11),
         ("the last stop unknown", |case| set_from_end(&mut case.trip, 1, 255)),
-        ("check-out at minute 60", |case| case.trip[15] = 60),
-        ("check-out before check-in", |case| case.trip[14] -= 1),
+        ("check-out at minute 60", |case| case.trip[16] = 60),
+        ("check-out before check-in", |case| case.trip[15] -= 1),
         ("check-in before the last check-out", |case| case.trip[8] = 8),
         ("a window of 256 trips", |case| set_word(&mut case.book, TRIPS, 256)),
         ("a statement too short", no_room),

@@ -6,6 +6,9 @@ use milecopper_host::maker::bytes_of;
 /// What everything that looks random here comes from.
 pub const SEED: u64 = 2_026;
 
+/// The offset of both stamps of a trip.
+pub const SUMMER_TIME: [u64; 2] = [2, 2];
+
 /// How far a trip goes: its stops lie in one city, in one region, or in more than one.
 #[derive(Clone, Copy, Debug, PartialEq, Eq)]
 pub enum Reach {

@@ -1,13 +1,13 @@
 //! Rolls for the program: the same trips on each tariff, but for their stops.
 
-use super::inputs::{Network, Reach, SEED};
+use super::inputs::{Network, Reach, SEED, SUMMER_TIME};
 use milecopper_host::differential::random::Random;
 use milecopper_host::differential::trips::Plan;
 
 /// As many records as the program settles.
 pub const RECORDS: usize = 65_535;
 
-/// 2026-05-04 07:00.
+/// 2026-05-04 07:00 UTC.
 const START: u64 = 13_853_220;
 
 /// A roll of so many records; a shorter one is the start of a longer one. Nearly all are accepted, some eight in each
@@ -43,7 +43,8 @@ fn next(trips: &mut Random, stops: &mut Random, network: &Network, now: u64) -> 
         _ => Reach::State,
     };
     let many = trips.pick(&[2, 2, 2, 2, 2, 2, 3, 4, 4, 6]);
-    Plan { check_in, check_out, class, level, party, stops: (network.stops)(stops, reach, many) }
+    let stops = (network.stops)(stops, reach, many);
+    Plan { check_in, check_out, offsets: SUMMER_TIME, class, level, party, stops }
 }
 
 /// Mostly alone; else with a bicycle, with a few others, or with as many as there may be.
@@ -58,7 +59,7 @@ fn party(trips: &mut Random) -> [u64; 3] {
 
 /// Makes the record one that is refused: another kind, no such class, no such stop, no such minute.
 fn spoil(trips: &mut Random, record: &mut [u8]) {
-    let (place, value) = trips.pick(&[(2, 9), (16, 3), (23, 255), (9, 60)]);
+    let (place, value) = trips.pick(&[(2, 9), (18, 3), (25, 255), (9, 60)]);
     record[place] = value;
 }
 

@@ -1,23 +1,30 @@
-//! Stamps and minute numbers.
+//! Stamps, and their minute numbers in UTC.
 
 use super::numbers::Ranges;
 use super::Minutes;
 
 pub const MINUTES_IN_A_DAY: Minutes = 1_440;
-/// 2099-12-31 23:59.
+/// The last minute that a sound book may hold: 2099-12-31 23:59 UTC.
 pub const LAST_MINUTE: Minutes = 52_595_999;
 
-/// Year, month, day, hour and minute: a stamp's six bytes, with any two behind them.
-const STAMP: Ranges = Ranges::of(&[(16, 2000, 2099), (8, 1, 12), (8, 1, 31), (8, 0, 23), (8, 0, 59)]);
+/// Year, month, day, hour, minute and offset: a stamp's seven bytes, with any one behind them.
+const STAMP: Ranges = Ranges::of(&[(16, 2000, 2099), (8, 1, 12), (8, 1, 31), (8, 0, 23), (8, 0, 59), (8, 1, 2)]);
 
-/// The minute numbers of check-in and check-out, or nothing where one of them is no date or no clock time. Most trips
-/// end on the day on which they start, and the date is worked out once.
+/// The minute numbers of check-in and check-out, or nothing where one of them is no stamp: no local date or clock time,
+/// another offset than 1 or 2, or a moment before minute 0. Most trips end on the day on which they start, and the date is
+/// worked out once.
 #[inline(always)]
 pub fn minutes_of(check_in: u64, check_out: u64) -> Option<(Minutes, Minutes)> {
     let (check_in, check_out) = (STAMP.above_least(check_in)?, STAMP.above_least(check_out)?);
     let first = start_of_day(check_in as u32)?;
     let last = if check_in as u32 == check_out as u32 { first } else { start_of_day(check_out as u32)? };
-    Some((first + minute_of_day(check_in), last + minute_of_day(check_out)))
+    Some((in_utc(first, check_in)?, in_utc(last, check_out)?))
+}
+
+/// The minute number of a stamp whose day starts at this minute by the local clock; nothing where it lies before minute 0.
+#[inline(always)]
+fn in_utc(day: Minutes, stamp: u64) -> Option<Minutes> {
+    (day + minute_of_day(stamp)).checked_sub(60 + 60 * (stamp >> 48 & 0xff) as u32)
 }
 
 #[inline(always)]

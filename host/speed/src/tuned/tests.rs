@@ -24,22 +24,28 @@ fn stamps_as_the_model_counts_them() {
     let dates =
         (1999..=2100).flat_map(|year| (0..=13).flat_map(move |month| (0..=32).map(move |day| (year, month, day))));
     for (year, month, day) in dates {
-        stamp_as_the_model(year, month, day, 23, 59);
+        stamp_as_the_model(year, month, day, 23, 59, 1 + day % 2);
     }
     for (hour, minute) in (0..=255).flat_map(|hour| (0..=255).map(move |minute| (hour, minute))) {
-        stamp_as_the_model(2024, 2, 29, hour, minute);
+        stamp_as_the_model(2024, 2, 29, hour, minute, 1 + minute % 2);
+    }
+    for (hour, minute, offset) in
+        (0..4).flat_map(|hour| (0..60).flat_map(move |minute| (0..=255).map(move |offset| (hour, minute, offset))))
+    {
+        stamp_as_the_model(2000, 1, 1, hour, minute, offset);
+        stamp_as_the_model(2099, 12, 31, 20 + hour, minute, offset);
     }
     for (year, day) in (0..=u16::MAX).step_by(3).flat_map(|year| [(year, 1), (year, 130)]) {
-        stamp_as_the_model(year, 1, day, 0, 0);
+        stamp_as_the_model(year, 1, day, 2, 0, 2);
     }
 }
 
-fn stamp_as_the_model(year: u16, month: u8, day: u8, hour: u8, minute: u8) {
+fn stamp_as_the_model(year: u16, month: u8, day: u8, hour: u8, minute: u8, offset: u8) {
     let [low, high] = year.to_le_bytes();
-    let bytes = [low, high, month, day, hour, minute, 0xff, 0xff];
+    let bytes = [low, high, month, day, hour, minute, offset, 0xff];
     let expected = Stamp::read(&mut Fields::of(&bytes)).minute_number().map(|minute| minute as u32);
     let stamp = u64::from_le_bytes(bytes);
-    let first = u64::from_le_bytes([0xd0, 0x07, 1, 1, 0, 0, 0, 0]);
+    let first = u64::from_le_bytes([0xd0, 0x07, 1, 1, 1, 0, 1, 0]);
     assert_eq!(minutes_of(stamp, stamp), expected.map(|minute| (minute, minute)));
     assert_eq!(minutes_of(first, stamp), expected.map(|minute| (0, minute)));
     assert_eq!(minutes_of(stamp, first), expected.map(|minute| (minute, 0)));

@@ -7,8 +7,8 @@ use super::tariff::Tariff;
 use super::{Minutes, Refusal};
 
 /// The bytes before the stops.
-const HEAD: usize = 22;
-const KIND: u32 = 3;
+const HEAD: usize = 24;
+const KIND: u32 = 7;
 
 /// Class, ticket level, adults, children, bicycles and number of stops, above two bytes of the check-out.
 const COUNTS: Ranges =
@@ -33,17 +33,17 @@ impl Trip {
         let Some((head, stops)) = bytes.split_first_chunk::<HEAD>() else {
             return Err(Refusal::new(5));
         };
-        let n = u32::from(head[21]);
-        if stops.len() != 2 * n as usize || four(head, 0) != KIND << 16 | (20 + 2 * n) {
+        let n = u32::from(head[23]);
+        if stops.len() != 2 * n as usize || four(head, 0) != KIND << 16 | (22 + 2 * n) {
             return Err(Refusal::new(5));
         }
-        if COUNTS.above_least(eight(head, 14)).is_none() {
+        if COUNTS.above_least(eight(head, 16)).is_none() {
             return Err(Refusal::new(6));
         }
         let Some(way) = Way::through(stops.as_chunks().0, tariff.stops) else {
             return Err(Refusal::new(7));
         };
-        let Some((check_in, check_out)) = minutes_of(eight(head, 4), eight(head, 10)) else {
+        let Some((check_in, check_out)) = minutes_of(eight(head, 4), eight(head, 11)) else {
             return Err(Refusal::new(8));
         };
         if check_out.wrapping_sub(check_in) > MINUTES_IN_A_DAY {
@@ -52,11 +52,11 @@ impl Trip {
         let trip = Trip {
             check_in,
             check_out,
-            class: head[16].into(),
-            ticket_level: head[17].into(),
-            adults: head[18].into(),
-            children: head[19].into(),
-            bicycles: head[20].into(),
+            class: head[18].into(),
+            ticket_level: head[19].into(),
+            adults: head[20].into(),
+            children: head[21].into(),
+            bicycles: head[22].into(),
         };
         Ok((trip, way.parts(tariff, check_out - check_in)))
     }

@@ -2,26 +2,42 @@
 
 use crate::differential::cases::Draft;
 use crate::differential::fields::{set, stop_field, value, values, Field};
-use crate::differential::fields::{COUNT_FIELDS, KINDS, LENGTHS, NUMBER_OF_STOPS, STAMP_FIELDS, TRIP_HEAD};
+use crate::differential::fields::{
+    CHECK_IN, COUNT_FIELDS, KINDS, LENGTHS, NUMBER_OF_STOPS, STAMP, STAMP_FIELDS, TRIP_HEAD,
+};
 use crate::differential::random::Random;
-use crate::differential::trips::{stamp, DAY};
+use crate::differential::trips::{local_stamp, stamp, DAY, HOUR, LAST_MINUTE};
 
-/// Cut, too long, of another kind, or with a length or a number of stops that do not fit.
+/// Cut, too long, of another kind, without offsets, or with a length or a number of stops that do not fit.
 pub fn shape(random: &mut Random, draft: &mut Draft) {
     let trip = &mut draft.case.trip;
-    match random.below(6) {
+    match random.below(7) {
         0 => trip.truncate(random.index(trip.len() + 1)),
         1 => trip.extend([3, 0, 2, 0][..1 + random.index(4)].iter()),
         2 => set(trip, 0, &KINDS, random.pick(KINDS.edges)),
         3 => at_an_edge(random, trip, &LENGTHS, 0),
         4 => at_an_edge(random, trip, &NUMBER_OF_STOPS, 0),
+        5 => without_offsets(random, trip),
         _ => {
             // A whole frame with a body of any length.
-            let body = random.pick(&[0, 1, 17, 18, 19, 21, 1_022]);
+            let body = random.pick(&[0, 1, 18, 19, 20, 21, 23, 1_022]);
             trip.resize(4 + body, 2);
             set(trip, 0, &LENGTHS, 2 + body as u64);
         }
     }
+}
+
+/// The stamps without their offsets, in a whole frame: a trip of kind 3, or one of kind 7 that is too short.
+fn without_offsets(random: &mut Random, trip: &mut Vec<u8>) {
+    if trip.len() < TRIP_HEAD {
+        return;
+    }
+    for place in [CHECK_IN + 2 * STAMP - 1, CHECK_IN + STAMP - 1] {
+        trip.remove(place);
+    }
+    let length = trip.len() as u64 - 2;
+    set(trip, 0, &LENGTHS, length);
+    set(trip, 0, &KINDS, random.pick(&[3, 3, 7]));
 }
 
 /// A count at an edge, or a number of stops that its length fits.
@@ -46,17 +62,25 @@ pub fn stops(random: &mut Random, draft: &mut Draft) {
     set(&mut draft.case.trip, 0, &field, number);
 }
 
-/// A field of a stamp at an edge, or a date around the end of a month.
+/// A field of a stamp at an edge, mostly its offset, a date around the end of a month, or a moment around minute 0 or
+/// around the end of the last year.
 pub fn stamps(random: &mut Random, draft: &mut Draft) {
     let trip = &mut draft.case.trip;
-    if random.chance(60) {
-        let field = &STAMP_FIELDS[random.index(STAMP_FIELDS.len())];
-        at_an_edge(random, trip, field, 0);
-    } else {
-        let both = random.pick(&[&STAMP_FIELDS[..5], &STAMP_FIELDS[5..]]);
-        set(trip, 0, &both[0], random.pick(&[2000, 2001, 2003, 2004, 2096, 2099, 2100]));
-        set(trip, 0, &both[1], random.within(1, 12));
-        set(trip, 0, &both[2], random.within(28, 31));
+    let which = random.index(STAMP_FIELDS.len());
+    let fields = &STAMP_FIELDS[which];
+    let field = random.pick(&[0, 1, 2, 3, 4, 5, 5, 5]);
+    match random.below(10) {
+        0..5 => at_an_edge(random, trip, &fields[field], 0),
+        5..7 => {
+            set(trip, 0, &fields[0], random.pick(&[2000, 2001, 2003, 2004, 2096, 2099, 2100]));
+            set(trip, 0, &fields[1], random.within(1, 12));
+            set(trip, 0, &fields[2], random.within(28, 31));
+        }
+        _ => {
+            let first = random.pick(&[0, 0, LAST_MINUTE - 2 * HOUR]);
+            let minute = first + random.pick(&[0, 1, HOUR, 2 * HOUR, 3 * HOUR]) + random.below(3);
+            put_stamp(trip, which, local_stamp(minute.saturating_sub(1), random.pick(&[0, 1, 1, 2, 2, 3])));
+        }
     }
 }
 
@@ -68,9 +92,16 @@ pub fn duration(random: &mut Random, draft: &mut Draft) {
         3 => (draft.plan.check_in, draft.plan.check_in + DAY),
         _ => (draft.plan.check_in, draft.plan.check_in + DAY + random.pick(&[1, 1, 1, 2, DAY, 525_600])),
     };
-    if let Some(stamps) = draft.case.trip.get_mut(4..16) {
-        stamps[..6].copy_from_slice(&stamp(check_in));
-        stamps[6..].copy_from_slice(&stamp(check_out));
+    let [first, second] = draft.plan.offsets;
+    put_stamp(&mut draft.case.trip, 0, stamp(check_in, first));
+    put_stamp(&mut draft.case.trip, 1, stamp(check_out, second));
+}
+
+/// Puts the check-in, 0, or the check-out, 1, unless the trip is too short for it.
+fn put_stamp(trip: &mut [u8], which: usize, stamp: [u8; STAMP]) {
+    let place = CHECK_IN + STAMP * which;
+    if let Some(found) = trip.get_mut(place..place + STAMP) {
+        found.copy_from_slice(&stamp);
     }
 }
 
