@@ -1,9 +1,11 @@
-//! Feature `library`: links libmilecopper.a. Feature `planted`: makes the copies of the model that have an error planted.
+//! Feature `library`: links libmilecopper.a and c/painted.c. Feature `planted`: makes the copies of the model that have an
+//! error planted.
 
 #[path = "src/planted/edits.rs"]
 mod edits;
 
 use std::path::{Path, PathBuf};
+use std::process::Command;
 use std::{env, fs};
 
 fn main() {
@@ -11,6 +13,7 @@ fn main() {
     let package = PathBuf::from(env::var_os("CARGO_MANIFEST_DIR").expect("cargo says where the package is"));
     if env::var_os("CARGO_FEATURE_LIBRARY").is_some() {
         link_library(&package);
+        link_painted(&package);
     }
     if env::var_os("CARGO_FEATURE_PLANTED").is_some() {
         let out = PathBuf::from(env::var_os("OUT_DIR").expect("cargo says where to write"));
@@ -30,6 +33,26 @@ fn link_library(package: &Path) {
     } else {
         println!("cargo::error={} is not there: set MILECOPPER_LIB_DIR to its directory", archive.display());
     }
+}
+
+/// c/painted.c, where a call can be made on a painted stack.
+fn link_painted(package: &Path) {
+    let source = package.join("c/painted.c");
+    println!("cargo::rerun-if-changed={}", source.display());
+    let processor = env::var("CARGO_CFG_TARGET_ARCH").expect("cargo says for which processor");
+    if !["x86_64", "aarch64"].contains(&processor.as_str()) {
+        return;
+    }
+    let out = PathBuf::from(env::var_os("OUT_DIR").expect("cargo says where to write"));
+    let (object, archive) = (out.join("painted.o"), out.join("libpainted.a"));
+    let made = |command: &mut Command| command.status().is_ok_and(|status| status.success());
+    assert!(
+        made(Command::new("gcc").args(["-O2", "-Wall", "-Wextra", "-Werror", "-c", "-o"]).args([&object, &source])),
+        "c/painted.c"
+    );
+    assert!(made(Command::new("ar").arg("rcs").args([&archive, &object])), "libpainted.a");
+    println!("cargo::rustc-link-search=native={}", out.display());
+    println!("cargo::rustc-link-lib=static=painted");
 }
 
 /// For each planted error a copy of the model's files with its edits, and one file that names them all.

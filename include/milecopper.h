@@ -35,6 +35,7 @@
  *     settled in the order in which they were ridden.
  *   - During a call no other thread reads or writes its book or its statement, and none writes its tariff or its
  *     trip. Calls on different books may run at the same time, and they may share one tariff.
+ *   - Where milecopper_settle is called, at least 1,024 bytes of stack are free.
  *
  * What the library does not do
  *

@@ -25,6 +25,7 @@ mod sweeps;
 mod tariffs;
 pub mod trips;
 
+pub use counts::Counts;
 pub use options::{Options, USAGE};
 pub use run::{number_of, settle_by_the_model, Difference, Settle};
 
@@ -41,8 +42,19 @@ const CHAINS: u64 = 2_200;
 pub fn compare(name: &'static str, settle: Settle, options: &Options) -> Result<(), Difference> {
     let seeds: Vec<String> = options.seeds.iter().map(u64::to_string).collect();
     println!("{name} and the model, seeds {}", seeds.join(" "));
-    signals::tell_signals();
     let clock = Instant::now();
+    let counts = settle_alike(name, settle, options)?;
+    println!("no difference\n{counts}\n{:.1} seconds", clock.elapsed().as_secs_f64());
+    let too_few = counts.too_few();
+    if options.part.is_none() && !too_few.is_empty() {
+        return Err(format!("under 1 % of their half: {}", too_few.join(", ")));
+    }
+    Ok(())
+}
+
+/// Has both settle every case. The answer counts the cases; an error is the first difference.
+pub fn settle_alike(name: &'static str, settle: Settle, options: &Options) -> Result<Counts, Difference> {
+    signals::tell_signals();
     let mut run = Run::of(name, settle, options.part.is_some());
     for &seed in &options.seeds {
         for part in options.part.map_or(0..1 + options.longer * CHAINS, |part| part..part + 1) {
@@ -55,12 +67,7 @@ pub fn compare(name: &'static str, settle: Settle, options: &Options) -> Result<
         }
     }
     signals::unset_alarm();
-    println!("no difference\n{}\n{:.1} seconds", run.counts, clock.elapsed().as_secs_f64());
-    let too_few = run.counts.too_few();
-    if options.part.is_none() && !too_few.is_empty() {
-        return Err(format!("under 1 % of their half: {}", too_few.join(", ")));
-    }
-    Ok(())
+    Ok(run.counts)
 }
 
 /// The status with which a program that compares ends; an error is printed.

@@ -9,7 +9,7 @@ use mathlib.Core.Path.{_≡_, refl, sym, ap, _∙_}
 use mathlib.Core.Bool.{Bool, true, false, cond}
 use mathlib.Core.List.{List, [], _∷_, _++_, append-assoc}
 use lib.ListN.{length, getD, set, length-append, List·getD-append, List·getD-eq-default}
-use lib.Seq.{sets, length-sets, getD-append-add, getD-at, getD-take}
+use lib.Seq.{set-comm, sets, length-sets, getD-append-add, getD-at, getD-take}
 use lib.Dec.{eqb}
 use borrow.Author.Tests.{eq-eqb, ne-eqb}
 use Rattle.wire.proofs.Number.{sets-more}
@@ -28,6 +28,7 @@ use Rattle.fare.specs.Prices.{mostPrice}
 use Rattle.fare.specs.Contracts.{Priceable}
 use Rattle.fare.proofs.Steps.{price-most}
 use Rattle.book.specs.declared.Earlier.{Earlier}
+use Rattle.book.specs.declared.Riders.{Riders}
 use Rattle.book.specs.Words.{secondSum, allSum, firstChild, coverPlace, coverWord}
 use Rattle.book.specs.Windows.{inWindow}
 use Rattle.book.specs.Caps.{treeOf}
@@ -36,6 +37,7 @@ use Rattle.book.specs.declared.Cut.{Cut}
 use Rattle.book.specs.Cuts.{riderCut, riderCuts, cutsOf}
 use Rattle.book.specs.Contracts.{Rideable, pendingIn, chainOf, restBy, nameOf, reductionsOf, namesOf, NewCover, BicycleCharge, PartyAmounts}
 use Rattle.book.proofs.Trees.{is-tree}
+use Rattle.book.proofs.Groups.{groupOf, afterGroups, storing}
 use Rattle.book.proofs.WordLaws.{word-fresh}
 use Rattle.book.proofs.SoundLaws.{SoundBook, sound-has}
 
@@ -254,6 +256,17 @@ module _ (t : List ℕ) (counts : Counts) (w : List ℕ) (ride : Ride) (count : 
   pub bicycle-at : (i : ℕ) → i < count → getD (bicycleCharges t counts w ride count) i 0 ≡ bicycleCharge t counts (ride .area) (coverWord w i)
   bicycle-at i h = rw (← bicycles-listed t counts w ride count) (listed-at _ 0 count i h)
 
+-- what is stored at places behind others may be stored before them
+set-past : (ws l : List ℕ) (i j v : ℕ) → i < j → set (sets l j ws) i v ≡ sets (set l i v) j ws
+set-past [] l i j v h = refl
+set-past (w ∷ ws) l i j v h =
+    set-past ws (set l j w) i (suc j) v (omega arith) ∙ ap (λ (l′ : List ℕ). sets l′ (suc j) ws) (set-comm l j i w v (λ e. omega arith))
+
+sets-past : (vs ws l : List ℕ) (i j : ℕ) → i + length vs ≤ j → sets (sets l j ws) i vs ≡ sets (sets l i vs) j ws
+sets-past [] ws l i j h = refl
+sets-past (v ∷ vs) ws l i j h =
+    ap (λ (l′ : List ℕ). sets l′ (suc i) vs) (set-past ws l i j v (omega arith)) ∙ sets-past vs ws (set l i v) (suc i) j (omega arith)
+
 -- three lists joined, of which the first has n values and the second m
 module _ (xs ys zs : List ℕ) (n m : ℕ) (e : length xs ≡ n) (e′ : length ys ≡ m) where
   at-first : (i : ℕ) → i < n → getD (xs ++ (ys ++ zs)) i 0 ≡ getD xs i 0
@@ -268,17 +281,17 @@ module _ (xs ys zs : List ℕ) (n m : ℕ) (e : length xs ≡ n) (e′ : length 
   at-third : (i : ℕ) → getD (xs ++ (ys ++ zs)) (n + m + i) 0 ≡ getD zs i 0
   at-third i = rw (add-assoc n m i, behind-first (m + i), ← e′) (getD-append-add ys zs i 0)
 
-  -- stored one behind the other from the start on, they are stored as one
+  -- the third stored first, in its place, and then the others from the start on: they are stored as one
   stored-three :
-      (l : List ℕ) {l₁ l₂ l₃ : List ℕ} → l₁ ≡ sets l 0 xs → l₂ ≡ sets l₁ n ys → l₃ ≡ sets l₂ (n + m) zs → l₃ ≡ sets l 0 (xs ++ (ys ++ zs))
-  stored-three l {l₂ = l₂} one two three =
-      let first : l₂ ≡ sets l 0 (xs ++ ys) =
-      two ∙ rw one (ap (λ (p : ℕ). sets (sets l 0 xs) p ys) (omega arith) ∙ sets-more l 0 xs ys)
+      (l : List ℕ) {l₁ l₂ l₃ : List ℕ} → l₁ ≡ sets l (n + m) zs → l₂ ≡ sets l₁ 0 xs → l₃ ≡ sets l₂ n ys → l₃ ≡ sets l 0 (xs ++ (ys ++ zs))
+  stored-three l {l₁ = l₁} one two three =
+      let size : length (xs ++ ys) ≡ n + m = omega (arith, length-append xs ys) in
+      let both : sets (sets l₁ 0 xs) n ys ≡ sets l₁ 0 (xs ++ ys) =
+      ap (λ (p : ℕ). sets (sets l₁ 0 xs) p ys) (omega arith) ∙ sets-more l₁ 0 xs ys
       in
-      three
-      ∙ rw first
-      (ap (λ (p : ℕ). sets (sets l 0 (xs ++ ys)) p zs) (omega (arith, length-append xs ys)) ∙ sets-more l 0 (xs ++ ys) zs
-      ∙ ap (sets l 0) (append-assoc xs ys zs))
+      three ∙ rw (two, both, one)
+      (sets-past (xs ++ ys) zs l 0 (n + m) (omega arith) ∙ ap (λ (p : ℕ). sets (sets l 0 (xs ++ ys)) p zs) (omega arith)
+      ∙ sets-more l 0 (xs ++ ys) zs ∙ ap (sets l 0) (append-assoc xs ys zs))
 
 -- The charges of a party: account holder and adults from 0 on, children from 1 + adults, bicycles from 1 + adults + children.
 module _ (t : List ℕ) (counts : Counts) (w : List ℕ) (ride : Ride) where
@@ -291,12 +304,16 @@ module _ (t : List ℕ) (counts : Counts) (w : List ℕ) (ride : Ride) where
   abbrev bicycles : List ℕ
   bicycles = bicycleCharges t counts w ride (ride .party .bicycles)
 
-  -- the three parts, each stored behind the one before
+  abbrev pub chargesOfGroup : Riders → List ℕ
+  chargesOfGroup riders = riderCharges t counts w ride (riders .child) (riders .first) (riders .count)
+
+  -- the bicycles' stored first, in their place, and then the two groups of riders
   pub charges-stored :
-      (l : List ℕ) {l₁ l₂ l₃ : List ℕ} → l₁ ≡ sets l 0 older → l₂ ≡ sets l₁ (1 + ride .party .adults) children
-      → l₃ ≡ sets l₂ (1 + ride .party .adults + ride .party .children) bicycles → l₃ ≡ sets l 0 (chargesOf t counts w ride)
-  unfolding chargesOf
-  charges-stored = stored-three older children bicycles _ _ (riders-length t counts w ride false 0 _) (riders-length t counts w ride true firstChild _)
+      (l : List ℕ) {l₁ l₂ : List ℕ} → l₁ ≡ sets l (1 + ride .party .adults + ride .party .children) bicycles
+      → l₂ ≡ afterGroups (storing chargesOfGroup) ride 2 l₁ → l₂ ≡ sets l 0 (chargesOf t counts w ride)
+  unfolding chargesOf groupOf afterGroups
+  charges-stored l one two =
+      stored-three older children bicycles _ _ (riders-length t counts w ride false 0 _) (riders-length t counts w ride true firstChild _) l one refl two
 
   pub charges-length : length (chargesOf t counts w ride) ≡ 1 + ride .party .adults + ride .party .children + ride .party .bicycles
   unfolding chargesOf
@@ -362,27 +379,28 @@ module _ (t : List ℕ) (counts : Counts) (w : List ℕ) (ride : Ride) where
       ap (λ (n : ℕ). getD (olderCuts ++ childrenCuts) (n + i) d) (sym (cut-count false 0 (1 + ride .party .adults)))
       ∙ getD-append-add olderCuts childrenCuts i d ∙ cut-at true firstChild (ride .party .children) d i h
 
-  -- the two parts, each stored behind the one before
+  abbrev pub cutsOfGroup : (List Cut → List ℕ) → Riders → List ℕ
+  cutsOfGroup of riders = of (riderCuts t counts w ride (riders .child) (riders .first) (riders .count))
+
+  -- the two groups, each stored behind the one before
   stored-two :
       (of : List Cut → List ℕ) → ((cuts more : List Cut) → of (cuts ++ more) ≡ of cuts ++ of more) → ((cuts : List Cut) → length (of cuts) ≡ length cuts)
-      → (l : List ℕ) {l₁ l₂ : List ℕ} → l₁ ≡ sets l 0 (of olderCuts) → l₂ ≡ sets l₁ (1 + ride .party .adults) (of childrenCuts)
-      → l₂ ≡ sets l 0 (of (cutsOf t counts w ride))
-  unfolding cutsOf
-  stored-two of join same l one two =
-      two
-      ∙ rw (one, join olderCuts childrenCuts)
+      → (l : List ℕ) {l′ : List ℕ} → l′ ≡ afterGroups (storing (cutsOfGroup of)) ride 2 l → l′ ≡ sets l 0 (of (cutsOf t counts w ride))
+  unfolding cutsOf groupOf afterGroups
+  stored-two of join same l stored =
+      stored
+      ∙ rw (join olderCuts childrenCuts)
       (ap (λ (p : ℕ). sets (sets l 0 (of olderCuts)) p (of childrenCuts))
       (omega (arith, same olderCuts, cut-count false 0 (1 + ride .party .adults)))
       ∙ sets-more l 0 (of olderCuts) (of childrenCuts))
 
   pub reductions-stored :
-      (l : List ℕ) {l₁ l₂ : List ℕ} → l₁ ≡ sets l 0 (reductionsOf olderCuts) → l₂ ≡ sets l₁ (1 + ride .party .adults) (reductionsOf childrenCuts)
-      → l₂ ≡ sets l 0 (reductionsOf (cutsOf t counts w ride))
+      (l : List ℕ) {l′ : List ℕ} → l′ ≡ afterGroups (storing (cutsOfGroup reductionsOf)) ride 2 l
+      → l′ ≡ sets l 0 (reductionsOf (cutsOf t counts w ride))
   reductions-stored = stored-two reductionsOf reductions-join reductions-length
 
   pub names-stored :
-      (l : List ℕ) {l₁ l₂ : List ℕ} → l₁ ≡ sets l 0 (namesOf olderCuts) → l₂ ≡ sets l₁ (1 + ride .party .adults) (namesOf childrenCuts)
-      → l₂ ≡ sets l 0 (namesOf (cutsOf t counts w ride))
+      (l : List ℕ) {l′ : List ℕ} → l′ ≡ afterGroups (storing (cutsOfGroup namesOf)) ride 2 l → l′ ≡ sets l 0 (namesOf (cutsOf t counts w ride))
   names-stored = stored-two namesOf names-join names-length
 
 -- A ride of a faultless tariff can be priced, and no price is above 3,790,000 cents: so no charge is.

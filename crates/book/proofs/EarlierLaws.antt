@@ -1,7 +1,7 @@
 -- What an earlier part of a trip leaves to charge the next part on: the same whether the part is in the book or its charges are only added
 -- to what is read. So both parts can be charged before anything is written, and posted one after the other.
 -- Assumes nothing.
-use Prim.Native.Nat.{ℕ, _+_, _-_, _*_, _^_, _≤_, _<_}
+use Prim.Native.Nat.{ℕ, zero, suc, _+_, _-_, _*_, _^_, _≤_, _<_}
 use native.Mathlib.Nat.{add-zero, zero-add, mul-le-mul-right}
 use native.Mathlib.Omega.{arith}
 use mathlib.Core.Path.{_≡_, refl, sym, ap, _∙_}
@@ -64,6 +64,7 @@ use Rattle.book.proofs.WordLaws.{word-fresh, size-put, put-same}
 use Rattle.book.proofs.SoundLaws.{PairSound, SoundBook, sound-has}
 use Rattle.book.proofs.Trees.{is-tree, lies-within}
 use Rattle.book.proofs.SumLaws.{sumOf, counted, sum-by-words}
+use Rattle.book.proofs.Groups.{groupOf}
 use Rattle.book.proofs.ChargeLaws.{
   listed,
   listed-same,
@@ -366,7 +367,7 @@ module _ {tariff : List ℕ} {counts : Counts} {book : List ℕ} {current : Bool
 module _ {tariff : List ℕ} {counts : Counts} {book : List ℕ} {current : Bool} {ride : Ride} {earlier : Earlier} {paid : List ℕ}
     (r : Ridden tariff counts book current ride earlier) (p : Paid tariff counts (inWindow current book) earlier paid)
     (amounts reductions names : List ℕ) (full : length amounts ≡ 31) (full′ : length reductions ≡ 21) (full″ : length names ≡ 21) where
-  pub adults-chargeable :
+  adults-chargeable :
       Chargeable tariff counts book current ride (record { child = false; first = 0; count = 1 + ride .party .adults; from = 0 }) earlier paid amounts
       reductions names
   adults-chargeable =
@@ -382,7 +383,7 @@ module _ {tariff : List ℕ} {counts : Counts} {book : List ℕ} {current : Bool
         placed = λ i h. rw (zero-add i, le-ltb 10 i (omega (arith, r .rideable .adults)));
       }
 
-  pub children-chargeable :
+  children-chargeable :
       Chargeable tariff counts book current ride
       (record { child = true; first = firstChild; count = ride .party .children; from = 1 + ride .party .adults }) earlier paid amounts
       reductions names
@@ -401,6 +402,11 @@ module _ {tariff : List ℕ} {counts : Counts} {book : List ℕ} {current : Bool
     where
       back : (i : ℕ) → firstChild + i - firstChild ≡ i
       back i = omega arith
+
+  pub group-chargeable : (k : ℕ) → Chargeable tariff counts book current ride (groupOf ride k) earlier paid amounts reductions names
+  unfolding groupOf
+  group-chargeable zero = adults-chargeable
+  group-chargeable (suc k) = children-chargeable
 
 -- ---- One part posted after the other.
 

@@ -4,6 +4,7 @@ pub mod Trees
 pub mod SumLaws
 pub mod CapLaws
 pub mod WindowLaws
+pub mod Groups
 pub mod ChargeLaws
 pub mod PostedLaws
 pub mod SoundAgain

@@ -14,11 +14,13 @@ use Rattle.tariff.proofs.Faultless.{faultless}
 use Rattle.fare.specs.declared.Ride.{Ride}
 use Rattle.fare.specs.Prices.{mostPrice}
 use Rattle.book.specs.declared.Window.{Window}
+use Rattle.book.specs.declared.Riders.{Riders}
 use Rattle.book.specs.Words.{bookSize, word, tripsOf, firstChild, coverPlace}
 use Rattle.book.specs.Posting.{addList, coverBicycles, opened, posted}
-use Rattle.book.specs.Contracts.{Room, Adding, Covering, Postable}
+use Rattle.book.specs.Contracts.{Room, Adding, addRiders, Covering, Postable}
 use Rattle.book.proofs.SoundLaws.{sound-has}
-use Rattle.book.proofs.SumLaws.{list-other}
+use Rattle.book.proofs.SumLaws.{list-size, list-other}
+use Rattle.book.proofs.Groups.{groupOf, afterGroups}
 use Rattle.book.proofs.ChargeLaws.{charges-length, charges-most, amount-at}
 use Rattle.book.proofs.PostedLaws.{wordsIn, chargesIn, opened-other, Counting, counting}
 use Rattle.book.proofs.PostTurns.{room-same}
@@ -32,6 +34,10 @@ unfolding addList
 list-same t counts ride first zero l l′ from b same = refl
 list-same t counts ride first (suc count) l l′ from b same =
     rw (list-same t counts ride first count l l′ from b (λ i h. same i (omega arith)), same count (omega arith))
+
+-- the step for a group: the riders' charges added
+abbrev pub adding : List ℕ → Counts → Ride → List ℕ → List ℕ → Riders → List ℕ
+adding t counts ride amounts b riders = addRiders t counts ride riders amounts b
 
 module _ {t : List ℕ} {counts : Counts} {b : List ℕ} {window : Window} {ride : Ride} {amounts : List ℕ}
     (p : Postable t counts b window ride amounts) (checkout : ℕ) where
@@ -64,7 +70,7 @@ module _ {t : List ℕ} {counts : Counts} {b : List ℕ} {window : Window} {ride
         room-same (wordsIn window b) b₁ rider (λ j low high. word₁ j (omega arith))
         (λ area h′. omega (arith, window-words .few, window-words .pairs rider area h h′))
 
-    pub adults-ready : Adding t counts b₁ ride (record { child = false; first = 0; count = 1 + ride .party .adults; from = 0 }) amounts
+    adults-ready : Adding t counts b₁ ride (record { child = false; first = 0; count = 1 + ride .party .adults; from = 0 }) amounts
     adults-ready =
         record {
           size = size₁;
@@ -77,15 +83,17 @@ module _ {t : List ℕ} {counts : Counts} {b : List ℕ} {window : Window} {ride
         }
 
     -- After the second: the adults' charges are added, and the words behind theirs are as they were.
-    module _ {b₂ : List ℕ} (e₂ : b₂ ≡ addList t counts ride 0 (1 + ride .party .adults) amounts 0 b₁)
-        (kept₂ : length b₂ ≡ length b₁) where
+    module _ {b₂ : List ℕ} (e₂ : b₂ ≡ addList t counts ride 0 (1 + ride .party .adults) amounts 0 b₁) where
+      kept₂ : length b₂ ≡ length b₁
+      kept₂ = ap length e₂ ∙ list-size right ride (p .rideable .area) 0 amounts 0 (1 + ride .party .adults) b₁ (omega (arith, p .rideable .adults))
+
       word₂ : (j : ℕ) → 3 + 64 * firstChild ≤ j → word b₂ j ≡ word b₁ j
       word₂ j h =
           ap (λ (l : List ℕ). word l j) e₂
           ∙ list-other right ride (p .rideable .area) 0 amounts 0 (1 + ride .party .adults) b₁
           (omega (arith, p .rideable .adults)) j (inr (omega (arith, p .rideable .adults)))
 
-      pub children-ready :
+      children-ready :
           Adding t counts b₂ ride
           (record { child = true; first = firstChild; count = ride .party .children; from = 1 + ride .party .adults }) amounts
       children-ready =
@@ -102,8 +110,13 @@ module _ {t : List ℕ} {counts : Counts} {b : List ℕ} {window : Window} {ride
 
       -- After the third: the children's are added, and the bicycles' words are as they were.
       module _ {b₃ : List ℕ}
-          (e₃ : b₃ ≡ addList t counts ride firstChild (ride .party .children) amounts (1 + ride .party .adults) b₂)
-          (kept₃ : length b₃ ≡ length b₂) where
+          (e₃ : b₃ ≡ addList t counts ride firstChild (ride .party .children) amounts (1 + ride .party .adults) b₂) where
+        kept₃ : length b₃ ≡ length b₂
+        kept₃ =
+            ap length e₃
+            ∙ list-size right ride (p .rideable .area) firstChild amounts (1 + ride .party .adults) (ride .party .children) b₂
+            (omega (arith, p .rideable .children))
+
         word₃ : (j : ℕ) → coverPlace 0 ≤ j → word b₃ j ≡ word (wordsIn window b) j
         word₃ j h =
             ap (λ (l : List ℕ). word l j) e₃
@@ -111,7 +124,7 @@ module _ {t : List ℕ} {counts : Counts} {b : List ℕ} {window : Window} {ride
             (omega (arith, p .rideable .children)) j (inr (omega (arith, p .rideable .children)))
             ∙ word₂ j (omega arith) ∙ word₁ j (omega arith)
 
-        pub bicycles-ready : Covering t counts b₃ ride (ride .party .bicycles)
+        bicycles-ready : Covering t counts b₃ ride (ride .party .bicycles)
         bicycles-ready =
             record {
               size = kept₃ ∙ kept₂ ∙ size₁;
@@ -122,7 +135,7 @@ module _ {t : List ℕ} {counts : Counts} {b : List ℕ} {window : Window} {ride
             }
 
         -- After the last: the book is what the ride leaves.
-        pub all-posted : {b₄ : List ℕ} → b₄ ≡ coverBicycles t counts ride (ride .party .bicycles) b₃ → b₄ ≡ posted t counts b window checkout ride
+        all-posted : {b₄ : List ℕ} → b₄ ≡ coverBicycles t counts ride (ride .party .bicycles) b₃ → b₄ ≡ posted t counts b window checkout ride
         unfolding posted
         all-posted e₄ =
             let l = chargesIn t counts b window ride in
@@ -134,3 +147,29 @@ module _ {t : List ℕ} {counts : Counts} {b : List ℕ} {window : Window} {ride
             e₃ ∙ list-same t counts ride firstChild (ride .party .children) amounts l adults b₂ (λ i h. amounts-are (adults + i) (omega arith))
             in
             e₄ ∙ rw (children-same, adults-same, e₁)
+
+    -- The riders' charges are added group by group.
+    pub group-ready :
+        (k : ℕ) {b′ : List ℕ} → k < 2 → b′ ≡ afterGroups (adding t counts ride amounts) ride k b₁
+        → Adding t counts b′ ride (groupOf ride k) amounts
+    unfolding groupOf afterGroups
+    group-ready zero h e = rw e adults-ready
+    group-ready (suc zero) h e = children-ready e
+    group-ready (suc (suc k)) h e = absurd (omega arith)
+
+    pub groups-size : (k : ℕ) {b′ : List ℕ} → k ≤ 2 → b′ ≡ afterGroups (adding t counts ride amounts) ride k b₁ → length b′ ≡ length b
+    unfolding groupOf afterGroups
+    groups-size zero h e = ap length e ∙ kept₁
+    groups-size (suc zero) h e = kept₂ e ∙ kept₁
+    groups-size (suc (suc zero)) h e = kept₃ refl e ∙ kept₂ refl ∙ kept₁
+    groups-size (suc (suc (suc k))) h e = absurd (omega arith)
+
+    pub covers-ready : {b′ : List ℕ} → b′ ≡ afterGroups (adding t counts ride amounts) ride 2 b₁ → Covering t counts b′ ride (ride .party .bicycles)
+    unfolding groupOf afterGroups
+    covers-ready e = bicycles-ready refl e
+
+    pub groups-posted :
+        {b′ : List ℕ} → b′ ≡ afterGroups (adding t counts ride amounts) ride 2 b₁
+        → {b″ : List ℕ} → b″ ≡ coverBicycles t counts ride (ride .party .bicycles) b′ → b″ ≡ posted t counts b window checkout ride
+    unfolding groupOf afterGroups
+    groups-posted e covered = all-posted refl e covered

@@ -237,48 +237,14 @@ pub fn charges_of(
     requires { ⌜ Ridden (now tariff) counts (now book) current ride earlier × (Paid (now tariff) counts (inWindow current (now book)) earlier (now paid) × ((length (now amounts) ≡ 31) × ((length (now reductions) ≡ 21) × (length (now names) ≡ 21)))) ⌝ }
     ensures { λ r. ⌜ AllCharged (now (tariff .entry)) counts (wordsAfter (now (tariff .entry)) counts (inWindow current (now (book .entry))) earlier) ride (now (amounts .entry)) (now (amounts .exit)) r × AllCut (now (tariff .entry)) counts (wordsAfter (now (tariff .entry)) counts (inWindow current (now (book .entry))) earlier) ride (now (reductions .entry)) (now (names .entry)) (now (reductions .exit)) (now (names .exit)) ⌝ }
 {
+    // Borrowed anew, a slice comes in a register; else the caller keeps a copy of it on the stack for us.
+    let tariff = &*tariff;
+    let book = &*book;
+    let paid = &*paid;
     let party = ride.party;
     let adults = 1 + party.adults as usize;
     let children = party.children as usize;
     let bicycles = party.bicycles as usize;
-    let older = Riders {
-        child: false,
-        first: 0,
-        count: adults,
-        from: 0,
-    };
-    let younger = Riders {
-        child: true,
-        first: FIRST_CHILD,
-        count: children,
-        from: adults,
-    };
-    charge_riders(
-        tariff,
-        counts,
-        book,
-        current,
-        ride,
-        older,
-        earlier,
-        paid,
-        amounts,
-        reductions,
-        names,
-    );
-    charge_riders(
-        tariff,
-        counts,
-        book,
-        current,
-        ride,
-        younger,
-        earlier,
-        paid,
-        amounts,
-        reductions,
-        names,
-    );
     charge_bicycles(
         tariff,
         counts,
@@ -289,5 +255,33 @@ pub fn charges_of(
         amounts,
         adults + children,
     );
+    // One call for both groups, with the bicycles done before: so the two functions share one frame, and little has to be kept in it.
+    let mut riders = Riders {
+        child: false,
+        first: 0,
+        count: adults,
+        from: 0,
+    };
+    for _ in 0..2usize {
+        charge_riders(
+            tariff,
+            counts,
+            book,
+            current,
+            ride,
+            riders,
+            earlier,
+            paid,
+            amounts,
+            reductions,
+            names,
+        );
+        riders = Riders {
+            child: true,
+            first: FIRST_CHILD,
+            count: children,
+            from: adults,
+        };
+    }
     adults + children + bicycles
 }

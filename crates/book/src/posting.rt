@@ -138,23 +138,26 @@ pub fn post(
     requires { ⌜ Postable (now tariff) counts (now book) window ride (now amounts) ⌝ }
     ensures { λ _. ⌜ now (book .exit) ≡ posted (now (tariff .entry)) counts (now (book .entry)) window (checkout .0) ride ⌝ }
 {
+    // Borrowed anew, and one call for both groups, for the caller's stack: as where they are charged.
+    let amounts = &*amounts;
     let party = ride.party;
     let adults = 1 + party.adults as usize;
     let children = party.children as usize;
-    let older = Riders {
+    open_window(book, window, checkout);
+    let mut riders = Riders {
         child: false,
         first: 0,
         count: adults,
         from: 0,
     };
-    let younger = Riders {
-        child: true,
-        first: FIRST_CHILD,
-        count: children,
-        from: adults,
-    };
-    open_window(book, window, checkout);
-    add_riders(tariff, counts, book, ride, older, amounts);
-    add_riders(tariff, counts, book, ride, younger, amounts);
+    for _ in 0..2usize {
+        add_riders(tariff, counts, book, ride, riders, amounts);
+        riders = Riders {
+            child: true,
+            first: FIRST_CHILD,
+            count: children,
+            from: adults,
+        };
+    }
     cover_bicycles(tariff, counts, book, ride, party.bicycles as usize);
 }

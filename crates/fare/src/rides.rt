@@ -114,6 +114,8 @@ pub fn ride_between(
     requires { ⌜ Riding (now tariff) counts (now bytes) (trip .stops) × ((first ≤ last) × ((last < trip .stops) × (minutes .0 ≤ dayMinutes))) ⌝ }
     ensures { λ r. ⌜ RideIs counts (rideBetween (now (tariff .entry)) counts (now (bytes .entry)) trip first last (minutes .0)) r ⌝ }
 {
+    // Borrowed anew, it comes in a register; else each caller keeps a copy of the slice on the stack for us.
+    let tariff = &*tariff;
     let stops = trip.stops;
     let area = area_of_stops(tariff, counts, bytes, stops, first, last);
     let from = stop_of(tariff, counts, bytes, stops, first);

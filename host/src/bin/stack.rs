@@ -1,16 +1,33 @@
-//! Paints the stack of every settling of the examples by the library, and tells the most bytes that one takes. Ends with
-//! status 1 where they are more than the limit.
+//! Paints the stack of every call of the library on the examples and on cases of the differential test, and tells the most
+//! bytes that each function takes. Ends with status 1 where they are more than its limit.
+//!
+//! The arguments are the words that start c/painter.c where it is built for another processor, after that one's name; it is given
+//! the same calls.
 
+use milecopper_host::differential::{settle_alike, Options};
 use milecopper_host::examples::{run, FILES};
 use milecopper_host::library::settle_to_number;
-use milecopper_host::stack::{depth, Call, IS_PAINTED, LIMIT};
-use std::process::ExitCode;
+use milecopper_host::stack::{bytes_of, depth, Call, FUNCTIONS, IS_PAINTED, SETTLE};
+use std::io::{BufWriter, Read, Write};
+use std::process::{Child, ChildStdin, Command, ExitCode, Stdio};
 use std::sync::atomic::{AtomicUsize, Ordering::Relaxed};
+use std::sync::Mutex;
+use std::{env, iter};
 
-static MOST: AtomicUsize = AtomicUsize::new(0);
+/// The seeds of the differential test whose cases are painted: half of its fixed run.
+const SEEDS: [u64; 2] = [1, 2];
+
+static MOST: [AtomicUsize; FUNCTIONS.len()] = [const { AtomicUsize::new(0) }; FUNCTIONS.len()];
+static CALLS: AtomicUsize = AtomicUsize::new(0);
+static PAINTER: Mutex<Option<BufWriter<ChildStdin>>> = Mutex::new(None);
 
 fn painted(tariff: &[u8], book: &mut [u8], trip: &[u8], statement: &mut [u8]) -> u64 {
-    MOST.fetch_max(depth(&Call { tariff, book, trip, room: statement.len() }), Relaxed);
+    let call = Call { tariff, book, trip, room: statement.len() };
+    CALLS.fetch_add(1, Relaxed);
+    MOST[SETTLE].fetch_max(depth(&call), Relaxed);
+    if let Some(painter) = PAINTER.lock().expect("one thread").as_mut() {
+        painter.write_all(&bytes_of(SETTLE, &call)).expect("the painter takes calls");
+    }
     settle_to_number(tariff, book, trip, statement)
 }
 
@@ -19,17 +36,48 @@ fn main() -> ExitCode {
         println!("stack: NOT painted, which is done on x86-64 and aarch64 only");
         return ExitCode::SUCCESS;
     }
-    for (file, text) in FILES {
-        if let Err(told) = run(text, painted, None) {
-            println!("stack: {file}, {told}");
-            return ExitCode::FAILURE;
+    let mut arguments = env::args().skip(1);
+    let other = arguments.next().map(|processor| (processor, start_painter(&arguments.collect::<Vec<_>>())));
+    if let Err(told) = paint_all() {
+        println!("stack: {told}");
+        return ExitCode::FAILURE;
+    }
+    let here = (env::consts::ARCH.to_string(), MOST.each_ref().map(|most| most.load(Relaxed)));
+    let there = other.map(|(processor, painter)| (processor, end_painter(painter)));
+    let mut status = ExitCode::SUCCESS;
+    for (processor, most) in iter::once(here).chain(there) {
+        for (function, most) in FUNCTIONS.iter().zip(most) {
+            let (name, limit) = (function.name, function.limit);
+            println!("stack: {name} takes {most} bytes at most, of {limit} that it may ({processor}, {CALLS:?} calls)");
+            if most > limit {
+                status = ExitCode::FAILURE;
+            }
         }
     }
-    let most = MOST.load(Relaxed);
-    println!("stack: a call of the library takes {most} bytes at most, of {LIMIT} that it may");
-    if most <= LIMIT {
-        ExitCode::SUCCESS
-    } else {
-        ExitCode::FAILURE
+    status
+}
+
+fn paint_all() -> Result<(), String> {
+    for (file, text) in FILES {
+        run(text, painted, None).map_err(|told| format!("{file}, {told}"))?;
     }
+    let options = Options { seeds: SEEDS.to_vec(), longer: 1, part: None, names: Vec::new() };
+    settle_alike("the library", painted, &options).map(|_| ())
+}
+
+fn start_painter(words: &[String]) -> Child {
+    let mut command = Command::new(&words[0]);
+    let mut painter =
+        command.args(&words[1..]).stdin(Stdio::piped()).stdout(Stdio::piped()).spawn().expect("the painter starts");
+    *PAINTER.lock().expect("one thread") = painter.stdin.take().map(BufWriter::new);
+    painter
+}
+
+fn end_painter(mut painter: Child) -> [usize; FUNCTIONS.len()] {
+    drop(PAINTER.lock().expect("one thread").take());
+    let mut told = Vec::new();
+    painter.stdout.take().expect("a pipe").read_to_end(&mut told).expect("the painter tells what it found");
+    assert!(painter.wait().expect("the painter ends").success(), "the painter failed");
+    let mut numbers = told.chunks_exact(8).map(|bytes| u64::from_le_bytes(bytes.try_into().expect("8 bytes")) as usize);
+    [(); FUNCTIONS.len()].map(|()| numbers.next().expect("a number for each function"))
 }
