@@ -74,15 +74,23 @@ fn plant(package: &Path, out: &Path) {
         }
         let copy = directory.join("model.rs");
         modules += &format!("#[allow(warnings)]\n#[path = {copy:?}]\nmod {name};\n");
+        let told = |call: &str| {
+            let refusal = "model::Refusal { number: refusal.number, place: refusal.place }";
+            format!("number_of({name}::{call}.map_err(|refusal| {refusal}))")
+        };
         copies += &format!(
-            "    ({name:?}, |tariff, book, trip, statement| {{
-        let answer = {name}::settle(tariff, book, trip, statement);
-        number_of(answer.map_err(|refusal| model::Refusal {{ number: refusal.number, place: refusal.place }}))
-    }}),\n"
+            "    ({name:?}, Functions {{
+        settle: |tariff, book, trip, statement| {},
+        quote: |tariff, book, trip, statement| {},
+        post: |tariff, book, trip, record| {},
+    }}),\n",
+            told("settle(tariff, book, trip, statement)"),
+            told("quote(tariff, book, trip, statement)"),
+            told("post(tariff, book, trip, record)"),
         );
     }
     let many = edits::PLANTED.len();
-    let text = format!("{modules}\nconst COPIES: [(&str, Settle); {many}] = [\n{copies}];\n");
+    let text = format!("{modules}\nconst COPIES: [(&str, Functions); {many}] = [\n{copies}];\n");
     fs::write(out.join("planted.rs"), text).expect("the file that names the copies");
 }
 

@@ -1,6 +1,7 @@
 /*
  * milecopper.h: prices one trip, charges it against an account's book and writes its charge records: one, or two where
- * the trip went out and back.
+ * the trip went out and back. milecopper_settle does so at once. An app that shows the price first does it in two steps:
+ * milecopper_quote writes the charge records and leaves the book, milecopper_post writes the book.
  *
  * For C99 and later and C++11 and later. Link with the static library `milecopper` (libmilecopper.a).
  *
@@ -15,6 +16,17 @@
  *     if (!milecopper_accepted(answer))
  *         puts(milecopper_refusal_text(milecopper_refusal_of(answer)));
  *
+ * In two steps:
+ *
+ *     uint64_t quote = milecopper_quote(tariff, tariff_len, book, sizeof book,
+ *                                       trip, trip_len, statement, sizeof statement);
+ *     if (milecopper_accepted(quote)) {
+ *         // show milecopper_statement_total(statement, quote), wait for a yes; then
+ *         answer = milecopper_post(tariff, tariff_len, book, sizeof book,
+ *                                  trip, trip_len, statement, milecopper_bytes_written(quote));
+ *         // MILECOPPER_OTHER_RECORD: the trip has another price by now; begin again with the quote
+ *     }
+ *
  * All numbers in a tariff, a book, a trip and a charge record are little-endian on every machine, so these bytes can
  * be stored and sent as they are. No slice needs any alignment.
  *
@@ -26,24 +38,29 @@
  *
  * Duties of the caller
  *
- *   - Each pointer points to at least as many bytes as the length beside it says. `tariff` and `trip` are only read;
- *     `book` and `statement` may be written within their lengths, and only there.
- *   - The four slices do not overlap, not even in part.
+ *   - Each pointer points to at least as many bytes as the length beside it says. `tariff` and `trip` are only read, and
+ *     so are a quote's `book` and a posting's `record`. Else `book` and `statement` may be written within their lengths,
+ *     and only there.
+ *   - The four slices of a call do not overlap, not even in part.
  *   - No pointer is null, not even with length 0: an empty slice may have any pointer that is not null.
  *   - A fresh book is MILECOPPER_BOOK_BYTES bytes, all zero. From then on only this library writes into it. Each
  *     account has a book of its own, and the caller keeps it from one trip to the next. An account's trips are
- *     settled in the order in which they were ridden.
- *   - During a call no other thread reads or writes its book or its statement, and none writes its tariff or its
- *     trip. Calls on different books may run at the same time, and they may share one tariff.
+ *     settled or posted in the order in which they were ridden.
+ *   - During a call no other thread writes any of its slices, and none reads its book or its statement, unless the call
+ *     only reads them. Calls on different books may run at the same time, and so may quotes on one book. They may share
+ *     one tariff.
  *   - Where milecopper_settle is called, at least 1,024 bytes of stack are free.
+ *     Where milecopper_quote is called, at least 1,536 bytes of stack are free.
+ *     Where milecopper_post is called, at least 2,048 bytes of stack are free.
  *
  * What the library does not do
  *
  *   - It allocates nothing and keeps nothing: no memory, no pointer, no state from one call to the next. All four
  *     slices belong to the caller before, during and after the call. It reads no clock and no file and prints nothing.
- *   - A trip that is refused changes no byte of the book or the statement. One that is accepted replaces the book and
- *     writes its charge records one after another at the start of the statement; the statement's further bytes stay as
- *     they were. The parts of a broken trip are accepted together or refused together.
+ *   - A trip that is refused changes no byte of the book or the statement. One that is accepted replaces the book, but
+ *     not in a quote, and writes its charge records one after another at the start of the statement, but not in a
+ *     posting; the statement's further bytes stay as they were. The parts of a broken trip are accepted together or
+ *     refused together.
  */
 #ifndef MILECOPPER_H
 #define MILECOPPER_H
@@ -100,7 +117,8 @@
 #define MILECOPPER_WINDOW_MINUTES 1440
 #define MILECOPPER_MOST_TRIPS_IN_A_WINDOW 256
 
-/* Why a trip was refused. Where several apply, the answer is the first of them in this order. */
+/* Why a trip was refused. Where several apply, the answer is the first of them in this order. Settling and a quote give
+ * 1 to 12, a posting 1 to 11 and 13. */
 enum milecopper_refusal {
     MILECOPPER_NOT_REFUSED = 0,
     MILECOPPER_TARIFF_BROKEN = 1,     /* tariff: a record's frame is broken */
@@ -114,7 +132,8 @@ enum milecopper_refusal {
     MILECOPPER_TRIP_BACKWARD = 9,     /* trip: check-out before check-in, or over 1,440 minutes after it */
     MILECOPPER_BEFORE_LAST_TRIP = 10, /* trip: check-in before the book's last check-out */
     MILECOPPER_WINDOW_FULL = 11,      /* trip: it, or its second part, would be the 257th of its window */
-    MILECOPPER_NO_ROOM = 12           /* statement shorter than the charge records */
+    MILECOPPER_NO_ROOM = 12,          /* statement shorter than the charge records */
+    MILECOPPER_OTHER_RECORD = 13      /* record: not exactly the bytes that a quote would write now */
 };
 
 #ifdef __cplusplus
@@ -133,13 +152,44 @@ uint64_t milecopper_settle(const uint8_t *tariff, size_t tariff_len,
                            const uint8_t *trip, size_t trip_len,
                            uint8_t *statement, size_t statement_len);
 
+/*
+ * Quotes one trip: writes the charge records that settling it would write, and leaves the book.
+ *
+ * Accepted: the number of bytes written to the statement, as by milecopper_settle. A statement of
+ * MILECOPPER_LARGEST_STATEMENT_BYTES has room for every trip. Refused: as by milecopper_settle, by 1 to 12, and the
+ * statement stays as it was. A quote answers whatever settling would answer. A trip may be quoted as often as one likes,
+ * and a quote need not be posted.
+ */
+uint64_t milecopper_quote(const uint8_t *tariff, size_t tariff_len,
+                          const uint8_t *book, size_t book_len,
+                          const uint8_t *trip, size_t trip_len,
+                          uint8_t *statement, size_t statement_len);
+
+/*
+ * Posts one trip by its quote: brings the book up to date, as settling it would. `record` is what milecopper_quote wrote
+ * for this trip, and `record_len` the number of bytes that it answered: of a broken trip both records, in their order.
+ *
+ * Accepted: the number of bytes written, which is the book's length, MILECOPPER_BOOK_BYTES. Refused: as by
+ * milecopper_settle, by 1 to 11, as all is checked again; then by 13, MILECOPPER_OTHER_RECORD, where the record is not
+ * exactly the bytes that a quote on this book would write now, but has a byte more, a byte less or a byte off, or is one
+ * of two records or the two swapped. There is no 12, as no statement is written. A refusal leaves the book as it was.
+ *
+ * Only the bytes count. A quote from before another trip was posted is accepted if this trip still costs the same, is cut
+ * by the same caps and lies in the same window. If not, 13 says so: quote again, and show the new price. A quote and at
+ * once its posting leave the charge records and the book that milecopper_settle leaves.
+ */
+uint64_t milecopper_post(const uint8_t *tariff, size_t tariff_len,
+                         uint8_t *book, size_t book_len,
+                         const uint8_t *trip, size_t trip_len,
+                         const uint8_t *record, size_t record_len);
+
 #ifdef __cplusplus
 }
 #endif
 
 /* ---- The answer ----
  *
- * `answer` is one that milecopper_settle gave.
+ * `answer` is one that milecopper_settle, milecopper_quote or milecopper_post gave.
  */
 
 /* 1 if the trip was accepted, else 0. */
@@ -148,7 +198,8 @@ static inline int milecopper_accepted(uint64_t answer)
     return (answer >> 32) == 0;
 }
 
-/* The length of the charge records at the start of the statement; 0 if the trip was refused. */
+/* The number of bytes written: the length of the charge records at the start of the statement or, by a posting, the book's;
+ * 0 if the trip was refused. */
 static inline size_t milecopper_bytes_written(uint64_t answer)
 {
     return milecopper_accepted(answer) ? (size_t)answer : 0;
@@ -200,13 +251,15 @@ static inline const char *milecopper_refusal_text(enum milecopper_refusal refusa
         return "With this trip the account would have more than 256 trips within the same 24 hours.";
     case MILECOPPER_NO_ROOM:
         return "There is not enough room to write down what the trip costs.";
+    case MILECOPPER_OTHER_RECORD:
+        return "The price that was confirmed is not what this trip costs now, or it was damaged. Ask for the price again.";
     }
     return "This is no answer that the library gives.";
 }
 
 /* ---- The charge record ----
  *
- * `record` is the start of a statement into which an accepted trip was settled. Where the trip was broken, the record
+ * `record` is the start of a statement into which an accepted trip was settled or quoted. Where the trip was broken, the record
  * of its second part stands right behind that of the first, at `record + milecopper_record_bytes(record)`; the answer
  * says how many bytes there are in all. The charges stand in this order: the account holder, the adults, the children,
  * the bicycles, each as many as the trip carried. The first of them are the persons'; a person's charge has a reduction
@@ -355,7 +408,8 @@ static inline uint32_t milecopper_record_total(const uint8_t *record)
     return total;
 }
 
-/* The sum of all charges of the trip in cents: of one record, or of two. `answer` is what settling it gave. */
+/* The sum of all charges of the trip in cents: of one record, or of two. `answer` is what settling or quoting it gave, not
+ * what posting it gave. */
 static inline uint32_t milecopper_statement_total(const uint8_t *statement, uint64_t answer)
 {
     const uint8_t *end = statement + milecopper_bytes_written(answer);

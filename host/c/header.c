@@ -30,6 +30,15 @@ static void sizes(void)
           "the largest tariff");
 }
 
+/* Only the types are looked at; nothing is called. */
+static void only_read(void)
+{
+    const uint8_t *read = NULL;
+    uint8_t *written = NULL;
+    check(sizeof(milecopper_quote(read, 0, read, 0, read, 0, written, 0)) == 8, "a quote's book is only read");
+    check(sizeof(milecopper_post(read, 0, written, 0, read, 0, read, 0)) == 8, "a posting's record is only read");
+}
+
 static void answers(void)
 {
     uint64_t accepted = 26;
@@ -38,14 +47,16 @@ static void answers(void)
     check(milecopper_refusal_of(accepted) == MILECOPPER_NOT_REFUSED && milecopper_place(accepted) == 0, "no refusal");
     check(!milecopper_accepted(refused) && milecopper_bytes_written(refused) == 0, "a refused trip");
     check(milecopper_refusal_of(refused) == MILECOPPER_TARIFF_VALUE && milecopper_place(refused) == 29, "its refusal");
-    check(milecopper_refusal_of((uint64_t)12 << 32) == MILECOPPER_NO_ROOM, "the last refusal");
+    check(milecopper_refusal_of((uint64_t)12 << 32) == MILECOPPER_NO_ROOM, "the last refusal of settling and of a quote");
+    check(milecopper_refusal_of((uint64_t)13 << 32) == MILECOPPER_OTHER_RECORD, "the last refusal of a posting");
+    check(milecopper_bytes_written(MILECOPPER_BOOK_BYTES) == MILECOPPER_BOOK_BYTES, "a posted trip");
 }
 
 static void texts(void)
 {
     int one;
     int other;
-    for (one = 0; one <= 12; one += 1)
+    for (one = 0; one <= 14; one += 1)
         for (other = 0; other < one; other += 1)
             check(strcmp(milecopper_refusal_text((enum milecopper_refusal)one),
                          milecopper_refusal_text((enum milecopper_refusal)other)) != 0, "two refusals with one text");
@@ -116,6 +127,7 @@ static void two_records(void)
 int main(void)
 {
     sizes();
+    only_read();
     answers();
     texts();
     records();

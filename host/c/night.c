@@ -1,5 +1,6 @@
 /*
- * Settles a roll of trips on one account, starting from a fresh book, and says what each cost and which cap cut it.
+ * Quotes a roll of trips on one account one after another, starting from a fresh book, says what each costs and which cap cuts
+ * it, and posts it.
  *
  *     night TARIFF ROLL
  *
@@ -15,13 +16,13 @@ struct bytes {
     size_t length;
 };
 
-/* What has been settled so far. The slices are blocks of exactly their length, so that memcheck sees a byte beyond them. */
+/* What has been posted so far. The slices are blocks of exactly their length, so that memcheck sees a byte beyond them. */
 struct night {
     struct bytes tariff;
     struct bytes book;
     struct bytes statement;
-    uint32_t opening; /* of the window of the last accepted trip */
-    unsigned accepted;
+    uint32_t opening; /* of the window of the last posted trip */
+    unsigned posted;
     unsigned refused;
     uint64_t cents;
 };
@@ -88,7 +89,7 @@ static void print_cut(const uint8_t *record, unsigned i)
            milecopper_record_cap_area(record, i));
 }
 
-/* What a part of a trip cost; `part` is 0 where the trip is in one. */
+/* What a part of a trip costs; `part` is 0 where the trip is in one. */
 static void print_part(unsigned number, unsigned part, const uint8_t *record)
 {
     unsigned charges = milecopper_record_charges(record);
@@ -112,22 +113,26 @@ static void print_part(unsigned number, unsigned part, const uint8_t *record)
     printf(".\n");
 }
 
-static void print_accepted(struct night *night, unsigned number, uint64_t answer)
+static void print_quote(const struct night *night, unsigned number, uint64_t quote)
 {
     const uint8_t *record = night->statement.start;
-    const uint8_t *end = record + milecopper_bytes_written(answer);
+    const uint8_t *end = record + milecopper_bytes_written(quote);
     uint32_t opening = milecopper_record_opening(record);
     unsigned part = record + milecopper_record_bytes(record) < end ? 1 : 0;
 
-    if (night->accepted == 0 || opening != night->opening)
+    if (night->posted == 0 || opening != night->opening)
         printf("A window opens at minute %lu.\n", (unsigned long)opening);
     for (; record < end; record += milecopper_record_bytes(record)) {
         print_part(number, part, record);
         part += 1;
     }
-    night->opening = opening;
-    night->accepted += 1;
-    night->cents += milecopper_statement_total(night->statement.start, answer);
+}
+
+static void count_posted(struct night *night, uint64_t quote)
+{
+    night->opening = milecopper_record_opening(night->statement.start);
+    night->posted += 1;
+    night->cents += milecopper_statement_total(night->statement.start, quote);
 }
 
 static void print_refused(struct night *night, unsigned number, uint64_t answer)
@@ -140,20 +145,29 @@ static void print_refused(struct night *night, unsigned number, uint64_t answer)
     night->refused += 1;
 }
 
-/* Settles the trip in these bytes. */
-static void settle(struct night *night, unsigned number, const uint8_t *trip, size_t length)
+/* Quotes the trip in these bytes, shows the price, and posts it. An app asks its user in between; where the posting is refused
+ * with MILECOPPER_OTHER_RECORD, the price has changed since, and it quotes again. */
+static void take(struct night *night, unsigned number, const uint8_t *trip, size_t length)
 {
-    uint64_t answer = milecopper_settle(night->tariff.start, night->tariff.length,
-                                        night->book.start, night->book.length,
-                                        trip, length,
-                                        night->statement.start, night->statement.length);
+    uint64_t quote = milecopper_quote(night->tariff.start, night->tariff.length,
+                                      night->book.start, night->book.length,
+                                      trip, length,
+                                      night->statement.start, night->statement.length);
+    uint64_t answer = quote;
+    if (milecopper_accepted(quote)) {
+        print_quote(night, number, quote);
+        answer = milecopper_post(night->tariff.start, night->tariff.length,
+                                 night->book.start, night->book.length,
+                                 trip, length,
+                                 night->statement.start, milecopper_bytes_written(quote));
+    }
     if (milecopper_accepted(answer))
-        print_accepted(night, number, answer);
+        count_posted(night, quote);
     else
         print_refused(night, number, answer);
 }
 
-/* The bytes of the next record; all that is left where its frame is broken, which settling then refuses. */
+/* The bytes of the next record; all that is left where its frame is broken, which a quote then refuses. */
 static size_t next_record(const uint8_t *rest, size_t left)
 {
     size_t length = left < 4 ? 0 : milecopper_number(rest, 2);
@@ -161,17 +175,17 @@ static size_t next_record(const uint8_t *rest, size_t left)
     return whole ? 2 + length : left;
 }
 
-static void settle_roll(struct night *night, struct bytes roll)
+static void take_roll(struct night *night, struct bytes roll)
 {
     unsigned number = 0;
     size_t place = 0;
     while (place < roll.length) {
         size_t length = next_record(roll.start + place, roll.length - place);
         number += 1;
-        settle(night, number, roll.start + place, length);
+        take(night, number, roll.start + place, length);
         place += length;
     }
-    printf("%u trips accepted, %u refused; together ", night->accepted, night->refused);
+    printf("%u trips posted, %u refused; together ", night->posted, night->refused);
     print_money(night->cents);
     printf(".\n");
 }
@@ -188,7 +202,7 @@ int main(int argc, char **argv)
     night.book = zeros(MILECOPPER_BOOK_BYTES); /* a fresh book */
     night.statement = zeros(MILECOPPER_LARGEST_STATEMENT_BYTES);
     roll = bytes_of(argv[2]);
-    settle_roll(&night, roll);
+    take_roll(&night, roll);
     free(night.tariff.start);
     free(night.book.start);
     free(night.statement.start);

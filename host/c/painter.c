@@ -1,18 +1,22 @@
 /*
  * Makes calls of the library on a painted stack, and writes how many bytes of it each function took at most: for an x86-64 that is emulated
- * (host/stack-check). On standard input comes call after call: the function's place in FUNCTIONS, the lengths of its four slices, and the bytes of
- * the first three; the fourth is only written. On standard output goes a number for each function. All numbers have 8 bytes.
+ * (host/stack-check). On standard input comes call after call: the function's place in FUNCTIONS, the lengths of its four slices, and their bytes.
+ * On standard output goes a number for each function. All numbers have 8 bytes.
  */
 typedef __UINT64_TYPE__ word;
 typedef __INT64_TYPE__ number;
 
 word painted_depth(const void *function, const word given[8], word *stack, word size, word *answer);
 word milecopper_settle(const void *, word, void *, word, const void *, word, void *, word);
+word milecopper_quote(const void *, word, const void *, word, const void *, word, void *, word);
+word milecopper_post(const void *, word, void *, word, const void *, word, const void *, word);
 number read(int, void *, word);
 number write(int, const void *, word);
 
 /* As in host/src/stack.rs. */
-static const void *const FUNCTIONS[] = { (const void *)milecopper_settle };
+static const void *const FUNCTIONS[] = {
+    (const void *)milecopper_settle, (const void *)milecopper_quote, (const void *)milecopper_post
+};
 
 enum { MANY = sizeof FUNCTIONS / sizeof *FUNCTIONS, SLICES = 4, LONGEST = 1 << 17, WORDS = 1 << 10 };
 static unsigned char slices[SLICES][LONGEST];
@@ -32,7 +36,7 @@ int main(void) {
     while (read_all(head, sizeof head)) {
         if (head[0] >= MANY) return 2;
         for (int i = 0; i < SLICES; i++) {
-            if (head[1 + i] > LONGEST || (i < SLICES - 1 && !read_all(slices[i], head[1 + i]))) return 2;
+            if (head[1 + i] > LONGEST || !read_all(slices[i], head[1 + i])) return 2;
             given[2 * i] = (word)slices[i];
             given[2 * i + 1] = head[1 + i];
         }

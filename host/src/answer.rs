@@ -1,17 +1,18 @@
-//! The number that settling answers, taken apart.
+//! The number that settling, a quote and a posting answer, taken apart.
 
 use std::fmt;
 
 /// What became of a trip.
 #[derive(Clone, Copy, Debug, PartialEq, Eq)]
 pub enum Answer {
-    /// So many bytes were written to the statement.
+    /// So many bytes were written: to the statement, or by a posting to the book.
     Accepted { bytes: u32 },
     /// `place` is the offset in the tariff for the first three refusals, else 0.
     Refused { refusal: Refusal, place: u32 },
 }
 
-/// The twelve refusals, in the order in which they are tried.
+/// The refusals, in the order in which they are tried. Settling and a quote give the first twelve; a posting has 13 in the
+/// place of 12.
 #[derive(Clone, Copy, Debug, PartialEq, Eq)]
 pub enum Refusal {
     TariffBroken = 1,
@@ -26,10 +27,11 @@ pub enum Refusal {
     BeforeLastTrip = 10,
     WindowFull = 11,
     NoRoom = 12,
+    OtherRecord = 13,
 }
 
 impl Answer {
-    /// The answer that this number stands for, or nothing where settling never answers it.
+    /// The answer that this number stands for, or nothing where none of the three answers it.
     pub fn of(number: u64) -> Option<Answer> {
         let low = number as u32;
         match number >> 32 {
@@ -41,7 +43,7 @@ impl Answer {
 }
 
 impl Refusal {
-    pub const ALL: [Refusal; 12] = [
+    pub const ALL: [Refusal; 13] = [
         Refusal::TariffBroken,
         Refusal::TariffMisshapen,
         Refusal::TariffValue,
@@ -54,6 +56,7 @@ impl Refusal {
         Refusal::BeforeLastTrip,
         Refusal::WindowFull,
         Refusal::NoRoom,
+        Refusal::OtherRecord,
     ];
 
     /// The refusal with this number.
@@ -76,6 +79,7 @@ impl Refusal {
             Refusal::BeforeLastTrip => "before the last check-out",
             Refusal::WindowFull => "257th trip of the window",
             Refusal::NoRoom => "statement too short",
+            Refusal::OtherRecord => "not the present quote",
         }
     }
 }
@@ -102,8 +106,9 @@ mod tests {
         assert_eq!(Answer::of(1 << 32), Some(Answer::Refused { refusal: Refusal::TariffBroken, place: 0 }));
         assert_eq!(Answer::of((3 << 32) + 29), Some(Answer::Refused { refusal: Refusal::TariffValue, place: 29 }));
         assert_eq!(Answer::of(12 << 32), Some(Answer::Refused { refusal: Refusal::NoRoom, place: 0 }));
-        assert_eq!(Answer::of(13 << 32), None);
+        assert_eq!(Answer::of(13 << 32), Some(Answer::Refused { refusal: Refusal::OtherRecord, place: 0 }));
+        assert_eq!(Answer::of(14 << 32), None);
         assert_eq!(Answer::of(u64::MAX), None);
-        assert!((1..=12).all(|number| Refusal::of(number).is_some_and(|refusal| refusal as u64 == number)));
+        assert!((1..=13).all(|number| Refusal::of(number).is_some_and(|refusal| refusal as u64 == number)));
     }
 }

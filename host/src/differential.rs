@@ -1,10 +1,11 @@
-//! The differential test: the library and the model settle the same cases, and must agree in the answer, in every byte
-//! of the book and in every byte of the statement.
+//! The differential test: the library and the model settle, quote and post the same cases, and must agree in the answer, in
+//! every byte of the book and in every byte of the statement or the record.
 //!
 //! A run has parts, which can be repeated one by one. Part 0 of a seed is a sweep ([`sweeps`]): two good cases, one with a
 //! broken trip, and all that lie one step away from them. Every other part is a chain ([`chains`]): trips settled one
-//! after another on one book, with damaged cases in between ([`damage`]). What settles on the library's side gets slices
-//! beside protected pages ([`guarded`]), so that a byte touched outside them is seen.
+//! after another on one book, with damaged cases in between ([`damage`]). Beside many of them stand a quote and a posting
+//! ([`quotes`]). What is called on the library's side gets slices beside protected pages ([`guarded`]), so that a byte
+//! touched outside them is seen.
 
 pub mod books;
 mod cases;
@@ -13,10 +14,13 @@ mod counts;
 mod cuts;
 mod damage;
 mod fields;
+mod functions;
 mod guarded;
 mod kinds;
+mod offers;
 mod options;
 mod particulars;
+mod quotes;
 pub mod random;
 mod report;
 mod run;
@@ -26,8 +30,9 @@ mod tariffs;
 pub mod trips;
 
 pub use counts::Counts;
+pub use functions::{number_of, settle_by_the_model, Functions, Post, Quote, Settle, MODEL};
 pub use options::{Options, USAGE};
-pub use run::{number_of, settle_by_the_model, Difference, Settle};
+pub use run::Difference;
 
 use random::Random;
 use run::Run;
@@ -37,13 +42,13 @@ use std::time::Instant;
 /// Chains of each seed.
 const CHAINS: u64 = 2_200;
 
-/// Compares `settle`, which is called `name`, with the model. Prints the seeds first and the counts at the end. An error
-/// is the first difference, or says what was met too seldom.
-pub fn compare(name: &'static str, settle: Settle, options: &Options) -> Result<(), Difference> {
+/// Compares these functions, of whoever is called `name`, with the model. Prints the seeds first and the counts at the end.
+/// An error is the first difference, or says what was met too seldom.
+pub fn compare(name: &'static str, functions: Functions, options: &Options) -> Result<(), Difference> {
     let seeds: Vec<String> = options.seeds.iter().map(u64::to_string).collect();
     println!("{name} and the model, seeds {}", seeds.join(" "));
     let clock = Instant::now();
-    let counts = settle_alike(name, settle, options)?;
+    let counts = run_alike(name, functions, options)?;
     println!("no difference\n{counts}\n{:.1} seconds", clock.elapsed().as_secs_f64());
     let too_few = counts.too_few();
     if options.part.is_none() && !too_few.is_empty() {
@@ -52,10 +57,10 @@ pub fn compare(name: &'static str, settle: Settle, options: &Options) -> Result<
     Ok(())
 }
 
-/// Has both settle every case. The answer counts the cases; an error is the first difference.
-pub fn settle_alike(name: &'static str, settle: Settle, options: &Options) -> Result<Counts, Difference> {
+/// Has both answer every case. The answer counts the cases; an error is the first difference.
+pub fn run_alike(name: &'static str, functions: Functions, options: &Options) -> Result<Counts, Difference> {
     signals::tell_signals();
-    let mut run = Run::of(name, settle, options.part.is_some());
+    let mut run = Run::of(name, functions, options.part.is_some());
     for &seed in &options.seeds {
         for part in options.part.map_or(0..1 + options.longer * CHAINS, |part| part..part + 1) {
             run.start_part(seed, part);

@@ -1,9 +1,9 @@
-//! Examples, run on anything that settles: samples/vectors.txt and samples/examples.txt, whose form
-//! [`crate::maker::cases`] tells. What is printed comes of settling alone, and each settling is looked at besides: a
-//! refusal leaves book and statement as they are, and no byte behind the charge records is written.
+//! Examples, run on anything that settles, quotes and posts: samples/vectors.txt and samples/examples.txt, whose form
+//! [`crate::maker::cases`] tells. What is printed comes of these alone, and each call is looked at besides: a refusal leaves
+//! book and statement as they are, and no byte behind the charge records is written.
 
 use crate::answer::Answer;
-use crate::differential::Settle;
+use crate::differential::Functions;
 use crate::maker::bytes_of;
 use crate::maker::cases::{sections_of, Content, Section, Sort};
 use crate::model::book::BOOK_BYTES;
@@ -16,13 +16,16 @@ pub const FILES: [(&str, &str); 2] = [
     ("examples.txt", include_str!("../../samples/examples.txt")),
 ];
 
+/// A refusal's number and place.
+type Refused = (u32, u32);
+
 /// What settles a roll: tariff, roll, and the text that is printed.
 pub type SettleRoll = fn(&[u8], &[u8]) -> String;
 
 /// Runs a file, its rolls only where something settles them. The answer is how many were offered; an error tells the
 /// first of which something else came than was expected.
-pub fn run(text: &str, settle: Settle, roll: Option<SettleRoll>) -> Result<usize, String> {
-    let mut desk = Desk { settle, roll, tariff: Vec::new(), book: vec![0; BOOK_BYTES], line: 0 };
+pub fn run(text: &str, functions: Functions, roll: Option<SettleRoll>) -> Result<usize, String> {
+    let mut desk = Desk { functions, roll, tariff: Vec::new(), book: vec![0; BOOK_BYTES], quote: Vec::new(), line: 0 };
     let sections = sections_of(text).map_err(|fault| fault.to_string())?;
     let sections = sections.iter().filter(|section| section.sort != Sort::Roll || roll.is_some());
     sections.map(|section| desk.run(section)).sum()
@@ -30,10 +33,12 @@ pub fn run(text: &str, settle: Settle, roll: Option<SettleRoll>) -> Result<usize
 
 /// A tariff and a book on which trips are settled one after another.
 struct Desk {
-    settle: Settle,
+    functions: Functions,
     roll: Option<SettleRoll>,
     tariff: Vec<u8>,
     book: Vec<u8>,
+    /// The last one that was accepted.
+    quote: Vec<u8>,
     /// Of the example that is run.
     line: usize,
 }
@@ -49,7 +54,7 @@ impl Desk {
             return Err(format!("line {}: printed was\n{printed}\nand not\n{expected}", section.line));
         }
         for variant in &section.variants {
-            let left = (self.tariff.clone(), self.book.clone());
+            let left = (self.tariff.clone(), self.book.clone(), self.quote.clone());
             if !variant.leaves_a_trace {
                 self.book.clone_from(&found);
             }
@@ -59,7 +64,7 @@ impl Desk {
                 return Err(format!("line {}: printed was\n{printed}\nand not .. {}", variant.line, variant.end));
             }
             if !variant.leaves_a_trace {
-                (self.tariff, self.book) = left;
+                (self.tariff, self.book, self.quote) = left;
             }
         }
         Ok(1 + section.variants.len())
@@ -68,6 +73,7 @@ impl Desk {
     /// What comes of a section, as text.
     fn offer(&mut self, sort: Sort, content: &Content) -> String {
         let bytes = &content.bytes;
+        let room = content.room.unwrap_or(LARGEST_STATEMENT);
         match sort {
             Sort::Tariff | Sort::Sample => {
                 self.tariff.clone_from(bytes);
@@ -76,12 +82,22 @@ impl Desk {
             Sort::Price => self.price_line(bytes),
             Sort::Settle => {
                 let mut book = self.book.clone();
-                let settled = self.settled(&self.tariff, &mut book, bytes, content.room.unwrap_or(LARGEST_STATEMENT));
+                let settled = self.settled(&self.tariff, &mut book, bytes, room);
                 self.book = book;
-                match settled {
-                    Ok(records) => records.iter().map(record_line).collect::<Vec<String>>().join("\n"),
-                    Err((number, place)) => format!("refused {number} at {place}"),
+                settled.map_or_else(refused_line, |records| record_lines(&records))
+            }
+            Sort::Quote => match self.quoted(&self.tariff, &self.book, bytes, room) {
+                Ok(records) => {
+                    self.quote = records;
+                    record_lines(&self.quote)
                 }
+                Err(refused) => refused_line(refused),
+            },
+            Sort::Post => {
+                let mut book = self.book.clone();
+                let posted = self.posted(&self.tariff, &mut book, bytes, &content.offered.bytes(&self.quote));
+                self.book = book;
+                posted.map_or_else(refused_line, |()| "posted".to_string())
             }
             Sort::Fresh => {
                 self.book = vec![0; BOOK_BYTES];
@@ -103,29 +119,52 @@ impl Desk {
         }
     }
 
-    /// The charge records, or the refusal's number and place. What has to stay is looked at.
-    fn settled(
-        &self,
-        tariff: &[u8],
-        book: &mut [u8],
-        trip: &[u8],
-        room: usize,
-    ) -> Result<Vec<ChargeRecord>, (u32, u32)> {
+    /// The bytes of the charge records. A refusal leaves the book, and a quote with its posting comes to the same.
+    fn settled(&self, tariff: &[u8], book: &mut [u8], trip: &[u8], room: usize) -> Result<Vec<u8>, Refused> {
+        let (line, mut before) = (self.line, book.to_vec());
+        let settled = self.written(room, |statement| (self.functions.settle)(tariff, book, trip, statement));
+        let quoted = self.quoted(tariff, &before, trip, room);
+        assert_eq!(quoted, settled, "line {line}: the quote is not what settling gives");
+        if let Ok(record) = quoted {
+            let posted = self.posted(tariff, &mut before, trip, &record);
+            assert_eq!(posted, Ok(()), "line {line}: the quote is not accepted");
+        }
+        assert!(book == before, "line {line}: the book is not as it was, or not as a posting leaves it");
+        settled
+    }
+
+    /// The bytes of the charge records.
+    fn quoted(&self, tariff: &[u8], book: &[u8], trip: &[u8], room: usize) -> Result<Vec<u8>, Refused> {
+        self.written(room, |statement| (self.functions.quote)(tariff, book, trip, statement))
+    }
+
+    /// Answers the book's length, or leaves the book.
+    fn posted(&self, tariff: &[u8], book: &mut [u8], trip: &[u8], record: &[u8]) -> Result<(), Refused> {
+        let (line, before) = (self.line, book.to_vec());
+        let answer = self.answer((self.functions.post)(tariff, book, trip, record));
+        match answer {
+            Ok(written) => assert_eq!(written, book.len(), "line {line}: not the book's length"),
+            Err((number, _)) => assert!(book == before, "line {line}: refusal {number} changed the book"),
+        }
+        answer.map(drop)
+    }
+
+    /// What a call writes to a statement of this length; it writes nothing behind that, and nothing where it refuses.
+    fn written(&self, room: usize, call: impl FnOnce(&mut [u8]) -> u64) -> Result<Vec<u8>, Refused> {
         let blank: Vec<u8> = (0..room).map(|place| 0x5b ^ place as u8).collect();
-        let (before, mut statement) = (book.to_vec(), blank.clone());
-        let number = (self.settle)(tariff, book, trip, &mut statement);
-        let line = self.line;
-        match Answer::of(number).unwrap_or_else(|| panic!("line {line}: {number} was answered, which is no answer")) {
-            Answer::Accepted { bytes } => {
-                let (records, behind) = statement.split_at(bytes as usize);
-                assert_eq!(behind, &blank[bytes as usize..], "line {line}: a byte behind the records was written");
-                Ok(ChargeRecord::read_all(records).expect("charge records were written"))
-            }
-            Answer::Refused { refusal, place } => {
-                assert!(book == before, "line {line}: refusal {} changed the book", refusal as u32);
-                assert!(statement == blank, "line {line}: refusal {} changed the statement", refusal as u32);
-                Err((refusal as u32, place))
-            }
+        let mut statement = blank.clone();
+        let answer = self.answer(call(&mut statement));
+        let (records, behind) = statement.split_at(answer.unwrap_or(0));
+        assert_eq!(behind, &blank[records.len()..], "line {}: a byte was written that is no record's", self.line);
+        answer.map(|_| records.to_vec())
+    }
+
+    /// The bytes written.
+    fn answer(&self, number: u64) -> Result<usize, Refused> {
+        match Answer::of(number) {
+            Some(Answer::Accepted { bytes }) => Ok(bytes as usize),
+            Some(Answer::Refused { refusal, place }) => Err((refusal as u32, place)),
+            None => panic!("line {}: {number} was answered, which is no answer", self.line),
         }
     }
 
@@ -162,12 +201,25 @@ impl Desk {
         let mut with_a_child = trip.to_vec();
         with_a_child[20..23].copy_from_slice(&[0, 1, 0]);
         let settled = self.settled(&tariff, &mut [0; BOOK_BYTES], &with_a_child, LARGEST_STATEMENT);
-        let lines = settled.expect("the trip is no refusal").into_iter().map(|record| {
+        let lines = records_in(&settled.expect("the trip is no refusal")).into_iter().map(|record| {
             let ChargeRecord { area, km, minutes, charges, .. } = record;
             format!("area {area} km {km} min {minutes} price {} child {}", charges[0], charges[1])
         });
         lines.collect::<Vec<String>>().join("\n")
     }
+}
+
+/// The charge records that stand one after another in these bytes.
+fn records_in(bytes: &[u8]) -> Vec<ChargeRecord> {
+    ChargeRecord::read_all(bytes).expect("charge records were written")
+}
+
+fn record_lines(bytes: &[u8]) -> String {
+    records_in(bytes).iter().map(record_line).collect::<Vec<String>>().join("\n")
+}
+
+fn refused_line((number, place): Refused) -> String {
+    format!("refused {number} at {place}")
 }
 
 /// For each person the charge, what was taken off, and the area and class of the cap; for each bicycle the charge.

@@ -4,9 +4,10 @@
 //!   docs/RULES.md.
 //! - [`maker`] makes tariffs, trips and whole case files from a readable text.
 //! - [`numbers`] reads and puts little-endian numbers, for both.
-//! - [`answer`] takes the number that settling answers apart.
-//! - `library` (feature `library`) is settling by the library, in safe Rust.
-//! - [`examples`] runs the examples of samples/ on anything that settles.
+//! - [`answer`] takes the number that settling, a quote and a posting answer apart.
+//! - [`offered`] makes records, right and wrong, for a posting.
+//! - `library` (feature `library`) is what the library offers, in safe Rust.
+//! - [`examples`] runs the examples of samples/ on anything that offers the same.
 //! - [`differential`] compares the library with the model on many cases.
 //! - `stack` (feature `library`) paints the stack that a call of the library runs on.
 //! - `planted` (feature `planted`) holds copies of the model with an error in each, to show that the comparison finds it.
@@ -19,6 +20,7 @@ pub mod library;
 pub mod maker;
 pub mod model;
 pub mod numbers;
+pub mod offered;
 #[cfg(feature = "planted")]
 pub mod planted;
 #[cfg(feature = "library")]

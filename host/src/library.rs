@@ -1,6 +1,7 @@
-//! Settling by the library, in safe Rust.
+//! What the library offers, in safe Rust.
 
 use crate::answer::Answer;
+use crate::differential::Functions;
 
 extern "C" {
     pub(crate) fn milecopper_settle(
@@ -13,12 +14,36 @@ extern "C" {
         statement: *mut u8,
         statement_len: usize,
     ) -> u64;
+
+    pub(crate) fn milecopper_quote(
+        tariff: *const u8,
+        tariff_len: usize,
+        book: *const u8,
+        book_len: usize,
+        trip: *const u8,
+        trip_len: usize,
+        statement: *mut u8,
+        statement_len: usize,
+    ) -> u64;
+
+    pub(crate) fn milecopper_post(
+        tariff: *const u8,
+        tariff_len: usize,
+        book: *mut u8,
+        book_len: usize,
+        trip: *const u8,
+        trip_len: usize,
+        record: *const u8,
+        record_len: usize,
+    ) -> u64;
 }
 
-/// The answer's number as the library gives it.
+/// The three functions, each with the answer's number as the library gives it.
+pub const LIBRARY: Functions = Functions { settle: settle_to_number, quote: quote_to_number, post: post_to_number };
+
 pub fn settle_to_number(tariff: &[u8], book: &mut [u8], trip: &[u8], statement: &mut [u8]) -> u64 {
-    // SAFETY: each pointer comes with its slice's own length, and a slice's pointer is never null. The two mutable
-    // slices overlap nothing, by the rules of borrowing, and nobody else can look at them during the call. The two
+    // SAFETY: each pointer comes with its slice's own length, and a slice's pointer is never null. The mutable slices,
+    // here and below, overlap nothing, by the rules of borrowing, and nobody else can look at them during the call. The
     // others are only read. The library keeps no pointer.
     unsafe {
         milecopper_settle(
@@ -34,9 +59,55 @@ pub fn settle_to_number(tariff: &[u8], book: &mut [u8], trip: &[u8], statement: 
     }
 }
 
-/// Settles one trip. Accepted: the book is replaced, and the charge record stands at the start of the statement.
-/// Refused: book and statement stay.
+pub fn quote_to_number(tariff: &[u8], book: &[u8], trip: &[u8], statement: &mut [u8]) -> u64 {
+    // SAFETY: as above.
+    unsafe {
+        milecopper_quote(
+            tariff.as_ptr(),
+            tariff.len(),
+            book.as_ptr(),
+            book.len(),
+            trip.as_ptr(),
+            trip.len(),
+            statement.as_mut_ptr(),
+            statement.len(),
+        )
+    }
+}
+
+pub fn post_to_number(tariff: &[u8], book: &mut [u8], trip: &[u8], record: &[u8]) -> u64 {
+    // SAFETY: as above.
+    unsafe {
+        milecopper_post(
+            tariff.as_ptr(),
+            tariff.len(),
+            book.as_mut_ptr(),
+            book.len(),
+            trip.as_ptr(),
+            trip.len(),
+            record.as_ptr(),
+            record.len(),
+        )
+    }
+}
+
+/// Settles one trip. Accepted: the book is replaced, and the charge records stand at the start of the statement. Refused:
+/// book and statement stay.
 pub fn settle(tariff: &[u8], book: &mut [u8], trip: &[u8], statement: &mut [u8]) -> Answer {
-    let number = settle_to_number(tariff, book, trip, statement);
+    answer_of(settle_to_number(tariff, book, trip, statement))
+}
+
+/// Quotes one trip. Accepted: the charge records that settling would write stand at the start of the statement. Refused:
+/// the statement stays.
+pub fn quote(tariff: &[u8], book: &[u8], trip: &[u8], statement: &mut [u8]) -> Answer {
+    answer_of(quote_to_number(tariff, book, trip, statement))
+}
+
+/// Posts one trip by the record of its quote. Accepted: the book is replaced. Refused: it stays.
+pub fn post(tariff: &[u8], book: &mut [u8], trip: &[u8], record: &[u8]) -> Answer {
+    answer_of(post_to_number(tariff, book, trip, record))
+}
+
+fn answer_of(number: u64) -> Answer {
     Answer::of(number).unwrap_or_else(|| panic!("the library answered {number}, which stands for nothing"))
 }

@@ -12,7 +12,8 @@
 //! - [`statement`]: the charge record;
 //! - [`roll`]: what the program prints.
 //!
-//! This file holds settling itself: the refusals in the order of their table, then the writing.
+//! This file holds settling itself: the refusals in the order of their table, then the writing; and a quote and a posting,
+//! each of which writes its half.
 
 pub mod book;
 pub mod caps;
@@ -57,9 +58,37 @@ pub struct Refusal {
 pub fn settle(tariff: &[u8], book: &mut [u8], trip: &[u8], statement: &mut [u8]) -> Result<usize, Refusal> {
     let (new_book, charge_records) = outcome(tariff, book, trip, statement.len())?;
     book.copy_from_slice(&new_book.bytes());
-    let written: Vec<u8> = charge_records.iter().flat_map(ChargeRecord::bytes).collect();
-    statement[..written.len()].copy_from_slice(&written);
-    Ok(written.len())
+    Ok(write(&charge_records, statement))
+}
+
+/// Quotes one trip. Accepted: the bytes written; the charge records that settling would write stand one after another at
+/// the start of the statement. Refused, by 1 to 12: the statement stays. The book is only read.
+pub fn quote(tariff: &[u8], book: &[u8], trip: &[u8], statement: &mut [u8]) -> Result<usize, Refusal> {
+    let (_, charge_records) = outcome(tariff, book, trip, statement.len())?;
+    Ok(write(&charge_records, statement))
+}
+
+/// Posts one trip by the record of its quote. Accepted: the book's length; the book is replaced. Refused, by 1 to 11 and
+/// then 13: the book stays. The record is only read.
+pub fn post(tariff: &[u8], book: &mut [u8], trip: &[u8], record: &[u8]) -> Result<usize, Refusal> {
+    // 1 to 11. No statement is written, so none can be too short.
+    let (new_book, charge_records) = outcome(tariff, book, trip, usize::MAX)?;
+    // 13: the record is not exactly the bytes that a quote on this book would write
+    unless(record == bytes_of(&charge_records), 13)?;
+    book.copy_from_slice(&new_book.bytes());
+    Ok(book.len())
+}
+
+/// The charge records one after another.
+fn bytes_of(charge_records: &[ChargeRecord]) -> Vec<u8> {
+    charge_records.iter().flat_map(ChargeRecord::bytes).collect()
+}
+
+/// Writes the charge records to the start of the statement, which has room for them. The answer is how many bytes they are.
+fn write(charge_records: &[ChargeRecord], statement: &mut [u8]) -> usize {
+    let bytes = bytes_of(charge_records);
+    statement[..bytes.len()].copy_from_slice(&bytes);
+    bytes.len()
 }
 
 /// The refusals in the table's order; if none is given, the new book and the charge records. Only reads.

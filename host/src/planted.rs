@@ -2,15 +2,16 @@
 //! that reads a byte outside its slice. `planted NAME` compares one of them with the model, so that "the test finds it"
 //! can be seen again.
 
-use crate::differential::{number_of, settle_by_the_model, Settle};
+use crate::differential::{number_of, settle_by_the_model, Functions, MODEL};
 use crate::model;
 
-// The copies, and `COPIES` with the name and the settling of each.
+// The copies, and `COPIES` with the name and the functions of each.
 include!(concat!(env!("OUT_DIR"), "/planted.rs"));
 
 /// By name: the model itself, the one that reads outside, and the copies.
-pub fn all() -> Vec<(&'static str, Settle)> {
-    let others: [(&str, Settle); 2] = [("none", settle_by_the_model), ("reads_past_the_trip", reads_past_the_trip)];
+pub fn all() -> Vec<(&'static str, Functions)> {
+    let reads_past = Functions { settle: reads_past_the_trip, ..MODEL };
+    let others = [("none", MODEL), ("reads_past_the_trip", reads_past)];
     others.into_iter().chain(COPIES).collect()
 }
 

@@ -1,15 +1,19 @@
 //! The stack that a call of the library takes, by painting the stack that it runs on (c/painted.c). x86-64 and aarch64.
 
-use crate::library::milecopper_settle;
+use crate::library::{milecopper_post, milecopper_quote, milecopper_settle};
 
 /// What the library exports, and how many bytes of stack a call may take. Who raises a limit says why in docs/DECISIONS.md.
 /// c/painter.c has the functions in the same order.
-pub const FUNCTIONS: [Function; 1] =
-    [Function { name: "milecopper_settle", limit: LIMIT, start: milecopper_settle as *const () }];
+pub const FUNCTIONS: [Function; 3] = [
+    Function { name: "milecopper_settle", limit: 1_024, start: milecopper_settle as *const () },
+    Function { name: "milecopper_quote", limit: 1_536, start: milecopper_quote as *const () },
+    Function { name: "milecopper_post", limit: 2_048, start: milecopper_post as *const () },
+];
 
-/// Settling's place among them, and its limit.
+/// Their places among them.
 pub const SETTLE: usize = 0;
-pub const LIMIT: usize = 1_024;
+pub const QUOTE: usize = 1;
+pub const POST: usize = 2;
 
 pub struct Function {
     pub name: &'static str,
@@ -26,12 +30,12 @@ const WORDS: usize = 8 * 1_024;
 #[repr(align(16))]
 struct Stack([u64; WORDS]);
 
-/// What is lent to a call: three slices, and the length of the one that is written.
+/// What is lent to a call: tariff, book and trip, and a statement, or a posting's record.
 pub struct Call<'a> {
     pub tariff: &'a [u8],
     pub book: &'a [u8],
     pub trip: &'a [u8],
-    pub room: usize,
+    pub fourth: &'a [u8],
 }
 
 #[cfg(any(target_arch = "x86_64", target_arch = "aarch64"))]
@@ -44,21 +48,16 @@ unsafe fn painted_depth(_: *const (), _: *const u64, _: *mut u64, _: u64, _: *mu
     unreachable!("no stack of one's choice on this processor")
 }
 
-/// The bytes of stack that settling takes below its caller's.
-pub fn depth(call: &Call) -> usize {
-    depth_of(SETTLE, call)
-}
-
-/// The bytes of stack that one of the functions takes below its caller's, on a copy of the book.
+/// The bytes of stack that one of the functions takes below its caller's, on copies of what it may write.
 pub fn depth_of(function: usize, call: &Call) -> usize {
-    let (mut book, mut written) = (call.book.to_vec(), vec![0; call.room]);
+    let (mut book, mut fourth) = (call.book.to_vec(), call.fourth.to_vec());
     let mut stack = Box::new(Stack([0; WORDS]));
     let slice = |start: *const u8, length: usize| [start as u64, length as u64];
     let given = [
         slice(call.tariff.as_ptr(), call.tariff.len()),
         slice(book.as_mut_ptr(), book.len()),
         slice(call.trip.as_ptr(), call.trip.len()),
-        slice(written.as_mut_ptr(), written.len()),
+        slice(fourth.as_mut_ptr(), fourth.len()),
     ];
     // SAFETY: each function takes four slices, a pointer and a length each, eight words. The pointers come with their slices'
     // own lengths, and the mutable slices overlap nothing. The stack is memory that nobody else uses, of so many words, an
@@ -71,9 +70,9 @@ pub fn depth_of(function: usize, call: &Call) -> usize {
 
 /// A call as c/painter.c takes it.
 pub fn bytes_of(function: usize, call: &Call) -> Vec<u8> {
-    let numbers = [function, call.tariff.len(), call.book.len(), call.trip.len(), call.room];
+    let numbers = [function, call.tariff.len(), call.book.len(), call.trip.len(), call.fourth.len()];
     let head = numbers.map(|number| (number as u64).to_le_bytes()).concat();
-    [&head, call.tariff, call.book, call.trip].concat()
+    [&head, call.tariff, call.book, call.trip, call.fourth].concat()
 }
 
 #[cfg(test)]

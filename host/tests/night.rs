@@ -4,9 +4,9 @@ use milecopper_host::maker::bytes_of;
 use milecopper_host::model::book::BOOK_BYTES;
 use milecopper_host::model::caps::{CapClass, Cut};
 use milecopper_host::model::record::record_at;
-use milecopper_host::model::settle;
 use milecopper_host::model::statement::{ChargeRecord, LARGEST_STATEMENT};
 use milecopper_host::model::trip::Trip;
+use milecopper_host::model::{post, quote};
 
 fn euro(cents: u64) -> String {
     format!("{}.{:02} euro", cents / 100, cents % 100)
@@ -56,8 +56,9 @@ fn the_night_of_the_sample() {
         place += trip.len();
         number += 1;
         let mut statement = [0; LARGEST_STATEMENT];
-        match settle(&tariff, &mut book, trip, &mut statement) {
+        match quote(&tariff, &book, trip, &mut statement) {
             Ok(written) => {
+                assert_eq!(post(&tariff, &mut book, trip, &statement[..written]), Ok(BOOK_BYTES));
                 let records = ChargeRecord::read_all(&statement[..written]).expect("charge records");
                 if opening != Some(records[0].opening) {
                     text += &format!("A window opens at minute {}.\n", records[0].opening);
@@ -78,6 +79,6 @@ fn the_night_of_the_sample() {
             }
         }
     }
-    text += &format!("{yes} trips accepted, {no} refused; together {}.\n", euro(cents));
+    text += &format!("{yes} trips posted, {no} refused; together {}.\n", euro(cents));
     assert_eq!(text, include_str!("../c/expected.txt"));
 }

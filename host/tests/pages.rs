@@ -1,7 +1,7 @@
 //! What the pages show is what comes of it: the worked examples of docs/FORMAT.md, by the model and by the library, and
 //! the sample that README.md prints.
 
-use milecopper_host::differential::{settle_by_the_model, Settle};
+use milecopper_host::differential::{settle_by_the_model, Functions, Settle, MODEL};
 use milecopper_host::model::settle_roll;
 
 const FORMAT: &str = include_str!("../../docs/FORMAT.md");
@@ -42,10 +42,28 @@ fn gives_the_cut(settle: Settle) {
     assert_eq!(book[0], 10);
 }
 
+/// Quoted, both trips give these records and leave the book. Posted by them they leave settling's book; by fewer bytes, none.
+fn are_quoted_and_posted(Functions { settle, quote, post }: Functions) {
+    for (trip, records) in [("trip", "record"), ("ride-out-and-back", "two-records")] {
+        let (tariff, trip, records) = (block("tariff"), block(trip), block(records));
+        let (mut book, mut settled, mut statement) = ([0; 5_428], [0; 5_428], [0; 532]);
+        assert_eq!(quote(&tariff, &book, &trip, &mut statement), records.len() as u64);
+        assert_eq!(statement[..records.len()], records);
+        for fewer in [0, 40, records.len() - 1].into_iter().filter(|&fewer| fewer < records.len()) {
+            assert_eq!(post(&tariff, &mut book, &trip, &records[..fewer]), 13 << 32);
+        }
+        assert_eq!(book, [0; 5_428]);
+        assert_eq!(post(&tariff, &mut book, &trip, &records), 5_428);
+        settle(&tariff, &mut settled, &trip, &mut statement);
+        assert_eq!(book, settled);
+    }
+}
+
 #[test]
 fn the_worked_example_by_the_model() {
     gives_the_records(settle_by_the_model);
     gives_the_cut(settle_by_the_model);
+    are_quoted_and_posted(MODEL);
 }
 
 #[cfg(feature = "library")]
@@ -53,6 +71,7 @@ fn the_worked_example_by_the_model() {
 fn the_worked_example_by_the_library() {
     gives_the_records(milecopper_host::library::settle_to_number);
     gives_the_cut(milecopper_host::library::settle_to_number);
+    are_quoted_and_posted(milecopper_host::library::LIBRARY);
 }
 
 #[test]

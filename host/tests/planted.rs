@@ -10,7 +10,7 @@ fn planted(name: &str) -> (bool, String) {
 }
 
 /// Each planted error, and words of the difference that it makes.
-const FOUND: [(&str, &str); 11] = [
+const FOUND: [(&str, &str); 14] = [
     ("refusal_12_writes_the_book", "the copy refused, and changed the book"),
     ("stops_after_stamps", "by the model: refused 7 at 0 (unknown stop)\n  by the copy: refused 8 at 0"),
     ("rounding_once_at_the_end", "of the statement is"),
@@ -21,6 +21,9 @@ const FOUND: [(&str, &str); 11] = [
     ("offset_added", "words of the book differ"),
     ("narrowest_of_equals", "of the statement is"),
     ("named_at_the_whole_price", "of the statement is"),
+    ("posting_compares_the_length", "by the model: refused 13 at 0 (not the present quote)\n  by the copy: accepted"),
+    ("posting_refuses_by_12", "by the model: refused 13 at 0 (not the present quote)\n  by the copy: refused 12"),
+    ("refusal_13_writes_the_book", "the copy refused, and changed the book"),
     ("reads_past_the_trip", "signal 11 instead of an answer"),
 ];
 

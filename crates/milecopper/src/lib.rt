@@ -1,9 +1,12 @@
 // What C is offered: each exported function takes plain byte strings, has the library do the work, and answers one number.
 use settle::Answer;
+use settle::posting::post;
+use settle::quote::quote;
 use settle::settle;
 ghost use mathlib.Core.Path.{_≡_};
 ghost use lib.ListN.{length};
-ghost use Rattle.settle.specs.Outcome.{settled, Settled};
+ghost use Rattle.settle.specs.Outcome.{quoted, settled, Settled, Quoted};
+ghost use Rattle.settle.specs.Posting.{postingOf, Posted};
 ghost use Rattle.settle.specs.Contracts.{AnswerFits};
 ghost use Rattle.milecopper.specs.Contracts.{encodedAs};
 
@@ -30,4 +33,33 @@ pub extern "C" fn milecopper_settle(
     ensures { λ r. ⌜ Settled (settled (now (tariff .entry)) (now (book .entry)) (now (trip .entry)) (length (now (statement .entry)))) (now (book .entry)) (now (book .exit)) (now (statement .entry)) (now (statement .exit)) r ⌝ }
 {
     encoded(settle(tariff, book, trip, statement))
+}
+
+// Quotes a trip: what settling it would write to the statement goes there, and the book is only read.
+// Accepted: the number of bytes written, at most 532. Refused: the refusal's number × 2^32 + its place, and the statement is not touched.
+#[no_mangle]
+pub extern "C" fn milecopper_quote(
+    tariff: &[u8],
+    book: &[u8],
+    trip: &[u8],
+    statement: &mut [u8],
+) -> u64
+    ensures { λ r. ⌜ Quoted (quoted (now (tariff .entry)) (now (book .entry)) (now (trip .entry)) (length (now (statement .entry)))) (now (statement .entry)) (now (statement .exit)) r ⌝ }
+{
+    encoded(quote(tariff, book, trip, statement))
+}
+
+// Posts a quote: where the record offered is exactly what a quote on this book would write, the book is brought up to date.
+// Accepted: the number of bytes written, which is the book's length. Refused: the refusal's number × 2^32 + its place, and the book is not
+// touched.
+#[no_mangle]
+pub extern "C" fn milecopper_post(
+    tariff: &[u8],
+    book: &mut [u8],
+    trip: &[u8],
+    offered: &[u8],
+) -> u64
+    ensures { λ r. ⌜ Posted (postingOf (now (tariff .entry)) (now (book .entry)) (now (trip .entry)) (now (offered .entry))) (now (book .entry)) (now (book .exit)) r ⌝ }
+{
+    encoded(post(tariff, book, trip, offered))
 }

@@ -473,7 +473,7 @@ module _ (tariff book bytes : List ℕ) (room : ℕ) where
       met : RefusedBy tariff book bytes room n place → (1 ≤ n) × (n ≤ lastRefusal) × (place ≤ longestTariff) × (4 ≤ n → place ≡ 0)
       met (by-others counts read why is at first) =
           let (low, high) =
-          first-range (rows tariff counts book bytes room) (rows-range tariff counts book bytes room) (first-exactly tariff counts book bytes room why .1 first)
+          first-range lastRefusal (rows tariff counts book bytes room) (rows-range tariff counts book bytes room) (first-exactly tariff counts book bytes room why .1 first)
           in
           rw is (omega arith, high, omega (arith, at), λ _. at)
       met (by-tariff soFar found says) =

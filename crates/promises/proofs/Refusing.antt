@@ -3,9 +3,9 @@
 -- Assumes nothing.
 use Prim.Native.Nat.{ℕ, _+_, _<_}
 use native.Mathlib.Omega.{arith}
-use mathlib.Core.Path.{_≡_, refl, sym}
+use mathlib.Core.Path.{_≡_, refl, sym, _∙_}
 use mathlib.Core.Logic.{_↔_}
-use mathlib.Core.List.{List}
+use mathlib.Core.List.{List, [], _∷_}
 use mathlib.Core.Bool.{Bool, true, false, not, _&&_, false≢true}
 use borrow.Author.Tests.{ltb-true, lt-ltb, eqb-false, ne-eqb}
 use lib.ListN.{length}
@@ -28,12 +28,26 @@ use Rattle.book.specs.Windows.{tooEarly}
 use Rattle.statement.specs.Record.{Part, statementSize}
 use Rattle.settle.specs.declared.refusals.Refusal.{Refusal}
 use Rattle.settle.specs.declared.refusals.Refusal.the-variants as why
-use Rattle.settle.specs.Refusals.{rows, Found, nothing, found, firstOf, testOf, First}
+use Rattle.settle.specs.Refusals.{Row, row, rowsTo, rows, Found, nothing, found, firstOf, testOf, First}
 use Rattle.settle.specs.Outcome.{Outcome, refused, accepted, acceptedTrip, settled}
-use Rattle.settle.proofs.Rows.{rows-distinct}
+use Rattle.settle.specs.Posting.{sameBytes, presentQuote, postingRows}
+use Rattle.settle.proofs.Rows.{rows-distinct, posting-distinct}
 use Rattle.settle.proofs.Rows as table
+use Rattle.settle.proofs.Postings.{same-exactly}
 use Rattle.settle.proofs.Ways.{refused-first, clear-first, fault-way, refused-way, accepted-way}
-use Rattle.promises.specs.Conditions.{countsOf, tripRides, tripWindow, TooEarly, condition, RefusedBy, by-tariff, by-others, AcceptedBy}
+use Rattle.promises.specs.Conditions.{
+  countsOf,
+  tripRides,
+  tripWindow,
+  TooEarly,
+  conditionWith,
+  condition,
+  postingCondition,
+  RefusedBy,
+  by-tariff,
+  by-others,
+  AcceptedBy,
+}
 
 -- ---- The rows in the rules' words.
 
@@ -55,19 +69,68 @@ ten book checkin =
     go true is e = absurd (false≢true e)
     go false is e = record { in-use = eqb-false (tripsOf book) 0 is; early = ltb-true checkin (lastOutOf book) e }
 
+-- the rows 4 to 11, with a last one for 12 or for 13
+words-with :
+    (tariff : List ℕ) (counts : Counts) (book trip : List ℕ) (last : Row) {noRoom otherRecord : Type 0}
+    → (testOf why.NoRoom (last ∷ []) ≡ true ↔ noRoom) → (testOf why.OtherRecord (last ∷ []) ≡ true ↔ otherRecord)
+    → (r : Refusal) → testOf r (rowsTo tariff counts book trip last) ≡ true ↔ conditionWith tariff counts book trip noRoom otherRecord r
+unfolding testOf conditionWith
+words-with tariff counts book trip last twelve thirteen why.UnsoundBook = negated (sound book (counts .areas)) (λ e. e, λ e. e)
+words-with tariff counts book trip last twelve thirteen why.NoTrip = negated _ (five trip)
+words-with tariff counts book trip last twelve thirteen why.WrongParty =
+    negated _ (six (classAt trip 0) (levelAt trip 0) (partyAt trip 0) (countAt trip 0))
+words-with tariff counts book trip last twelve thirteen why.UnknownStop = negated _ (seven trip (counts .stops) (countAt trip 0))
+words-with tariff counts book trip last twelve thirteen why.WrongStamp = negated _ (eight trip)
+words-with tariff counts book trip last twelve thirteen why.WrongOrder = negated _ (nine (checkinOf trip) (checkoutOf trip))
+words-with tariff counts book trip last twelve thirteen why.TooEarly = ten book (checkinOf trip)
+words-with tariff counts book trip last twelve thirteen why.FullWindow =
+    below 256 (tripWindow book trip .trips + length (tripRides tariff counts trip))
+words-with tariff counts book trip last twelve thirteen why.NoRoom = twelve
+words-with tariff counts book trip last twelve thirteen why.OtherRecord = thirteen
+
+-- a test that never holds
+never : false ≡ true ↔ ⊥
+never = (false≢true, λ none. absurd none)
+
+-- A posting's rows.
+module _ (tariff : List ℕ) (counts : Counts) (book trip offered : List ℕ) where
+  posting-words : (r : Refusal) → testOf r (postingRows tariff counts book trip offered) ≡ true ↔ postingCondition tariff counts book trip offered r
+  unfolding postingRows testOf
+  posting-words =
+      words-with tariff counts book trip (row why.OtherRecord (not (sameBytes (presentQuote tariff counts book trip) offered))) never
+      (negated (sameBytes (presentQuote tariff counts book trip) offered) other)
+    where
+      other : sameBytes (presentQuote tariff counts book trip) offered ≡ false ↔ (presentQuote tariff counts book trip ≡ offered → ⊥)
+      other = (
+        λ differ same. false≢true (sym differ ∙ same-exactly (presentQuote tariff counts book trip) offered .1 same),
+        λ differ. go (sameBytes (presentQuote tariff counts book trip) offered) (λ same. differ (same-exactly (presentQuote tariff counts book trip) offered .0 same)),
+      )
+        where
+          go : (t : Bool) → (t ≡ true → ⊥) → t ≡ false
+          go true differ = absurd (differ refl)
+          go false differ = refl
+
+  pub posting-first-exactly :
+      (r : Refusal)
+      → firstOf (postingRows tariff counts book trip offered) ≡ found r
+      ↔ First (postingCondition tariff counts book trip offered) r (postingRows tariff counts book trip offered)
+  posting-first-exactly =
+      table.first-exactly (postingCondition tariff counts book trip offered) (postingRows tariff counts book trip offered)
+      (posting-distinct tariff counts book trip offered) posting-words
+
+  pub posting-none-exactly :
+      firstOf (postingRows tariff counts book trip offered) ≡ nothing ↔ ((r : Refusal) → postingCondition tariff counts book trip offered r → ⊥)
+  posting-none-exactly =
+      table.none-exactly (postingCondition tariff counts book trip offered) (postingRows tariff counts book trip offered)
+      (posting-distinct tariff counts book trip offered) posting-words
+
 module _ (tariff : List ℕ) (counts : Counts) (book trip : List ℕ) (room : ℕ) where
   -- Each row's test holds exactly when its condition does.
   pub words : (r : Refusal) → testOf r (rows tariff counts book trip room) ≡ true ↔ condition tariff counts book trip room r
-  unfolding rows testOf condition
-  words why.UnsoundBook = negated (sound book (counts .areas)) (λ e. e, λ e. e)
-  words why.NoTrip = negated _ (five trip)
-  words why.WrongParty = negated _ (six (classAt trip 0) (levelAt trip 0) (partyAt trip 0) (countAt trip 0))
-  words why.UnknownStop = negated _ (seven trip (counts .stops) (countAt trip 0))
-  words why.WrongStamp = negated _ (eight trip)
-  words why.WrongOrder = negated _ (nine (checkinOf trip) (checkoutOf trip))
-  words why.TooEarly = ten book (checkinOf trip)
-  words why.FullWindow = below 256 (tripWindow book trip .trips + length (tripRides tariff counts trip))
-  words why.NoRoom = below room (statementSize (tripRides tariff counts trip))
+  unfolding rows testOf
+  words =
+      words-with tariff counts book trip (row why.NoRoom (ltb room (statementSize (tripRides tariff counts trip))))
+      (below room (statementSize (tripRides tariff counts trip))) never
 
   -- So a refusal is found exactly when its condition is the first of the table to hold, and none where none holds.
   pub first-exactly :

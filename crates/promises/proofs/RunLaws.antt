@@ -29,7 +29,7 @@ use Rattle.statement.specs.Record.{Part}
 use Rattle.settle.specs.declared.refusals.Refusal.the-variants as why
 use Rattle.settle.specs.Outcome.{Outcome, refused, accepted, settled, bookAfter}
 use Rattle.settle.specs.Runs.{Offer, Settlement, runFrom, bookFrom}
-use Rattle.promises.specs.Conditions.{tripRides, tripWindow, condition, AcceptedBy}
+use Rattle.promises.specs.Conditions.{tripRides, tripWindow, conditionWith, AcceptedBy}
 use Rattle.promises.specs.Runs.{
   bookOf,
   ridesWith,
@@ -195,7 +195,7 @@ module _ {tariff : List ℕ} {counts : Counts} {rider : ℕ} {book bytes new : L
 not-before :
     {tariff book bytes : List ℕ} {room : ℕ} {new : List ℕ} {parts : List Part} → AcceptedBy tariff book bytes room new parts
     → 1 ≤ tripsOf book → openingOf book ≤ checkinOf bytes
-unfolding condition
+unfolding conditionWith
 not-before {tariff} {book} {bytes} a some =
     let head = sound-has book (a .counts .areas) (clear a .sound-book) .opened some in
     elim (decLt (checkinOf bytes) (lastOutOf book)) [

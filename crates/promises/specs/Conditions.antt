@@ -1,4 +1,4 @@
--- docs/RULES.md, section 13: the twelve conditions, in the rules' words and order; and what a refusal and an acceptance say.
+-- docs/RULES.md, section 13: the conditions, in the rules' words and order; and what a refusal and an acceptance say.
 use Prim.Native.Nat.{ℕ, _+_, _-_, _<_}
 use mathlib.Core.Path.{_≡_}
 use mathlib.Core.Logic.{_⊎_}
@@ -46,6 +46,7 @@ use Rattle.statement.specs.Reading.{
   capClassIn,
 }
 use Rattle.settle.specs.Outcome.{partsOf, postedAll}
+use Rattle.settle.specs.Posting.{presentQuote}
 use Rattle.settle.specs.declared.refusals.Refusal.{Refusal}
 use Rattle.settle.specs.declared.refusals.Refusal.the-variants as why
 use Rattle.settle.specs.Refusals.{refusal, rows, First}
@@ -77,18 +78,27 @@ pub record TooEarly (book : List ℕ) (checkin : ℕ) : Type 0 where
   pub in-use : tripsOf book ≡ 0 → ⊥
   pub early : checkin < lastOutOf book
 
--- 4 to 12, by the table's refusals. 5 to 10 are asked of the trip as it is offered; 11 counts each of its rides as a trip, and 12 asks for
--- the records of all of them
-unfoldable pub condition : List ℕ → Counts → List ℕ → List ℕ → ℕ → Refusal → Type 0
-condition tariff counts book trip room why.UnsoundBook = sound book (counts .areas) ≡ false
-condition tariff counts book trip room why.NoTrip = NoTrip trip
-condition tariff counts book trip room why.WrongParty = WrongParty (classAt trip 0) (levelAt trip 0) (partyAt trip 0) (countAt trip 0)
-condition tariff counts book trip room why.UnknownStop = LackingStop trip (countAt trip 0) (counts .stops)
-condition tariff counts book trip room why.WrongStamp = WrongStamp trip
-condition tariff counts book trip room why.WrongOrder = WrongOrder (checkinOf trip) (checkoutOf trip)
-condition tariff counts book trip room why.TooEarly = TooEarly book (checkinOf trip)
-condition tariff counts book trip room why.FullWindow = 256 < tripWindow book trip .trips + length (tripRides tariff counts trip)
-condition tariff counts book trip room why.NoRoom = room < statementSize (tripRides tariff counts trip)
+-- 4 to 11, by the table's refusals, and what 12 and 13 are asked with. 5 to 10 are asked of the trip as it is offered; 11 counts each of its
+-- rides as a trip
+unfoldable pub conditionWith : List ℕ → Counts → List ℕ → List ℕ → Type 0 → Type 0 → Refusal → Type 0
+conditionWith tariff counts book trip noRoom otherRecord why.UnsoundBook = sound book (counts .areas) ≡ false
+conditionWith tariff counts book trip noRoom otherRecord why.NoTrip = NoTrip trip
+conditionWith tariff counts book trip noRoom otherRecord why.WrongParty = WrongParty (classAt trip 0) (levelAt trip 0) (partyAt trip 0) (countAt trip 0)
+conditionWith tariff counts book trip noRoom otherRecord why.UnknownStop = LackingStop trip (countAt trip 0) (counts .stops)
+conditionWith tariff counts book trip noRoom otherRecord why.WrongStamp = WrongStamp trip
+conditionWith tariff counts book trip noRoom otherRecord why.WrongOrder = WrongOrder (checkinOf trip) (checkoutOf trip)
+conditionWith tariff counts book trip noRoom otherRecord why.TooEarly = TooEarly book (checkinOf trip)
+conditionWith tariff counts book trip noRoom otherRecord why.FullWindow = 256 < tripWindow book trip .trips + length (tripRides tariff counts trip)
+conditionWith tariff counts book trip noRoom otherRecord why.NoRoom = noRoom
+conditionWith tariff counts book trip noRoom otherRecord why.OtherRecord = otherRecord
+
+-- settling and a quote: 12 asks for the records of all of the trip's rides, and 13 is never met
+abbrev pub condition : List ℕ → Counts → List ℕ → List ℕ → ℕ → Refusal → Type 0
+condition tariff counts book trip room = conditionWith tariff counts book trip (room < statementSize (tripRides tariff counts trip)) ⊥
+
+-- a posting: 12 is never met; 13: the record is not exactly the bytes that a quote on the present book would write
+abbrev pub postingCondition : List ℕ → Counts → List ℕ → List ℕ → List ℕ → Refusal → Type 0
+postingCondition tariff counts book trip offered = conditionWith tariff counts book trip ⊥ (presentQuote tariff counts book trip ≡ offered → ⊥)
 
 -- none of the twelve holds
 pub record NoCondition (tariff book trip : List ℕ) (room : ℕ) : Type 0 where

@@ -1,4 +1,5 @@
 pub mod Conditions
+pub mod Quotes
 pub mod Runs
 pub mod Moved
 pub mod Cases

@@ -1,4 +1,5 @@
--- Where all twelve conditions are clear: what each step of writing asks is there, and what is written is the accepted outcome.
+-- Where all conditions are clear: what stating and posting a trip's rides ask is there, and what they write is the quote's and the accepted
+-- outcome's.
 -- Assumes nothing.
 use Prim.Native.Nat.{ℕ, _+_, _≤_, _<_}
 use native.Mathlib.Nat.{zero-add}
@@ -6,7 +7,7 @@ use native.Mathlib.Omega.{arith}
 use mathlib.Core.Path.{_≡_, refl, sym, ap, subst, _∙_}
 use mathlib.Core.Bool.{true}
 use mathlib.Core.List.{List, [], _∷_, _++_, append-nil}
-use lib.ListN.{length, take, length-append}
+use lib.ListN.{length, take, drop, length-append}
 use lib.Seq.{sets, sets-eq, length-sets, take-append-seam}
 use Rattle.wire.proofs.Number.{sets-more}
 use Rattle.tariff.specs.declared.Counts.{Counts}
@@ -18,7 +19,7 @@ use Rattle.fare.specs.declared.Breaking.{Breaking}
 use Rattle.fare.specs.declared.Breaking.the-variants.{Unbroken, At}
 use Rattle.fare.specs.Rides.{rideOf}
 use Rattle.fare.specs.Parts.{firstPart, secondPart, ridesOf}
-use Rattle.fare.specs.Contracts.{Riding, InOrder, RideIs, EachRide, none, more}
+use Rattle.fare.specs.Contracts.{RideIs, EachRide, none, more}
 use Rattle.fare.proofs.GoodTrips.{riding, in-order}
 use Rattle.fare.proofs.Breaks.{broken-between}
 use Rattle.fare.proofs.PartLaws.{one-ride, two-rides, few-rides, rides-of-trip}
@@ -31,7 +32,7 @@ use Rattle.book.specs.declared.Cut.{Cut}
 use Rattle.book.specs.Charging.{chargesOf}
 use Rattle.book.specs.Cuts.{cutsOf}
 use Rattle.book.specs.Posting.{posted, wordsAfter}
-use Rattle.book.specs.Contracts.{Rideable, PartyAmounts, reductionsOf, namesOf, AllCharged, AllCut, Postable}
+use Rattle.book.specs.Contracts.{Rideable, Paid, PartyAmounts, reductionsOf, namesOf, AllCharged, AllCut, Postable}
 use Rattle.book.proofs.SoundLaws.{sound-has}
 use Rattle.book.proofs.ChargeLaws.{charges-length, charges-most, cuts-length, reductions-length, names-length}
 use Rattle.book.proofs.CutLaws.{cuts-in-range}
@@ -39,12 +40,14 @@ use Rattle.book.proofs.EarlierLaws.{charged-behind, cut-behind, next-ridden, ne
 use Rattle.book.proofs.GoodRides.{good-rides}
 use Rattle.book.proofs.SoundAgain.{WindowRight, window-right, posted-sound}
 use Rattle.statement.specs.Record as said
-use Rattle.statement.specs.Record.{personsOf, countOf, recordSize, recordOf, statementOf, statementSize, uncut, Complete, Recordable}
+use Rattle.statement.specs.Record.{personsOf, countOf, largestStatement, recordSize, recordOf, statementOf, statementSize, uncut, Complete, Recordable}
 use Rattle.statement.specs.Contracts.{partWith, Writable, Wrote, Recordables}
 use Rattle.statement.specs.Contracts as statements
 use Rattle.statement.proofs.Charges.{length-record, cuts-back}
 use Rattle.settle.specs.declared.Answer.the-variants.{Written}
-use Rattle.settle.specs.Outcome.{partOf, oneMore, partsOf, postedAll, acceptedTrip}
+use Rattle.settle.specs.declared.plan.Rides.{Rides}
+use Rattle.settle.specs.declared.plan.Rides.the-variants.{One, Two}
+use Rattle.settle.specs.Outcome.{priced, partOf, oneMore, partsOf, postedAll, tripParts, tripPosted, acceptedTrip}
 use Rattle.settle.specs.Contracts.{
   partAfter,
   Stateable,
@@ -52,10 +55,23 @@ use Rattle.settle.specs.Contracts.{
   BothStateable,
   BothStated,
   BothPostable,
+  listed,
+  leadingRide,
+  Breakable,
+  RidesStateable,
+  one-stateable,
+  two-stateable,
+  RidesStated,
+  one-stated,
+  two-stated,
+  RidesPostable,
+  one-postable,
+  two-postable,
   Chargeable,
   OfOneTrip,
-  RidesCharged,
+  TripRides,
   AllClear,
+  QuoteTold,
   ToldSound,
 }
 use Rattle.settle.proofs.Rides.{rides-most}
@@ -69,7 +85,7 @@ long-as : (l vs : List ℕ) {l′ : List ℕ} {n : ℕ} → l′ ≡ sets l 0 vs
 long-as l vs is size = ap length is ∙ length-sets l 0 vs ∙ size
 
 -- bytes written behind others are written with them
-pub wrote-behind :
+wrote-behind :
     {bytes more before between after : List ℕ} {place next r : ℕ} → Wrote bytes before place between next → Wrote more between next after r
     → Wrote (bytes ++ more) before place after r
 wrote-behind {bytes} {more} {before} {place = place} one other =
@@ -117,8 +133,8 @@ module _ {tariff : List ℕ} {counts : Counts} {book : List ℕ} {window : Windo
           value = starts-with start charges (made .0 .1) refl (omega (arith, ok .recordable .complete .charges, few-charges, room .0));
         }
 
-    -- another ride's cuts have room there again
-    pub room-again : (length reductions ≡ 21) × (length names ≡ 21)
+    -- which have as much room as before
+    room-again : (length reductions ≡ 21) × (length names ≡ 21)
     room-again = (long-as taken (reductionsOf cuts) (made .1 .cuts) (room .1 .0), long-as named (namesOf cuts) (made .1 .caps) (room .1 .1))
 
     -- the record of these is the ride's
@@ -155,19 +171,39 @@ module _ {tariff : List ℕ} {counts : Counts} {book : List ℕ} {window : Windo
         → Wrote (recordOf (partAfter tariff counts book window earlier ride)) before here after r
     recorded {before} {after} {here} {r} wrote = subst (λ (part : said.Part). Wrote (recordOf part) before here after r) part-is wrote
 
--- A record's place is behind the one before it.
-pub writable-behind :
-    {tariff : List ℕ} {counts : Counts} {book : List ℕ} {window : Window} {first second : Ride} {earlier earlier′ : Earlier} {statement between : List ℕ}
+-- What a ride behind it asks: the first one's record is written, and the next place is behind it.
+stateable-behind :
+    {tariff : List ℕ} {counts : Counts} {book : List ℕ} {window : Window} {first second : Ride} {earlier earlier′ : Earlier} {amounts statement between : List ℕ}
     {next : ℕ} → Stateable tariff counts book window first earlier statement 0
-    → Wrote (recordOf (partAfter tariff counts book window earlier first)) statement 0 between next
-    → (ok : Stateable tariff counts book window second earlier′ statement (recordSize (first .party)))
-    → (start : List ℕ) {taken named amounts reductions names : List ℕ} {count : ℕ}
-    → AllCharged tariff counts (wordsAfter tariff counts (inWindow (window .current) book) earlier′) second start amounts count
-    × AllCut tariff counts (wordsAfter tariff counts (inWindow (window .current) book) earlier′) second taken named reductions names
-    → PartyRoom start taken named → Writable between next (window .opening .0) second amounts reductions names
-writable-behind {tariff} {counts} {book} {window} {first} {earlier = earlier} {statement = statement} one wrote ok start made room =
+    → RideStated tariff counts book window first earlier amounts statement 0 between next
+    → Stateable tariff counts book window second earlier′ statement (recordSize (first .party))
+    → Stateable tariff counts book window second earlier′ between next
+stateable-behind {tariff} {counts} {book} {window} {first} {earlier = earlier} {statement = statement} one stated ok =
     let bytes = recordOf (partAfter tariff counts book window earlier first) in
-    writable ok start made room (ap length (wrote .stored) ∙ length-sets statement 0 bytes) (omega (arith, wrote .next, record-size one))
+    let same = ap length (stated .wrote .stored) ∙ length-sets statement 0 bytes in
+    record {
+      ridden = ok .ridden;
+      recordable = ok .recordable;
+      room = omega (arith, ok .room, same, stated .wrote .next, record-size one);
+    }
+
+-- Of two parts, what stating the second asks once the first is stated; and then both are.
+module _ {tariff : List ℕ} {counts : Counts} {book : List ℕ} {window : Window} {ride first second : Ride} {firsts statement between : List ℕ} {next : ℕ}
+    (is : ride ≡ first) (stated : RideStated tariff counts book window ride Nothing firsts statement 0 between next) where
+  pub second-stateable :
+      BothStateable tariff counts book window first second statement
+      → Stateable tariff counts book window second (Part ride) between next × Paid tariff counts (inWindow (window .current) book) (Part ride) firsts
+  second-stateable both =
+      let led = rw is at stated in
+      rw is (stateable-behind (both .one) led (both .other), record { size = led .charged .size; amounts = led .charged })
+
+  pub both-stated :
+      {seconds statement′ : List ℕ} {r : ℕ} → RideStated tariff counts book window second (Part ride) seconds between next statement′ r
+      → BothStated tariff counts book window first second firsts seconds statement statement′ r
+  both-stated stated′ =
+      let led = rw is at stated in
+      let other = rw is at stated′ in
+      record { paid-first = led .charged; charged = other .charged; wrote = wrote-behind (led .wrote) (other .wrote) }
 
 -- ---- Rides charged one after another.
 
@@ -248,41 +284,33 @@ module _ (tariff : List ℕ) (counts : Counts) (checkout : ℕ) where
 
 -- ---- One ride.
 
-module _ {tariff : List ℕ} {counts : Counts} {book : List ℕ} {window : Window} {checkout : ℕ} {ride : Ride} {statement : List ℕ}
-    (ok : Chargeable tariff counts book window checkout (ride ∷ []) statement) where
+module _ {tariff : List ℕ} {counts : Counts} {book : List ℕ} {window : Window} {checkout : ℕ} {ride : Ride} {room : ℕ}
+    (ok : Chargeable tariff counts book window checkout (ride ∷ []) room) where
   rideable : Rideable tariff counts book ride
   rideable = first-of (ok .rideable)
 
-  pub stateable : Stateable tariff counts book window ride Nothing statement 0
+  stateable : {statement : List ℕ} → room ≤ length statement → Stateable tariff counts book window ride Nothing statement 0
   unfolding partOf statementSize
-  stateable =
+  stateable enough =
       record {
         ridden = record { rideable = rideable; before = tt };
         recordable = can-record rideable (ok .right);
-        room = omega (arith, ok .room);
+        room = omega (arith, ok .fits);
       }
 
-  pub postable : {amounts : List ℕ} → PartyAmounts tariff counts (inWindow (window .current) book) ride amounts → Postable tariff counts book window ride amounts
+  postable : {amounts : List ℕ} → PartyAmounts tariff counts (inWindow (window .current) book) ride amounts → Postable tariff counts book window ride amounts
   postable made = record { rideable = rideable; trips = ok .right .trips; few = omega (arith, ok .right .head .few); charged = made }
 
-  pub ride-charged :
-      {book′ amounts statement′ : List ℕ} {r : ℕ} → RideStated tariff counts book window ride amounts statement statement′ r
-      → book′ ≡ posted tariff counts book window checkout ride
-      → RidesCharged tariff counts book window checkout (ride ∷ []) statement book′ statement′ r
-  unfolding partsOf postedAll partOf statementOf
-  ride-charged stated is =
-      let right = all-right tariff counts checkout book window ride [] (ok .rideable) (ok .right) (ok .few) in
-      record {
-        wrote = rw (append-nil (recordOf (partOf tariff counts book window ride))) (stated .wrote);
-        recordable = right .0;
-        book-is = is;
-        sound-again = rw is (right .1);
-      }
+  ride-wrote :
+      {amounts statement statement′ : List ℕ} {r : ℕ} → RideStated tariff counts book window ride Nothing amounts statement 0 statement′ r
+      → Wrote (statementOf (partsOf tariff counts book window checkout (ride ∷ []))) statement 0 statement′ r
+  unfolding partsOf partOf statementOf
+  ride-wrote stated = rw (append-nil (recordOf (partOf tariff counts book window ride))) (stated .wrote)
 
 -- ---- Two parts.
 
-module _ {tariff : List ℕ} {counts : Counts} {book : List ℕ} {window : Window} {checkout : ℕ} {first second : Ride} {statement : List ℕ}
-    (ok : Chargeable tariff counts book window checkout (first ∷ second ∷ []) statement) where
+module _ {tariff : List ℕ} {counts : Counts} {book : List ℕ} {window : Window} {checkout : ℕ} {first second : Ride} {room : ℕ}
+    (ok : Chargeable tariff counts book window checkout (first ∷ second ∷ []) room) where
   -- both are rides on the book
   one : Rideable tariff counts book first
   one = first-of (ok .rideable)
@@ -300,22 +328,23 @@ module _ {tariff : List ℕ} {counts : Counts} {book : List ℕ} {window : Windo
   unfolding partOf oneMore
   part-behind = rw (charged-behind one second (other .area) window checkout, cut-behind one second (other .area) window checkout)
 
-  pub both-stateable : OfOneTrip first second → BothStateable tariff counts book window first second statement
+  both-stateable :
+      {statement : List ℕ} → room ≤ length statement → OfOneTrip first second → BothStateable tariff counts book window first second statement
   unfolding partOf statementSize oneMore
-  both-stateable same =
+  both-stateable enough same =
       record {
-        one = record { ridden = record { rideable = one; before = tt }; recordable = can-record one (ok .right); room = omega (arith, ok .room) };
+        one = record { ridden = record { rideable = one; before = tt }; recordable = can-record one (ok .right); room = omega (arith, ok .fits) };
         other =
             record {
               ridden = next-ridden one other (ok .right) (same .class) (same .party);
               recordable = rw part-behind (can-record (next-rideable one other (ok .right)) (next-right one other (ok .right) few));
-              room = omega (arith, ok .room);
+              room = omega (arith, ok .fits);
             };
       }
 
-  pub both-postable :
-      {paid amounts statement′ : List ℕ} {r : ℕ} → BothStated tariff counts book window first second paid amounts statement statement′ r
-      → BothPostable tariff counts book window checkout first second paid amounts
+  both-postable :
+      {firsts seconds statement statement′ : List ℕ} {r : ℕ} → BothStated tariff counts book window first second firsts seconds statement statement′ r
+      → BothPostable tariff counts book window checkout first second firsts seconds
   unfolding oneMore
   both-postable stated =
       record {
@@ -323,49 +352,111 @@ module _ {tariff : List ℕ} {counts : Counts} {book : List ℕ} {window : Windo
         other = next-postable one other (ok .right) few (stated .charged);
       }
 
-  pub both-charged :
-      {book′ paid amounts statement′ : List ℕ} {r : ℕ} → BothStated tariff counts book window first second paid amounts statement statement′ r
-      → book′ ≡ posted tariff counts (posted tariff counts book window checkout first) (oneMore window) checkout second
-      → RidesCharged tariff counts book window checkout (first ∷ second ∷ []) statement book′ statement′ r
-  unfolding partsOf postedAll partOf statementOf
-  both-charged stated is =
-      let right = all-right tariff counts checkout book window first (second ∷ []) (ok .rideable) (ok .right) (ok .few) in
-      record {
-        wrote =
-            rw (append-nil (recordOf (partOf tariff counts (posted tariff counts book window checkout first) (oneMore window) second)), ← part-behind)
-            (stated .wrote);
-        recordable = right .0;
-        book-is = is;
-        sound-again = rw is (right .1);
-      }
+  both-wrote :
+      {firsts seconds statement statement′ : List ℕ} {r : ℕ} → BothStated tariff counts book window first second firsts seconds statement statement′ r
+      → Wrote (statementOf (partsOf tariff counts book window checkout (first ∷ second ∷ []))) statement 0 statement′ r
+  unfolding partsOf partOf statementOf
+  both-wrote stated =
+      rw (append-nil (recordOf (partOf tariff counts (posted tariff counts book window checkout first) (oneMore window) second)), ← part-behind)
+      (stated .wrote)
+
+-- ---- One ride or two.
+
+module _ {tariff : List ℕ} {counts : Counts} {book : List ℕ} {window : Window} {checkout room : ℕ} where
+  pub rides-stateable :
+      (rides : Rides) {statement : List ℕ} → Chargeable tariff counts book window checkout (listed rides) room → TripRides rides → room ≤ length statement
+      → RidesStateable tariff counts book window statement rides
+  rides-stateable (One ride) ok same enough = one-stateable (stateable ok enough)
+  rides-stateable (Two first second) ok same enough = two-stateable (both-stateable ok enough same)
+
+  module _ {firsts seconds statement statement′ : List ℕ} {r : ℕ} where
+    pub rides-postable :
+        {rides : Rides} → Chargeable tariff counts book window checkout (listed rides) room
+        → RidesStated tariff counts book window firsts seconds statement statement′ r rides
+        → RidesPostable tariff counts book window checkout firsts seconds rides
+    rides-postable ok (one-stated stated) = one-postable (postable ok (stated .charged))
+    rides-postable ok (two-stated stated) = two-postable (both-postable ok stated)
+
+    -- Their records are those of the parts that they are charged in.
+    rides-wrote :
+        {rides : Rides} → Chargeable tariff counts book window checkout (listed rides) room
+        → RidesStated tariff counts book window firsts seconds statement statement′ r rides
+        → Wrote (statementOf (partsOf tariff counts book window checkout (listed rides))) statement 0 statement′ r
+    rides-wrote ok (one-stated stated) = ride-wrote ok stated
+    rides-wrote ok (two-stated stated) = both-wrote ok stated
+
+-- the first to be stated is the only one, or the first of two
+pub leading-stateable :
+    {tariff : List ℕ} {counts : Counts} {book : List ℕ} {window : Window} {statement : List ℕ} {rides : Rides}
+    → RidesStateable tariff counts book window statement rides → Stateable tariff counts book window (leadingRide rides) Nothing statement 0
+leading-stateable (one-stateable it) = it
+leading-stateable (two-stateable them) = them .one
+
+pub leading-one : {rides : Rides} {ride only : Ride} → ride ≡ leadingRide rides → rides ≡ One only → ride ≡ only
+leading-one e is = e ∙ ap leadingRide is
+
+pub leading-first : {rides : Rides} {ride first second : Ride} → ride ≡ leadingRide rides → rides ≡ Two first second → ride ≡ first
+leading-first e is = e ∙ ap leadingRide is
+
+-- What is asked of them is asked of the one, or of both.
+module _ {tariff : List ℕ} {counts : Counts} {book : List ℕ} {window : Window} {rides : Rides} where
+  pub parts-stateable :
+      {statement : List ℕ} {first second : Ride} → rides ≡ Two first second → RidesStateable tariff counts book window statement rides
+      → BothStateable tariff counts book window first second statement
+  parts-stateable {statement} {first} {second} is ok = met (rw is at ok)
+    where
+      met : RidesStateable tariff counts book window statement (Two first second) → BothStateable tariff counts book window first second statement
+      met (two-stateable them) = them
+
+  pub ride-postable :
+      {checkout : ℕ} {firsts seconds : List ℕ} {ride : Ride} → rides ≡ One ride → RidesPostable tariff counts book window checkout firsts seconds rides
+      → Postable tariff counts book window ride firsts
+  ride-postable {checkout} {firsts} {seconds} {ride} is ok = met (rw is at ok)
+    where
+      met : RidesPostable tariff counts book window checkout firsts seconds (One ride) → Postable tariff counts book window ride firsts
+      met (one-postable it) = it
+
+  pub parts-postable :
+      {checkout : ℕ} {firsts seconds : List ℕ} {first second : Ride} → rides ≡ Two first second
+      → RidesPostable tariff counts book window checkout firsts seconds rides
+      → BothPostable tariff counts book window checkout first second firsts seconds
+  parts-postable {checkout} {firsts} {seconds} {first} {second} is ok = met (rw is at ok)
+    where
+      met :
+          RidesPostable tariff counts book window checkout firsts seconds (Two first second)
+          → BothPostable tariff counts book window checkout first second firsts seconds
+      met (two-postable them) = them
 
 -- ---- A trip.
 
-module _ (tariff : List ℕ) (counts : Counts) (book bytes : List ℕ) (trip : Trip) (window : Window) (statement : List ℕ) where
-  module _ {breaking : Breaking} (clear : AllClear tariff counts book bytes trip window breaking statement) where
+module _ (tariff : List ℕ) (counts : Counts) (bytes : List ℕ) (trip : Trip) {breaking : Breaking} (ok : Breakable tariff counts bytes trip breaking) where
+  -- a change where it is broken is one of its stops
+  pub change-inside : (c : ℕ) → breaking ≡ At c → c < trip .stops
+  change-inside c broken = omega (arith, broken-between (ok .riding) c (sym (ok .breaking-is) ∙ broken) .1)
+
+  -- its rides are found by where it is broken
+  pub whole : {ride : Ride} → breaking ≡ Unbroken → RideIs counts (rideOf tariff counts bytes trip) ride → ride ∷ [] ≡ ridesOf tariff counts bytes trip
+  whole unbroken is = rw (is .value) (sym (one-ride tariff counts bytes trip (sym (ok .breaking-is) ∙ unbroken)))
+
+  pub parts :
+      {first second : Ride} (c : ℕ) → breaking ≡ At c → RideIs counts (firstPart tariff counts bytes trip c) first
+      → RideIs counts (secondPart tariff counts bytes trip c) second → first ∷ second ∷ [] ≡ ridesOf tariff counts bytes trip
+  parts c broken is is′ = rw (is .value, is′ .value) (sym (two-rides tariff counts bytes trip c (sym (ok .breaking-is) ∙ broken)))
+
+module _ (tariff : List ℕ) (counts : Counts) (book bytes : List ℕ) (trip : Trip) (window : Window) (room : ℕ) where
+  module _ {breaking : Breaking} (clear : AllClear tariff counts book bytes trip window breaking room) where
     fields : GoodFields bytes
     fields = good-fields (clear .good)
 
-    pub trip-riding : Riding tariff counts bytes (trip .stops)
-    trip-riding = rw (clear .trip-is) (riding (clear .ready .read) (clear .good))
+    pub breakable : Breakable tariff counts bytes trip breaking
+    breakable =
+        record {
+          riding = rw (clear .trip-is) (riding (clear .ready .read) (clear .good));
+          in-order = rw (clear .trip-is) (in-order (clear .good));
+          breaking-is = clear .breaking-is;
+        }
 
-    pub trip-in-order : InOrder trip
-    trip-in-order = rw (clear .trip-is) (in-order (clear .good))
-
-    -- a change where it is broken is one of its stops
-    pub change-inside : (c : ℕ) → breaking ≡ At c → c < trip .stops
-    change-inside c broken = omega (arith, broken-between trip-riding c (sym (clear .breaking-is) ∙ broken) .1)
-
-    -- Its rides, which writing finds by where it is broken.
-    pub whole : {ride : Ride} → breaking ≡ Unbroken → RideIs counts (rideOf tariff counts bytes trip) ride → ride ∷ [] ≡ ridesOf tariff counts bytes trip
-    whole unbroken is = rw (is .value) (sym (one-ride tariff counts bytes trip (sym (clear .breaking-is) ∙ unbroken)))
-
-    pub parts :
-        {first second : Ride} (c : ℕ) → breaking ≡ At c → RideIs counts (firstPart tariff counts bytes trip c) first
-        → RideIs counts (secondPart tariff counts bytes trip c) second → first ∷ second ∷ [] ≡ ridesOf tariff counts bytes trip
-    parts c broken is is′ = rw (is .value, is′ .value) (sym (two-rides tariff counts bytes trip c (sym (clear .breaking-is) ∙ broken)))
-
-    pub chargeable : {rides : List Ride} → rides ≡ ridesOf tariff counts bytes trip → Chargeable tariff counts book window (trip .checkout .0) rides statement
+    pub chargeable : {rides : List Ride} → rides ≡ ridesOf tariff counts bytes trip → Chargeable tariff counts book window (trip .checkout .0) rides room
     chargeable is =
         rw is
         (record {
@@ -375,41 +466,93 @@ module _ (tariff : List ℕ) (counts : Counts) (book bytes : List ℕ) (trip : T
               (rw (clear .trip-is) (fields .short)) (rw (clear .trip-is) (fields .range)) (clear .on-time) window (clear .window-is)
               (omega (arith, clear .few, few-rides tariff counts bytes trip .0));
           few = clear .few;
-          room = clear .room;
+          fits = clear .fits;
         })
 
-    pub of-one-trip : {first second : Ride} → first ∷ second ∷ [] ≡ ridesOf tariff counts bytes trip → OfOneTrip first second
-    of-one-trip is =
+    pub of-one-trip : (rides : Rides) → listed rides ≡ ridesOf tariff counts bytes trip → TripRides rides
+    of-one-trip (One ride) is = tt
+    of-one-trip (Two first second) is =
         let each = rw (← is) at (rides-of-trip tariff counts bytes trip) in
         let one = first-of each in
         let other = first-of (others-of each) in
         record { class = one .class ∙ sym (other .class); party = one .party ∙ sym (other .party) }
 
-    -- What was written is the accepted outcome, and the book left behind is sound again.
-    pub written :
-        {rides : List Ride} → rides ≡ ridesOf tariff counts bytes trip → {book′ statement′ : List ℕ} {r : ℕ}
-        → RidesCharged tariff counts book window (trip .checkout .0) rides statement book′ statement′ r
-        → ToldSound (acceptedTrip tariff counts book bytes trip window) (counts .areas) book book′ statement statement′ (Written r)
-    unfolding acceptedTrip
-    written is {book′} {statement′} {r} done =
-        let charged = rw is at done in
-        let bytes-are = statementOf (partsOf tariff counts book window (trip .checkout .0) (ridesOf tariff counts bytes trip)) in
+    -- The records of its parts can be read, and the book with them is sound.
+    pub parts-right :
+        Recordables (tripParts tariff counts book bytes trip window)
+        × (sound (tripPosted tariff counts book bytes trip window) (counts .areas) ≡ true)
+    parts-right = go (ridesOf tariff counts bytes trip) (chargeable refl) (few-rides tariff counts bytes trip .0)
+      where
+        go :
+            (rides : List Ride) → Chargeable tariff counts book window (trip .checkout .0) rides room → 1 ≤ length rides
+            → Recordables (partsOf tariff counts book window (trip .checkout .0) rides)
+            × (sound (postedAll tariff counts book window (trip .checkout .0) rides) (counts .areas) ≡ true)
+        go [] ok some = absurd (omega arith)
+        go (ride ∷ rest) ok some = all-right tariff counts (trip .checkout .0) book window ride rest (ok .rideable) (ok .right) (ok .few)
+
+    -- They take at most the bytes of the largest statement, and there is room for them.
+    pub size-most :
+        (length (statementOf (tripParts tariff counts book bytes trip window)) ≤ largestStatement)
+        × (length (statementOf (tripParts tariff counts book bytes trip window)) ≤ room)
+    size-most =
         let size = parts-size tariff counts (trip .checkout .0) book window (ridesOf tariff counts bytes trip) in
         let ranges = fields .ranges in
         let most =
         rides-most tariff counts bytes trip (rw (clear .trip-is) (ranges .adults)) (rw (clear .trip-is) (ranges .children))
         (rw (clear .trip-is) (ranges .bicycles))
         in
-        let room = clear .room in
-        let told : r ≡ length bytes-are = charged .wrote .next ∙ zero-add _ in
-        record {
-          told =
-              record {
-                answer = ap Written told;
-                fits = omega arith;
-                recordable = charged .recordable;
-                book-is = charged .book-is;
-                statement-is = charged .wrote .stored ∙ sets-eq bytes-are statement 0 (omega arith) ∙ rw zero-add;
-              };
-          sound-again = charged .sound-again;
-        }
+        let fits = clear .fits in
+        (omega arith, omega arith)
+
+-- What stating the rides of a trip with all conditions clear writes.
+module _ (tariff : List ℕ) (counts : Counts) (book bytes : List ℕ) (trip : Trip) (window : Window) {breaking : Breaking} {room : ℕ}
+    (clear : AllClear tariff counts book bytes trip window breaking room) {rides : Rides} (is : listed rides ≡ ridesOf tariff counts bytes trip)
+    {firsts seconds statement statement′ : List ℕ} {r : ℕ} (enough : room ≤ length statement)
+    (stated : RidesStated tariff counts book window firsts seconds statement statement′ r rides) where
+  abbrev record-bytes : List ℕ
+  record-bytes = statementOf (tripParts tariff counts book bytes trip window)
+
+  wrote : Wrote record-bytes statement 0 statement′ r
+  wrote = rw is at (rides-wrote (chargeable tariff counts book bytes trip window room clear is) stated)
+
+  pub size-is : r ≡ length record-bytes
+  size-is = wrote .next ∙ zero-add _
+
+  statement-is : statement′ ≡ record-bytes ++ drop (length record-bytes) statement
+  statement-is =
+      wrote .stored
+      ∙ sets-eq record-bytes statement 0 (omega (arith, size-most tariff counts book bytes trip window room clear .1, enough))
+      ∙ rw zero-add
+
+  -- the statement starts with the bytes that its size tells
+  pub starts-with-records : take r statement′ ≡ record-bytes
+  starts-with-records = rw (size-is, statement-is) (take-append-seam record-bytes _)
+
+  -- it is the trip's quote
+  pub stated-trip : QuoteTold (priced (tripParts tariff counts book bytes trip window)) statement statement′ (Written r)
+  stated-trip =
+      record {
+        answer = ap Written size-is;
+        fits = omega (arith, size-is, size-most tariff counts book bytes trip window room clear .0);
+        recordable = parts-right tariff counts book bytes trip window room clear .0;
+        statement-is = statement-is;
+      }
+
+  -- and with the rides posted it is the accepted outcome, and the book left behind is sound again
+  pub written :
+      {book′ : List ℕ} → book′ ≡ postedAll tariff counts book window (trip .checkout .0) (listed rides)
+      → ToldSound (acceptedTrip tariff counts book bytes trip window) (counts .areas) book book′ statement statement′ (Written r)
+  unfolding acceptedTrip
+  written posted-are =
+      let book-is = rw is at posted-are in
+      record {
+        told =
+            record {
+              answer = stated-trip .answer;
+              fits = stated-trip .fits;
+              recordable = stated-trip .recordable;
+              book-is = book-is;
+              statement-is = stated-trip .statement-is;
+            };
+        sound-again = rw book-is (parts-right tariff counts book bytes trip window room clear .1);
+      }

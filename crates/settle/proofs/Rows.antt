@@ -1,18 +1,22 @@
 -- Tables of refusals, whatever their rows: a row that does not hold is skipped, one that holds decides, and the first to hold is the first
--- by its place. And what this table has: each refusal stands once, with a number from 4 on.
+-- by its place. And what the tables of settling and of a posting have: each refusal stands once, with a number from 4 on, and all rows but
+-- the last are the same.
 -- Assumes nothing.
 use Prim.Native.Nat.{ℕ, _≤_}
 use native.Mathlib.Omega.{arith}
 use mathlib.Core.Path.{_≡_, refl, sym, ap, _∙_}
 use mathlib.Core.Logic.{_↔_}
 use mathlib.Core.Bool.{Bool, true, false, cond, not, _&&_, false≢true}
-use mathlib.Core.List.{List, [], _∷_}
+use mathlib.Core.List.{List, [], _∷_, _++_}
 use borrow.Author.Tests.{eq-eqb, ne-eqb, leb-true, not-true}
 use lib.Dec.{eqb, leb}
+use lib.ListN.{take}
 use Rattle.tariff.specs.declared.Counts.{Counts}
 use Rattle.wire.proofs.Tests.{both-left, both-right}
 use Rattle.settle.specs.declared.refusals.Refusal.{Refusal}
-use Rattle.settle.specs.Refusals.{refusal, lastRefusal, Row, rows, Found, nothing, found, firstOf, testOf, First, here, later}
+use Rattle.settle.specs.declared.refusals.Refusal.the-variants.{NoRoom, OtherRecord}
+use Rattle.settle.specs.Refusals.{refusal, lastRefusal, Row, row, rowsTo, rows, Found, nothing, found, firstOf, testOf, First, here, later}
+use Rattle.settle.specs.Posting.{postingRows}
 
 -- ---- Any table.
 
@@ -52,26 +56,61 @@ unfoldable pub distinct : List Row → Bool
 distinct [] = true
 distinct (r ∷ rest) = not (has (refusal (r .why)) rest) && distinct rest
 
--- all numbers are 4 to the last
-unfoldable pub inRange : List Row → Bool
-inRange [] = true
-inRange (r ∷ rest) = leb 4 (refusal (r .why)) && (leb (refusal (r .why)) lastRefusal && inRange rest)
+-- all numbers are 4 to a last
+unfoldable pub inRange : ℕ → List Row → Bool
+inRange most [] = true
+inRange most (r ∷ rest) = leb 4 (refusal (r .why)) && (leb (refusal (r .why)) most && inRange most rest)
 
 pub first-range :
-    (table : List Row) {why : Refusal} → inRange table ≡ true → firstOf table ≡ found why → (4 ≤ refusal why) × (refusal why ≤ lastRefusal)
+    (most : ℕ) (table : List Row) {why : Refusal} → inRange most table ≡ true → firstOf table ≡ found why → (4 ≤ refusal why) × (refusal why ≤ most)
 unfolding firstOf inRange
-first-range [] range e = absurd (let z : _≡_ {A = ℕ} 0 1 = cc in omega arith)
-first-range (r ∷ rest) {why} range e =
-    let least = both-left (leb 4 (refusal (r .why))) (leb (refusal (r .why)) lastRefusal && inRange rest) range in
-    let above = both-right (leb 4 (refusal (r .why))) (leb (refusal (r .why)) lastRefusal && inRange rest) range in
-    let most = both-left (leb (refusal (r .why)) lastRefusal) (inRange rest) above in
-    go (r .test) e (leb-true 4 (refusal (r .why)) least) (leb-true (refusal (r .why)) lastRefusal most)
-    (first-range rest (both-right (leb (refusal (r .why)) lastRefusal) (inRange rest) above))
+first-range most [] range e = absurd (let z : _≡_ {A = ℕ} 0 1 = cc in omega arith)
+first-range most (r ∷ rest) {why} range e =
+    let least = both-left (leb 4 (refusal (r .why))) (leb (refusal (r .why)) most && inRange most rest) range in
+    let above = both-right (leb 4 (refusal (r .why))) (leb (refusal (r .why)) most && inRange most rest) range in
+    let high = both-left (leb (refusal (r .why)) most) (inRange most rest) above in
+    go (r .test) e (leb-true 4 (refusal (r .why)) least) (leb-true (refusal (r .why)) most high)
+    (first-range most rest (both-right (leb (refusal (r .why)) most) (inRange most rest) above))
   where
-    go : (t : Bool) → cond t (found (r .why)) (firstOf rest) ≡ found why → 4 ≤ refusal (r .why) → refusal (r .why) ≤ lastRefusal
-        → (firstOf rest ≡ found why → (4 ≤ refusal why) × (refusal why ≤ lastRefusal)) → (4 ≤ refusal why) × (refusal why ≤ lastRefusal)
-    go true e′ least most after = let same : r .why ≡ why = cc in rw (← same) (least, most)
-    go false e′ least most after = after e′
+    go : (t : Bool) → cond t (found (r .why)) (firstOf rest) ≡ found why → 4 ≤ refusal (r .why) → refusal (r .why) ≤ most
+        → (firstOf rest ≡ found why → (4 ≤ refusal why) × (refusal why ≤ most)) → (4 ≤ refusal why) × (refusal why ≤ most)
+    go true e′ least high after = let same : r .why ≡ why = cc in rw (← same) (least, high)
+    go false e′ least high after = after e′
+
+-- a refusal that is found stands in the table
+pub first-has : (table : List Row) {why : Refusal} → firstOf table ≡ found why → has (refusal why) table ≡ true
+unfolding firstOf has
+first-has [] e = absurd (let z : _≡_ {A = ℕ} 0 1 = cc in omega arith)
+first-has (r ∷ rest) {why} e = go (r .test) (eqb (refusal (r .why)) (refusal why)) refl e (first-has rest)
+  where
+    go : (t same : Bool) → eqb (refusal (r .why)) (refusal why) ≡ same → cond t (found (r .why)) (firstOf rest) ≡ found why
+        → (firstOf rest ≡ found why → has (refusal why) rest ≡ true) → cond same true (has (refusal why) rest) ≡ true
+    go t true is e′ after = refl
+    go true false is e′ after =
+        let same : r .why ≡ why = cc in
+        absurd (false≢true (sym is ∙ eq-eqb (refusal (r .why)) (refusal why) (ap refusal same)))
+    go false false is e′ after = after e′
+
+-- Rows with one more behind them: where one of them holds, it decides, and else the last one does.
+pub earlier-decides : (table : List Row) (last : Row) {why : Refusal} → firstOf table ≡ found why → firstOf (table ++ last ∷ []) ≡ found why
+unfolding firstOf
+earlier-decides [] last e = absurd (let z : _≡_ {A = ℕ} 0 1 = cc in omega arith)
+earlier-decides (r ∷ rest) last {why} e = go (r .test) e (earlier-decides rest last)
+  where
+    go : (t : Bool) → cond t (found (r .why)) (firstOf rest) ≡ found why → (firstOf rest ≡ found why → firstOf (rest ++ last ∷ []) ≡ found why)
+        → cond t (found (r .why)) (firstOf (rest ++ last ∷ [])) ≡ found why
+    go true e′ after = e′
+    go false e′ after = after e′
+
+pub last-decides : (table : List Row) (last : Row) → firstOf table ≡ nothing → firstOf (table ++ last ∷ []) ≡ firstOf (last ∷ [])
+unfolding firstOf
+last-decides [] last e = refl
+last-decides (r ∷ rest) last e = go (r .test) e (last-decides rest last)
+  where
+    go : (t : Bool) → cond t (found (r .why)) (firstOf rest) ≡ nothing → (firstOf rest ≡ nothing → firstOf (rest ++ last ∷ []) ≡ firstOf (last ∷ []))
+        → cond t (found (r .why)) (firstOf (rest ++ last ∷ [])) ≡ firstOf (last ∷ [])
+    go true e′ after = absurd (let z : _≡_ {A = ℕ} 0 1 = cc in omega arith)
+    go false e′ after = after e′
 
 -- ---- A table in other words: each refusal's test says that its condition holds.
 
@@ -151,6 +190,32 @@ module _ (tariff : List ℕ) (counts : Counts) (book trip : List ℕ) (room : �
   unfolding rows distinct has
   rows-distinct = refl
 
-  pub rows-range : inRange (rows tariff counts book trip room) ≡ true
+  pub rows-range : inRange lastRefusal (rows tariff counts book trip room) ≡ true
   unfolding rows inRange
   rows-range = refl
+
+-- ---- The table of a posting.
+
+module _ (tariff : List ℕ) (counts : Counts) (book trip offered : List ℕ) where
+  pub posting-distinct : distinct (postingRows tariff counts book trip offered) ≡ true
+  unfolding postingRows distinct has
+  posting-distinct = refl
+
+  pub posting-range : inRange (refusal OtherRecord) (postingRows tariff counts book trip offered) ≡ true
+  unfolding postingRows inRange
+  posting-range = refl
+
+  -- 12 does not stand in it
+  pub no-room-row : has (refusal NoRoom) (postingRows tariff counts book trip offered) ≡ false
+  unfolding postingRows has
+  no-room-row = refl
+
+-- ---- What they have in common.
+
+module _ (tariff : List ℕ) (counts : Counts) (book trip : List ℕ) where
+  -- 4 to 11: all rows but the last, whichever that is
+  abbrev pub earlierRows : List Row
+  earlierRows = take 8 (rowsTo tariff counts book trip (row NoRoom false))
+
+  pub earlier-and-last : (last : Row) → rowsTo tariff counts book trip last ≡ earlierRows ++ last ∷ []
+  earlier-and-last last = refl

@@ -1,4 +1,4 @@
--- From the table to the decision and to the outcome, and back; and what each outcome leaves behind.
+-- From the tables to the decision, the quote, the outcome and the posting, and back; and what each leaves behind.
 -- Assumes nothing.
 use Prim.Native.Nat.{ℕ, _+_, _^_, _≤_, _<_}
 use native.Mathlib.Omega.{arith}
@@ -31,8 +31,23 @@ use Rattle.settle.specs.declared.decide.Decision.the-variants.{Refused, 
 use Rattle.settle.specs.declared.refusals.Refusal.{Refusal}
 use Rattle.settle.specs.declared.refusals.Refusal.the-variants as why
 use Rattle.settle.specs.Refusals.{refusal, lastRefusal, rows, Found, nothing, found, firstOf, testOf}
-use Rattle.settle.specs.Outcome.{Outcome, refused, decidedUnder, acceptedTrip, settledUnder, settled}
-use Rattle.settle.specs.Contracts.{AllClear, Told, Ready}
+use Rattle.settle.specs.Outcome.{
+  Quote,
+  unquoted,
+  priced,
+  Outcome,
+  refused,
+  accepted,
+  decidedUnder,
+  tripParts,
+  bookWith,
+  acceptedTrip,
+  quotedUnder,
+  quoted,
+  settledUnder,
+  settled,
+}
+use Rattle.settle.specs.Contracts.{AllClear, Told, QuoteTold, Ready}
 use Rattle.settle.proofs.Rows.{stop, none-holds, first-range, rows-range}
 
 -- ---- The decision.
@@ -108,40 +123,92 @@ module _ (tariff : List ℕ) (counts : Counts) (book trip : List ℕ) (room : �
         fits = ltb-false room (statementSize (ridesOf tariff counts trip (tripOf trip))) (off why.NoRoom);
       }
 
--- ---- The outcome.
+-- ---- The quote.
 
 -- what comes of a decision
-abbrev afterDecision : List ℕ → Counts → List ℕ → List ℕ → Decision → Outcome
-afterDecision tariff counts book trip (Refused why) = refused (refusal why) 0
-afterDecision tariff counts book trip (Clear fields window breaking) = acceptedTrip tariff counts book trip fields window
+abbrev afterDecision : List ℕ → Counts → List ℕ → List ℕ → Decision → Quote
+afterDecision tariff counts book trip (Refused why) = unquoted (refusal why) 0
+afterDecision tariff counts book trip (Clear fields window breaking) = priced (tripParts tariff counts book trip fields window)
 
 module _ (tariff : List ℕ) (counts : Counts) (book trip : List ℕ) (room : ℕ) where
-  by-decision : settledUnder tariff counts book trip room ≡ afterDecision tariff counts book trip (decidedUnder tariff counts book trip room)
-  unfolding settledUnder
+  by-decision : quotedUnder tariff counts book trip room ≡ afterDecision tariff counts book trip (decidedUnder tariff counts book trip room)
+  unfolding quotedUnder
   by-decision = same (decidedUnder tariff counts book trip room)
     where
       same :
           (d : Decision)
-          → (elim d as (λ x. Outcome) [
-            | Refused why ↦ refused (refusal why) 0
-            | Clear fields window breaking ↦ acceptedTrip tariff counts book trip fields window
+          → (elim d as (λ x. Quote) [
+            | Refused why ↦ unquoted (refusal why) 0
+            | Clear fields window breaking ↦ priced (tripParts tariff counts book trip fields window)
           ])
           ≡ afterDecision tariff counts book trip d
       same (Refused why) = refl
       same (Clear fields window breaking) = refl
 
+  pub unquoted-under :
+      {why : Refusal} → decidedUnder tariff counts book trip room ≡ Refused why → quotedUnder tariff counts book trip room ≡ unquoted (refusal why) 0
+  unquoted-under e = by-decision ∙ ap (afterDecision tariff counts book trip) e
+
+  pub unsound-quote : sound book (counts .areas) ≡ false → quotedUnder tariff counts book trip room ≡ unquoted (refusal why.UnsoundBook) 0
+  unfolding rows
+  unsound-quote is = unquoted-under (refused-first tariff counts book trip room (stop _ _ (rw is)))
+
+  pub priced-under :
+      (fields : Trip) (window : Window) {breaking : Breaking} → decidedUnder tariff counts book trip room ≡ Clear fields window breaking
+      → quotedUnder tariff counts book trip room ≡ priced (tripParts tariff counts book trip fields window)
+  priced-under fields window e = by-decision ∙ ap (afterDecision tariff counts book trip) e
+
+module _ (tariff book trip : List ℕ) (room : ℕ) where
+  pub fault-quote : (number at : ℕ) → readTariff tariff ≡ Fault number at → quoted tariff book trip room ≡ unquoted number at
+  unfolding quoted
+  fault-quote number at e = rw (e, quoted)
+
+  pub faultless-quote : (counts : Counts) → Read tariff counts → quoted tariff book trip room ≡ quotedUnder tariff counts book trip room
+  unfolding quoted
+  faultless-quote counts read = rw (read, quoted)
+
+-- A refusal's answer, with nothing written.
+pub quote-refusal-told :
+    (q : Quote) (statement : List ℕ) (number place : ℕ) → q ≡ unquoted number place → place < 2 ^ 32
+    → QuoteTold q statement statement (answer.Refused number place)
+quote-refusal-told q statement number place e near = rw e (record { answer = refl; fits = near; recordable = none; statement-is = refl })
+
+-- ---- The outcome.
+
+-- what settling makes of a quote
+abbrev pub afterQuote : List ℕ → Quote → Outcome
+afterQuote new (unquoted number place) = refused number place
+afterQuote new (priced parts) = accepted new parts
+
+module _ (tariff : List ℕ) (counts : Counts) (book trip : List ℕ) (room : ℕ) where
+  pub by-quote : settledUnder tariff counts book trip room ≡ afterQuote (bookWith tariff counts book trip) (quotedUnder tariff counts book trip room)
+  unfolding settledUnder
+  by-quote = same (quotedUnder tariff counts book trip room)
+    where
+      same :
+          (q : Quote)
+          → (elim q as (λ x. Outcome) [
+            | unquoted number place ↦ refused number place
+            | priced parts ↦ accepted (bookWith tariff counts book trip) parts
+          ])
+          ≡ afterQuote (bookWith tariff counts book trip) q
+      same (unquoted number place) = refl
+      same (priced parts) = refl
+
   pub refused-under :
       {why : Refusal} → decidedUnder tariff counts book trip room ≡ Refused why → settledUnder tariff counts book trip room ≡ refused (refusal why) 0
-  refused-under e = by-decision ∙ ap (afterDecision tariff counts book trip) e
+  refused-under e = by-quote ∙ ap (afterQuote (bookWith tariff counts book trip)) (unquoted-under tariff counts book trip room e)
 
   pub unsound-under : sound book (counts .areas) ≡ false → settledUnder tariff counts book trip room ≡ refused (refusal why.UnsoundBook) 0
-  unfolding rows
-  unsound-under is = refused-under (refused-first tariff counts book trip room (stop _ _ (rw is)))
+  unsound-under is = by-quote ∙ ap (afterQuote (bookWith tariff counts book trip)) (unsound-quote tariff counts book trip room is)
 
   pub accepted-under :
       (fields : Trip) (window : Window) {breaking : Breaking} → decidedUnder tariff counts book trip room ≡ Clear fields window breaking
       → settledUnder tariff counts book trip room ≡ acceptedTrip tariff counts book trip fields window
-  accepted-under fields window e = by-decision ∙ ap (afterDecision tariff counts book trip) e
+  unfolding acceptedTrip
+  accepted-under fields window e =
+      let (no-one, (fields-are, (window-is, broken))) = clear-found tariff counts book trip room e in
+      by-quote ∙ ap (afterQuote (bookWith tariff counts book trip)) (priced-under tariff counts book trip room fields window e) ∙ rw (fields-are, window-is)
 
 module _ (tariff book trip : List ℕ) (room : ℕ) where
   pub fault-way : (number at : ℕ) → readTariff tariff ≡ Fault number at → settled tariff book trip room ≡ refused number at
@@ -175,16 +242,16 @@ pub refusal-range :
     (tariff : List ℕ) (counts : Counts) (book trip : List ℕ) (room : ℕ) {why : Refusal} → decidedUnder tariff counts book trip room ≡ Refused why
     → (4 ≤ refusal why) × (refusal why ≤ lastRefusal)
 refusal-range tariff counts book trip room e =
-    first-range (rows tariff counts book trip room) (rows-range tariff counts book trip room) (refused-found tariff counts book trip room e)
+    first-range lastRefusal (rows tariff counts book trip room) (rows-range tariff counts book trip room) (refused-found tariff counts book trip room e)
 
 -- A clear decision is all that writing asks.
 pub all-clear :
-    (tariff : List ℕ) (counts : Counts) (book bytes : List ℕ) (trip : Trip) (window : Window) (breaking : Breaking) (statement : List ℕ)
-    → Ready tariff counts book → decidedUnder tariff counts book bytes (length statement) ≡ Clear trip window breaking
-    → AllClear tariff counts book bytes trip window breaking statement
-all-clear tariff counts book bytes trip window breaking statement ready e =
-    let (no-one, (trip-is, (window-is, breaking-is))) = clear-found tariff counts book bytes (length statement) e in
-    let clear = no-row tariff counts book bytes (length statement) no-one in
+    (tariff : List ℕ) (counts : Counts) (book bytes : List ℕ) (trip : Trip) (window : Window) (breaking : Breaking) (room : ℕ)
+    → Ready tariff counts book → decidedUnder tariff counts book bytes room ≡ Clear trip window breaking
+    → AllClear tariff counts book bytes trip window breaking room
+all-clear tariff counts book bytes trip window breaking room ready e =
+    let (no-one, (trip-is, (window-is, breaking-is))) = clear-found tariff counts book bytes room e in
+    let clear = no-row tariff counts book bytes room no-one in
     record {
       ready = ready;
       good = clear .good;
@@ -193,5 +260,5 @@ all-clear tariff counts book bytes trip window breaking statement ready e =
       breaking-is = rw trip-is breaking-is;
       on-time = rw trip-is (clear .on-time);
       few = rw (window-is, trip-is) (clear .few);
-      room = rw trip-is (clear .fits);
+      fits = rw trip-is (clear .fits);
     }

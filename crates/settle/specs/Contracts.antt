@@ -1,11 +1,14 @@
--- What the functions of settling ask and answer, up to the exported one.
+-- What the functions of settling, of a quote and of a posting ask and answer, up to the exported ones.
 use Prim.Native.Nat.{ℕ, _+_, _*_, _^_, _≤_, _<_}
 use mathlib.Core.Path.{_≡_}
-use mathlib.Core.List.{List, _++_}
-use mathlib.Core.Bool.{true, false}
+use mathlib.Core.List.{List, [], _∷_, _++_}
+use mathlib.Core.Bool.{true, false, cond}
 use lib.ListN.{length}
 use Rattle.tariff.specs.declared.Counts.{Counts}
+use Rattle.tariff.specs.declared.Reading.the-variants.{Fault}
+use Rattle.tariff.specs.Scan.{readTariff}
 use Rattle.tariff.specs.Areas.{Read}
+use Rattle.units.specs.declared.Minutes.{Minutes}
 use Rattle.trip.specs.declared.Trip.{Trip}
 use Rattle.trip.specs.declared.Party.{Party}
 use Rattle.trip.specs.Trips.{tripOf}
@@ -14,7 +17,7 @@ use Rattle.fare.specs.declared.Ride.{Ride}
 use Rattle.fare.specs.declared.Breaking.{Breaking}
 use Rattle.fare.specs.declared.Breaking.the-variants.{Unbroken, At}
 use Rattle.fare.specs.Parts.{breakOf, ridesOf}
-use Rattle.fare.specs.Contracts.{EachRide}
+use Rattle.fare.specs.Contracts.{Riding, InOrder, EachRide}
 use Rattle.book.specs.declared.Window.{Window}
 use Rattle.book.specs.declared.Earlier.{Earlier}
 use Rattle.book.specs.declared.Earlier.the-variants.{Nothing, Part}
@@ -30,7 +33,38 @@ use Rattle.statement.specs.Record.{recordSize, recordOf, statementOf, statement
 use Rattle.statement.specs.Contracts.{Recordables, Wrote}
 use Rattle.settle.specs.declared.Answer.{Answer}
 use Rattle.settle.specs.declared.Answer.the-variants.{Refused, Written}
-use Rattle.settle.specs.Outcome.{Outcome, refused, accepted, oneMore, partsOf, postedAll, acceptedTrip, settledUnder, settled, partsIn, bookAfter, statementAfter}
+use Rattle.settle.specs.declared.plan.Rides.{Rides}
+use Rattle.settle.specs.declared.plan.Rides.the-variants.{One, Two}
+use Rattle.settle.specs.declared.plan.Plan.{Plan}
+use Rattle.settle.specs.declared.plan.Plan.the-variants.{Refuse, Charge}
+use Rattle.settle.specs.declared.ready.Readiness.{Readiness}
+use Rattle.settle.specs.declared.ready.Readiness.the-variants as readiness
+use Rattle.settle.specs.declared.decide.Decision.the-variants as decision
+use Rattle.settle.specs.declared.refusals.Refusal.{Refusal}
+use Rattle.settle.specs.declared.refusals.Refusal.the-variants.{UnsoundBook, OtherRecord}
+use Rattle.settle.specs.Refusals.{refusal}
+use Rattle.settle.specs.Outcome.{
+  Quote,
+  unquoted,
+  priced,
+  Outcome,
+  refused,
+  accepted,
+  decidedUnder,
+  oneMore,
+  tripParts,
+  tripPosted,
+  quotedUnder,
+  quoted,
+  settledUnder,
+  settled,
+  partsIn,
+  partsPriced,
+  bookAfter,
+  statementAfter,
+  quoteAfter,
+}
+use Rattle.settle.specs.Posting.{sameBytes, Posting, unposted, renewed, postedUnder, postingOf, bookLeft}
 
 -- ---- Deciding.
 
@@ -39,6 +73,14 @@ pub record Ready (tariff : List ℕ) (counts : Counts) (book : List ℕ) : Type 
   pub read : Read tariff counts
   pub sound-book : sound book (counts .areas) ≡ true
 
+-- a tariff's fault, a book that is not sound, or neither
+pub data Readied (tariff book : List ℕ) : Readiness → Type 0 where
+  at-fault : {number at : ℕ} → readTariff tariff ≡ Fault number at → Readied tariff book (readiness.Refused number at)
+  not-sound :
+      {counts : Counts} {number place : ℕ} → Read tariff counts → sound book (counts .areas) ≡ false → number ≡ refusal UnsoundBook → place ≡ 0
+      → Readied tariff book (readiness.Refused number place)
+  made-ready : {counts : Counts} → Ready tariff counts book → Readied tariff book (readiness.Ready counts)
+
 -- how many rides a trip is charged as, by where it is broken, and the bytes of their records: all have the trip's party
 abbrev pub ridesIn : Breaking → ℕ
 ridesIn Unbroken = 1
@@ -46,6 +88,33 @@ ridesIn (At c) = 2
 
 abbrev pub recordsSize : Breaking → Party → ℕ
 recordsSize breaking party = ridesIn breaking * recordSize party
+
+-- ---- Rides.
+
+abbrev pub listed : Rides → List Ride
+listed (One ride) = ride ∷ []
+listed (Two first second) = first ∷ second ∷ []
+
+-- what finding a trip's rides asks: stops that the tariff has, minutes in order, and where it is broken
+pub record Breakable (tariff : List ℕ) (counts : Counts) (bytes : List ℕ) (trip : Trip) (breaking : Breaking) : Type 0 where
+  pub riding : Riding tariff counts bytes (trip .stops)
+  pub in-order : InOrder trip
+  pub breaking-is : breaking ≡ breakOf tariff counts bytes (trip .stops)
+
+-- what a trip is charged as, where all conditions are clear
+pub record ClearPlan (tariff : List ℕ) (counts : Counts) (book bytes : List ℕ) (room : ℕ) (window : Window) (checkout : Minutes) (rides : Rides) : Type 0 where
+  pub trip : Trip
+  pub breaking : Breaking
+  pub decided : decidedUnder tariff counts book bytes room ≡ decision.Clear trip window breaking
+  pub checkout-is : checkout ≡ trip .checkout
+  pub rides-are : listed rides ≡ ridesOf tariff counts bytes trip
+
+-- a plan is what was decided
+pub data Planned (tariff : List ℕ) (counts : Counts) (book bytes : List ℕ) (room : ℕ) : Plan → Type 0 where
+  plan-refuses : {why : Refusal} → decidedUnder tariff counts book bytes room ≡ decision.Refused why → Planned tariff counts book bytes room (Refuse why)
+  plan-charges :
+      {window : Window} {checkout : Minutes} {rides : Rides} → ClearPlan tariff counts book bytes room window checkout rides
+      → Planned tariff counts book bytes room (Charge window checkout rides)
 
 -- ---- Stating: the book is only read.
 
@@ -66,22 +135,42 @@ pub record Stateable (tariff : List ℕ) (counts : Counts) (book : List ℕ) (wi
   pub recordable : Recordable (partAfter tariff counts book window earlier ride)
   pub room : place + recordSize (ride .party) ≤ length statement
 
--- its charges stand among the amounts, and its record at the start of the statement
-pub record RideStated (tariff : List ℕ) (counts : Counts) (book : List ℕ) (window : Window) (ride : Ride) (amounts statement statement′ : List ℕ) (r : ℕ) : Type 0 where
-  pub charged : PartyAmounts tariff counts (inWindow (window .current) book) ride amounts
-  pub wrote : Wrote (recordOf (partAfter tariff counts book window Nothing ride)) statement 0 statement′ r
+-- its charges stand among the amounts, and its record at that place
+pub record RideStated (tariff : List ℕ) (counts : Counts) (book : List ℕ) (window : Window) (ride : Ride) (earlier : Earlier) (amounts statement : List ℕ) (place : ℕ) (statement′ : List ℕ) (r : ℕ) : Type 0 where
+  pub charged : PartyAmounts tariff counts (wordsAfter tariff counts (inWindow (window .current) book) earlier) ride amounts
+  pub wrote : Wrote (recordOf (partAfter tariff counts book window earlier ride)) statement place statement′ r
 
 -- of two parts of a trip, the second behind the first and on what that leaves
 pub record BothStateable (tariff : List ℕ) (counts : Counts) (book : List ℕ) (window : Window) (first second : Ride) (statement : List ℕ) : Type 0 where
   pub one : Stateable tariff counts book window first Nothing statement 0
   pub other : Stateable tariff counts book window second (Part first) statement (recordSize (first .party))
 
-pub record BothStated (tariff : List ℕ) (counts : Counts) (book : List ℕ) (window : Window) (first second : Ride) (paid amounts statement statement′ : List ℕ) (r : ℕ) : Type 0 where
-  pub paid-first : PartyAmounts tariff counts (inWindow (window .current) book) first paid
-  pub charged : PartyAmounts tariff counts (wordsAfter tariff counts (inWindow (window .current) book) (Part first)) second amounts
+pub record BothStated (tariff : List ℕ) (counts : Counts) (book : List ℕ) (window : Window) (first second : Ride) (firsts seconds statement statement′ : List ℕ) (r : ℕ) : Type 0 where
+  pub paid-first : PartyAmounts tariff counts (inWindow (window .current) book) first firsts
+  pub charged : PartyAmounts tariff counts (wordsAfter tariff counts (inWindow (window .current) book) (Part first)) second seconds
   pub wrote :
       Wrote (recordOf (partAfter tariff counts book window Nothing first) ++ recordOf (partAfter tariff counts book window (Part first) second)) statement
       0 statement′ r
+
+-- the only ride, or the first of two
+abbrev pub leadingRide : Rides → Ride
+leadingRide (One ride) = ride
+leadingRide (Two first second) = first
+
+-- one ride or two
+pub data RidesStateable (tariff : List ℕ) (counts : Counts) (book : List ℕ) (window : Window) (statement : List ℕ) : Rides → Type 0 where
+  one-stateable : {ride : Ride} → Stateable tariff counts book window ride Nothing statement 0 → RidesStateable tariff counts book window statement (One ride)
+  two-stateable :
+      {first second : Ride} → BothStateable tariff counts book window first second statement
+      → RidesStateable tariff counts book window statement (Two first second)
+
+pub data RidesStated (tariff : List ℕ) (counts : Counts) (book : List ℕ) (window : Window) (firsts seconds statement statement′ : List ℕ) (r : ℕ) : Rides → Type 0 where
+  one-stated :
+      {ride : Ride} → RideStated tariff counts book window ride Nothing firsts statement 0 statement′ r
+      → RidesStated tariff counts book window firsts seconds statement statement′ r (One ride)
+  two-stated :
+      {first second : Ride} → BothStated tariff counts book window first second firsts seconds statement statement′ r
+      → RidesStated tariff counts book window firsts seconds statement statement′ r (Two first second)
 
 -- ---- Posting.
 
@@ -90,29 +179,33 @@ pub record BothPostable (tariff : List ℕ) (counts : Counts) (book : List ℕ) 
   pub one : Postable tariff counts book window first paid
   pub other : Postable tariff counts (posted tariff counts book window checkout first) (oneMore window) second amounts
 
--- ---- Charging.
+-- one ride or two
+pub data RidesPostable (tariff : List ℕ) (counts : Counts) (book : List ℕ) (window : Window) (checkout : ℕ) (firsts seconds : List ℕ) : Rides → Type 0 where
+  one-postable : {ride : Ride} → Postable tariff counts book window ride firsts → RidesPostable tariff counts book window checkout firsts seconds (One ride)
+  two-postable :
+      {first second : Ride} → BothPostable tariff counts book window checkout first second firsts seconds
+      → RidesPostable tariff counts book window checkout firsts seconds (Two first second)
+
+-- ---- A trip.
 
 -- what charging rides one after another asks: a book and a window that have room for all of them, and room for their records
-pub record Chargeable (tariff : List ℕ) (counts : Counts) (book : List ℕ) (window : Window) (checkout : ℕ) (rides : List Ride) (statement : List ℕ) : Type 0 where
+pub record Chargeable (tariff : List ℕ) (counts : Counts) (book : List ℕ) (window : Window) (checkout : ℕ) (rides : List Ride) (room : ℕ) : Type 0 where
   pub rideable : EachRide (Rideable tariff counts book) rides
   pub right : WindowRight book window checkout
   pub few : window .trips + length rides ≤ 256
-  pub room : statementSize rides ≤ length statement
+  pub fits : statementSize rides ≤ room
 
--- rides of one trip: of the same class, for the same party
+-- two rides of one trip: of the same class, for the same party
 pub record OfOneTrip (first second : Ride) : Type 0 where
   pub class : first .class ≡ second .class
   pub party : first .party ≡ second .party
 
--- their records stand at the start of the statement, and the book has them, sound again
-pub record RidesCharged (tariff : List ℕ) (counts : Counts) (book : List ℕ) (window : Window) (checkout : ℕ) (rides : List Ride) (statement book′ statement′ : List ℕ) (r : ℕ) : Type 0 where
-  pub wrote : Wrote (statementOf (partsOf tariff counts book window checkout rides)) statement 0 statement′ r
-  pub recordable : Recordables (partsOf tariff counts book window checkout rides)
-  pub book-is : book′ ≡ postedAll tariff counts book window checkout rides
-  pub sound-again : sound book′ (counts .areas) ≡ true
+abbrev pub TripRides : Rides → Type 0
+TripRides (One ride) = Unit
+TripRides (Two first second) = OfOneTrip first second
 
--- all twelve conditions are clear
-pub record AllClear (tariff : List ℕ) (counts : Counts) (book bytes : List ℕ) (trip : Trip) (window : Window) (breaking : Breaking) (statement : List ℕ) : Type 0 where
+-- all conditions are clear, with so many bytes of room for the records
+pub record AllClear (tariff : List ℕ) (counts : Counts) (book bytes : List ℕ) (trip : Trip) (window : Window) (breaking : Breaking) (room : ℕ) : Type 0 where
   pub ready : Ready tariff counts book
   pub good : GoodTrip bytes (counts .stops)
   pub trip-is : trip ≡ tripOf bytes
@@ -120,7 +213,7 @@ pub record AllClear (tariff : List ℕ) (counts : Counts) (book bytes : List ℕ
   pub breaking-is : breaking ≡ breakOf tariff counts bytes (trip .stops)
   pub on-time : tooEarly book (trip .checkin .0) ≡ false
   pub few : window .trips + length (ridesOf tariff counts bytes trip) ≤ 256
-  pub room : statementSize (ridesOf tariff counts bytes trip) ≤ length statement
+  pub fits : statementSize (ridesOf tariff counts bytes trip) ≤ room
 
 -- ---- Answers.
 
@@ -147,24 +240,58 @@ pub record ToldSound (outcome : Outcome) (areas : ℕ) (book book′ statement s
   pub told : Told outcome book book′ statement statement′ r
   pub sound-again : sound book′ areas ≡ true
 
--- ---- What each function answers, of the slices at its entry and at its exit.
+-- of a quote
+abbrev pub toldQuote : Quote → Answer
+toldQuote (unquoted number place) = Refused number place
+toldQuote (priced parts) = Written (length (statementOf parts))
 
--- `write`
-abbrev pub TripWritten : List ℕ → Counts → List ℕ → List ℕ → Trip → Window → List ℕ → List ℕ → List ℕ → ℕ → Type 0
-TripWritten tariff counts book bytes trip window statement book′ statement′ size =
-    ToldSound (acceptedTrip tariff counts book bytes trip window) (counts .areas) book book′ statement statement′ (Written size)
+pub record QuoteTold (quote : Quote) (statement statement′ : List ℕ) (r : Answer) : Type 0 where
+  pub answer : r ≡ toldQuote quote
+  pub fits : AnswerFits r
+  pub recordable : Recordables (partsPriced quote)
+  pub statement-is : statement′ ≡ quoteAfter quote statement
+
+-- of a posting
+abbrev pub toldPosting : Posting → Answer
+toldPosting (unposted number place) = Refused number place
+toldPosting (renewed new) = Written (length new)
+
+pub record PostingTold (posting : Posting) (book book′ : List ℕ) (r : Answer) : Type 0 where
+  pub answer : r ≡ toldPosting posting
+  pub fits : AnswerFits r
+  pub book-is : book′ ≡ bookLeft posting book
+
+-- ---- What each function answers, of the slices at its entry and at its exit.
 
 -- `settle_next`
 abbrev pub NextSettled : List ℕ → Counts → List ℕ → List ℕ → List ℕ → List ℕ → List ℕ → Answer → Type 0
 NextSettled tariff counts book trip statement book′ statement′ r =
     ToldSound (settledUnder tariff counts book trip (length statement)) (counts .areas) book book′ statement statement′ r
 
--- `settle_under`
-abbrev pub UnderSettled : List ℕ → Counts → List ℕ → List ℕ → List ℕ → List ℕ → List ℕ → Answer → Type 0
-UnderSettled tariff counts book trip statement book′ statement′ r =
-    Told (settledUnder tariff counts book trip (length statement)) book book′ statement statement′ r
-
 -- `settle`
 abbrev pub TripSettled : List ℕ → List ℕ → List ℕ → List ℕ → List ℕ → List ℕ → Answer → Type 0
 TripSettled tariff book trip statement book′ statement′ r =
     Told (settled tariff book trip (length statement)) book book′ statement statement′ r
+
+-- `quote_next`
+abbrev pub NextQuoted : List ℕ → Counts → List ℕ → List ℕ → List ℕ → List ℕ → Answer → Type 0
+NextQuoted tariff counts book trip statement statement′ r =
+    QuoteTold (quotedUnder tariff counts book trip (length statement)) statement statement′ r
+
+-- `quote`
+abbrev pub TripQuoted : List ℕ → List ℕ → List ℕ → List ℕ → List ℕ → Answer → Type 0
+TripQuoted tariff book trip statement statement′ r = QuoteTold (quoted tariff book trip (length statement)) statement statement′ r
+
+-- where all conditions are clear: 13, or the book with the trip
+abbrev pub clearPosting : List ℕ → Counts → List ℕ → List ℕ → Trip → Window → List ℕ → Posting
+clearPosting tariff counts book bytes trip window offered =
+    cond (sameBytes (statementOf (tripParts tariff counts book bytes trip window)) offered) (renewed (tripPosted tariff counts book bytes trip window))
+    (unposted (refusal OtherRecord) 0)
+
+-- `post_next`
+abbrev pub NextPosted : List ℕ → Counts → List ℕ → List ℕ → List ℕ → List ℕ → Answer → Type 0
+NextPosted tariff counts book trip offered book′ r = PostingTold (postedUnder tariff counts book trip offered) book book′ r
+
+-- `post`
+abbrev pub TripPosted : List ℕ → List ℕ → List ℕ → List ℕ → List ℕ → Answer → Type 0
+TripPosted tariff book trip offered book′ r = PostingTold (postingOf tariff book trip offered) book book′ r

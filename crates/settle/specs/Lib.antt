@@ -1,4 +1,5 @@
 pub mod Refusals
 pub mod Outcome
+pub mod Posting
 pub mod Contracts
 pub mod Runs

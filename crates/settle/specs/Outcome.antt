@@ -1,4 +1,5 @@
--- docs/RULES.md, section 14: the one outcome of settling a trip. 1 to 3 are the tariff's; 4 to 12 stand in the table of `Refusals`.
+-- docs/RULES.md, section 14: the one outcome of settling a trip, which is made of its quote: what it would be charged, told and not posted.
+-- 1 to 3 are the tariff's; 4 to 12 stand in the table of `Refusals`.
 use Prim.Native.Nat.{ℕ, _+_, _*_, _^_}
 use mathlib.Core.Path.{_≡_}
 use mathlib.Core.List.{List, [], _∷_, _++_}
@@ -22,6 +23,11 @@ use Rattle.statement.specs.Record.{Part, statementOf}
 use Rattle.settle.specs.declared.decide.Decision.{Decision}
 use Rattle.settle.specs.declared.decide.Decision.the-variants.{Refused, Clear}
 use Rattle.settle.specs.Refusals.{refusal, rows, firstOf, nothing, found}
+
+-- a quote: a refusal with its number and place; or the parts that the trip would be charged in
+pub data Quote : Type 0 where
+  unquoted : ℕ → ℕ → Quote
+  priced : List Part → Quote
 
 -- a refusal with its number and place; or the new book and the parts that the trip was charged in
 pub data Outcome : Type 0 where
@@ -66,22 +72,50 @@ postedAll tariff counts book window checkout [] = book
 postedAll tariff counts book window checkout (ride ∷ more) =
     postedAll tariff counts (posted tariff counts book window checkout ride) (oneMore window) checkout more
 
+-- the parts that a trip with these fields is charged in, in a window; and the book that has them
+abbrev pub tripParts : List ℕ → Counts → List ℕ → List ℕ → Trip → Window → List Part
+tripParts tariff counts book bytes trip window = partsOf tariff counts book window (trip .checkout .0) (ridesOf tariff counts bytes trip)
+
+abbrev pub tripPosted : List ℕ → Counts → List ℕ → List ℕ → Trip → Window → List ℕ
+tripPosted tariff counts book bytes trip window = postedAll tariff counts book window (trip .checkout .0) (ridesOf tariff counts bytes trip)
+
 unfoldable pub acceptedTrip : List ℕ → Counts → List ℕ → List ℕ → Trip → Window → Outcome
 acceptedTrip tariff counts book bytes trip window =
-    let rides = ridesOf tariff counts bytes trip in
-    accepted (postedAll tariff counts book window (trip .checkout .0) rides) (partsOf tariff counts book window (trip .checkout .0) rides)
+    accepted (tripPosted tariff counts book bytes trip window) (tripParts tariff counts book bytes trip window)
 
--- ---- The outcome.
+-- the book that has the trip of some bytes, in the window that it belongs to or opens
+abbrev pub bookWith : List ℕ → Counts → List ℕ → List ℕ → List ℕ
+bookWith tariff counts book trip = tripPosted tariff counts book trip (tripOf trip) (windowOf book (checkinOf trip) (checkoutOf trip))
+
+-- ---- The quote.
 
 -- of a trip on a book, under a tariff without fault, with so many bytes of room for the records. 4 to 12 have no place
-unfoldable pub settledUnder : List ℕ → Counts → List ℕ → List ℕ → ℕ → Outcome
-settledUnder tariff counts book trip room =
+unfoldable pub quotedUnder : List ℕ → Counts → List ℕ → List ℕ → ℕ → Quote
+quotedUnder tariff counts book trip room =
     elim (decidedUnder tariff counts book trip room) [
-      | Refused why ↦ refused (refusal why) 0
-      | Clear fields window breaking ↦ acceptedTrip tariff counts book trip fields window
+      | Refused why ↦ unquoted (refusal why) 0
+      | Clear fields window breaking ↦ priced (tripParts tariff counts book trip fields window)
     ]
 
 -- under any byte string as a tariff. 1 to 3: the tariff's first fault, at its record's offset
+unfoldable pub quoted : List ℕ → List ℕ → List ℕ → ℕ → Quote
+quoted tariff book trip room =
+    elim (readTariff tariff) [
+      | Fault number at ↦ unquoted number at
+      | Faultless counts ↦ quotedUnder tariff counts book trip room
+    ]
+
+-- ---- The outcome.
+
+-- the quote's refusal; or its parts, with the book that has them
+unfoldable pub settledUnder : List ℕ → Counts → List ℕ → List ℕ → ℕ → Outcome
+settledUnder tariff counts book trip room =
+    elim (quotedUnder tariff counts book trip room) [
+      | unquoted number place ↦ refused number place
+      | priced parts ↦ accepted (bookWith tariff counts book trip) parts
+    ]
+
+-- under any byte string as a tariff
 unfoldable pub settled : List ℕ → List ℕ → List ℕ → ℕ → Outcome
 settled tariff book trip room =
     elim (readTariff tariff) [
@@ -89,28 +123,59 @@ settled tariff book trip room =
       | Faultless counts ↦ settledUnder tariff counts book trip room
     ]
 
--- a refusal returns its number and a place; acceptance returns the bytes written
+-- ---- What comes back.
+
+-- a refusal returns its number and a place
+abbrev pub refusedAs : ℕ → ℕ → ℕ
+refusedAs number place = number * 2 ^ 32 + place
+
+-- acceptance returns the bytes written
 abbrev pub answerOf : Outcome → ℕ
-answerOf (refused number place) = number * 2 ^ 32 + place
+answerOf (refused number place) = refusedAs number place
 answerOf (accepted new parts) = length (statementOf parts)
+
+abbrev pub quoteAnswer : Quote → ℕ
+quoteAnswer (unquoted number place) = refusedAs number place
+quoteAnswer (priced parts) = length (statementOf parts)
 
 -- a refused trip has no part
 abbrev pub partsIn : Outcome → List Part
 partsIn (refused number place) = []
 partsIn (accepted new parts) = parts
 
+abbrev pub partsPriced : Quote → List Part
+partsPriced (unquoted number place) = []
+partsPriced (priced parts) = parts
+
+-- the bytes that a quote writes
+abbrev pub quoteBytes : Quote → List ℕ
+quoteBytes quote = statementOf (partsPriced quote)
+
 -- a refusal leaves the book; acceptance replaces it
 abbrev pub bookAfter : Outcome → List ℕ → List ℕ
 bookAfter (refused number place) book = book
 bookAfter (accepted new parts) book = new
 
--- a refusal leaves the statement; acceptance puts the parts' records at its start, and its further bytes stay
+-- the parts' records stand at the start of the statement, and its further bytes stay
+abbrev pub statementWith : List Part → List ℕ → List ℕ
+statementWith parts statement = statementOf parts ++ drop (length (statementOf parts)) statement
+
+-- a refusal leaves the statement
 abbrev pub statementAfter : Outcome → List ℕ → List ℕ
 statementAfter (refused number place) statement = statement
-statementAfter (accepted new parts) statement = statementOf parts ++ drop (length (statementOf parts)) statement
+statementAfter (accepted new parts) statement = statementWith parts statement
+
+abbrev pub quoteAfter : Quote → List ℕ → List ℕ
+quoteAfter (unquoted number place) statement = statement
+quoteAfter (priced parts) statement = statementWith parts statement
 
 -- the answer and every byte left behind are the outcome's
 pub record Settled (outcome : Outcome) (book book′ statement statement′ : List ℕ) (r : ℕ) : Type 0 where
   pub answer : r ≡ answerOf outcome
   pub book-is : book′ ≡ bookAfter outcome book
   pub statement-is : statement′ ≡ statementAfter outcome statement
+
+-- the quote's; the book is only read
+pub record Quoted (quote : Quote) (statement statement′ : List ℕ) (r : ℕ) : Type 0 where
+  pub answer : r ≡ quoteAnswer quote
+  pub statement-is : statement′ ≡ quoteAfter quote statement

@@ -1,5 +1,6 @@
--- docs/RULES.md, section 13: the refusals 4 to 12 as a table. A row is a refusal and its test; the first row whose test holds decides.
--- Each test is a function of the bytes alone, so that a row stands by itself and rows can change places.
+-- docs/RULES.md, section 13: the refusals from 4 on as a table. A row is a refusal and its test; the first row whose test holds decides.
+-- Each test is a function of the bytes alone, so that a row stands by itself and rows can change places. Settling, a quote and a posting
+-- have the rows 4 to 11 in common; settling and a quote end in 12, a posting in 13 (`Posting`).
 use Prim.Native.Nat.{ℕ, _+_}
 use mathlib.Core.Path.{_≡_}
 use mathlib.Core.List.{List, [], _∷_}
@@ -25,6 +26,7 @@ use Rattle.settle.specs.declared.refusals.Refusal.the-variants.{
   TooEarly,
   FullWindow,
   NoRoom,
+  OtherRecord,
 }
 
 -- their numbers
@@ -38,16 +40,17 @@ refusal WrongOrder = 9
 refusal TooEarly = 10
 refusal FullWindow = 11
 refusal NoRoom = 12
+refusal OtherRecord = 13
 
--- the largest of them
+-- the largest that settling and a quote give
 abbrev pub lastRefusal : ℕ
-lastRefusal = 12
+lastRefusal = refusal NoRoom
 
 pub record Row : Type 0 where
   pub why : Refusal
   pub test : Bool
 
-abbrev row : Refusal → Bool → Row
+abbrev pub row : Refusal → Bool → Row
 row why test = record { why = why; test = test }
 
 -- 4: book not sound
@@ -58,9 +61,9 @@ row why test = record { why = why; test = test }
 -- 9: check-out before check-in, or over 1,440 minutes after it
 -- 10: check-in before the book's last check-out (word 0 not 0)
 -- 11: the trip would be the 257th of its window; each of its rides counts as one
--- 12: statement slice shorter than the charge records of its rides
-unfoldable pub rows : List ℕ → Counts → List ℕ → List ℕ → ℕ → List Row
-rows tariff counts book trip room =
+-- and then a last row
+abbrev pub rowsTo : List ℕ → Counts → List ℕ → List ℕ → Row → List Row
+rowsTo tariff counts book trip last =
     let rides = ridesOf tariff counts trip (tripOf trip) in
     row UnsoundBook (not (sound book (counts .areas)))
     ∷ row NoTrip (not (isTrip trip))
@@ -70,8 +73,12 @@ rows tariff counts book trip room =
     ∷ row WrongOrder (not (inOrder (checkinOf trip) (checkoutOf trip)))
     ∷ row TooEarly (tooEarly book (checkinOf trip))
     ∷ row FullWindow (ltb 256 (windowOf book (checkinOf trip) (checkoutOf trip) .trips + length rides))
-    ∷ row NoRoom (ltb room (statementSize rides))
+    ∷ last
     ∷ []
+
+-- settling and a quote. 12: statement slice shorter than the charge records of its rides
+unfoldable pub rows : List ℕ → Counts → List ℕ → List ℕ → ℕ → List Row
+rows tariff counts book trip room = rowsTo tariff counts book trip (row NoRoom (ltb room (statementSize (ridesOf tariff counts trip (tripOf trip)))))
 
 -- no row, or the row of a refusal
 pub data Found : Type 0 where

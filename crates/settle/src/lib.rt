@@ -1,34 +1,44 @@
-// Settling one trip: the twelve refusals in their order, or its charge records and the new book.
+// Settling one trip: the twelve refusals in their order, or its charge records and the new book. And the same in two steps: a quote, which
+// writes only the records, and the posting of that quote, which writes only the book.
 //
-// refusals.rt the refusals 4 to 12 by their names, with their numbers
+// refusals.rt the refusals from 4 on by their names, with their numbers
+// ready.rt    tariff and book, before any trip
 // decide.rt   what is decided of a trip; only reads
-// write.rt    the records and the book of a trip that meets no refusal
+// plan.rt     with the rides that it is charged as; only reads
+// state.rt    the records of a trip's rides; of the book it only reads
+// post.rt     the rides posted to the book
+// quote.rt    a quote
+// posting.rt  the posting of a quote
 //
-// Decide first, write last: only where all twelve conditions are clear are book and statement written.
-use book::sound::is_sound;
-use decide::Decision;
-use decide::decide;
-use refusals::Refusal;
+// Decide first, write last: only where all conditions are clear are book and statement written.
+use book::MOST_CHARGES;
+use plan::Plan;
+use plan::plan_trip;
+use post::post_rides;
+use ready::Readiness;
+use ready::readiness_of;
 use refusals::number;
+use state::state_rides;
 use tariff::Counts;
-use tariff::Reading;
-use tariff::scan::read_tariff;
-use write::write;
-ghost use Rattle.tariff.specs.Areas.{Read};
-ghost use Rattle.settle.specs.Contracts.{Ready, NextSettled, UnderSettled, TripSettled};
+ghost use Rattle.settle.specs.Contracts.{Ready, NextSettled, TripSettled};
 
 pub mod decide;
+pub mod plan;
+pub mod post;
+pub mod posting;
+pub mod quote;
+pub mod ready;
 pub mod refusals;
-pub mod write;
+pub mod state;
 
-// What settling comes to: a refusal's number and place, or the bytes written.
+// What settling, a quote or a posting comes to: a refusal's number and place, or the bytes written.
 pub enum Answer {
     Refused { number: u8, place: usize },
     Written(usize),
 }
 
 // 5 to 12: on a book that is sound, which is left sound. What a roll does for each record, with neither tariff nor book looked through
-// again.
+// again. The rides of a trip that meets no refusal are stated, then posted.
 pub fn settle_next(
     tariff: &[u8],
     counts: Counts,
@@ -39,41 +49,35 @@ pub fn settle_next(
     requires { ⌜ Ready (now tariff) counts (now book) ⌝ }
     ensures { λ r. ⌜ NextSettled (now (tariff .entry)) counts (now (book .entry)) (now (trip .entry)) (now (statement .entry)) (now (book .exit)) (now (statement .exit)) r ⌝ }
 {
-    match decide(tariff, counts, book, trip, statement.len()) {
-        Decision::Refused(why) => Answer::Refused {
+    match plan_trip(tariff, counts, book, trip, statement.len()) {
+        Plan::Refuse(why) => Answer::Refused {
             number: number(why),
             place: 0,
         },
-        Decision::Clear(fields, window, breaking) => Answer::Written(write(
-            tariff,
-            counts,
-            book,
-            trip,
-            fields,
-            window,
-            breaking,
-            statement,
-        )),
-    }
-}
-
-// 4 to 12: under a tariff that was read without fault.
-pub fn settle_under(
-    tariff: &[u8],
-    counts: Counts,
-    book: &mut [u8],
-    trip: &[u8],
-    statement: &mut [u8],
-) -> Answer
-    requires { ⌜ Read (now tariff) counts ⌝ }
-    ensures { λ r. ⌜ UnderSettled (now (tariff .entry)) counts (now (book .entry)) (now (trip .entry)) (now (statement .entry)) (now (book .exit)) (now (statement .exit)) r ⌝ }
-{
-    if is_sound(book, counts.areas) {
-        settle_next(tariff, counts, book, trip, statement)
-    } else {
-        Answer::Refused {
-            number: number(Refusal::UnsoundBook),
-            place: 0,
+        Plan::Charge(window, checkout, rides) => {
+            let mut firsts = [0u32; MOST_CHARGES];
+            let mut seconds = [0u32; MOST_CHARGES];
+            let size = state_rides(
+                tariff,
+                counts,
+                book,
+                window,
+                rides,
+                &mut firsts,
+                &mut seconds,
+                statement,
+            );
+            post_rides(
+                tariff,
+                counts,
+                book,
+                window,
+                checkout,
+                rides,
+                &firsts,
+                &seconds,
+            );
+            Answer::Written(size)
         }
     }
 }
@@ -83,8 +87,8 @@ pub fn settle_under(
 pub fn settle(tariff: &[u8], book: &mut [u8], trip: &[u8], statement: &mut [u8]) -> Answer
     ensures { λ r. ⌜ TripSettled (now (tariff .entry)) (now (book .entry)) (now (trip .entry)) (now (statement .entry)) (now (book .exit)) (now (statement .exit)) r ⌝ }
 {
-    match read_tariff(tariff) {
-        Reading::Fault { number, at } => Answer::Refused { number, place: at },
-        Reading::Faultless(counts) => settle_under(tariff, counts, book, trip, statement),
+    match readiness_of(tariff, book) {
+        Readiness::Refused { number, place } => Answer::Refused { number, place },
+        Readiness::Ready(counts) => settle_next(tariff, counts, book, trip, statement),
     }
 }

@@ -1,4 +1,4 @@
-// The refusals 4 to 12 by their names. Their order is the table's, which `decide` follows.
+// The refusals from 4 on by their names. Their order is the table's, which `decide` follows; 13 is a posting's alone.
 ghost use mathlib.Core.Path.{_≡_};
 ghost use Rattle.settle.specs.Refusals.{refusal};
 
@@ -12,6 +12,7 @@ pub enum Refusal {
     TooEarly,
     FullWindow,
     NoRoom,
+    OtherRecord,
 }
 
 // The number that a refusal is given under.
@@ -28,5 +29,6 @@ pub fn number(why: Refusal) -> u8
         Refusal::TooEarly => 10,
         Refusal::FullWindow => 11,
         Refusal::NoRoom => 12,
+        Refusal::OtherRecord => 13,
     }
 }

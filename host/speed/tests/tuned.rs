@@ -1,6 +1,6 @@
 //! The tuned implementation settles as the model does, and its program prints what the model's prints.
 
-use milecopper_host::differential::{compare, number_of, Options};
+use milecopper_host::differential::{compare, number_of, Functions, Options, MODEL};
 use milecopper_host::maker::bytes_of;
 use milecopper_host::model;
 use milecopper_host::model::book::BOOK_BYTES;
@@ -15,7 +15,8 @@ const PAPER_ROLL: &[u8] = include_bytes!("../../../samples/paper-roll.bin");
 #[test]
 fn it_settles_as_the_model_does() {
     let options = Options { seeds: vec![5], longer: 1, part: None, names: Vec::new() };
-    if let Err(difference) = compare("the tuned implementation", tuned::settle, &options) {
+    let functions = Functions { settle: tuned::settle, ..MODEL };
+    if let Err(difference) = compare("the tuned implementation", functions, &options) {
         panic!("{difference}");
     }
 }

@@ -2,7 +2,7 @@
 //! a kind of acceptance was met too seldom.
 
 use milecopper_host::differential::{compare, status, Options, USAGE};
-use milecopper_host::library::settle_to_number;
+use milecopper_host::library::LIBRARY;
 use std::env;
 use std::process::ExitCode;
 
@@ -12,7 +12,7 @@ fn main() -> ExitCode {
         Ok(options) => return usage(&format!("'{}' is not asked for", options.names[0])),
         Err(fault) => return usage(&fault),
     };
-    status(compare("the library", settle_to_number, &options))
+    status(compare("the library", LIBRARY, &options))
 }
 
 fn usage(fault: &str) -> ExitCode {

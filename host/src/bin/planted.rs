@@ -14,10 +14,10 @@ fn main() -> ExitCode {
     let [wanted] = &options.names[..] else {
         return usage("one name is due");
     };
-    let Some((_, settle)) = all().into_iter().find(|(name, _)| name == wanted) else {
+    let Some((_, functions)) = all().into_iter().find(|(name, _)| name == wanted) else {
         return usage(&format!("'{wanted}' is unknown"));
     };
-    status(compare("the copy", settle, &options))
+    status(compare("the copy", functions, &options))
 }
 
 fn usage(fault: &str) -> ExitCode {

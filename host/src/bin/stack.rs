@@ -4,10 +4,10 @@
 //! The arguments are the words that start c/painter.c where it is built for another processor, after that one's name; it is given
 //! the same calls.
 
-use milecopper_host::differential::{settle_alike, Options};
+use milecopper_host::differential::{run_alike, Functions, Options};
 use milecopper_host::examples::{run, FILES};
-use milecopper_host::library::settle_to_number;
-use milecopper_host::stack::{bytes_of, depth, Call, FUNCTIONS, IS_PAINTED, SETTLE};
+use milecopper_host::library::LIBRARY;
+use milecopper_host::stack::{bytes_of, depth_of, Call, FUNCTIONS, IS_PAINTED, POST, QUOTE, SETTLE};
 use std::io::{BufWriter, Read, Write};
 use std::process::{Child, ChildStdin, Command, ExitCode, Stdio};
 use std::sync::atomic::{AtomicUsize, Ordering::Relaxed};
@@ -17,18 +17,33 @@ use std::{env, iter};
 /// The seeds of the differential test whose cases are painted: half of its fixed run.
 const SEEDS: [u64; 2] = [1, 2];
 
+/// For each function how many calls were painted, and the most bytes that one took.
+static CALLS: [AtomicUsize; FUNCTIONS.len()] = [const { AtomicUsize::new(0) }; FUNCTIONS.len()];
 static MOST: [AtomicUsize; FUNCTIONS.len()] = [const { AtomicUsize::new(0) }; FUNCTIONS.len()];
-static CALLS: AtomicUsize = AtomicUsize::new(0);
 static PAINTER: Mutex<Option<BufWriter<ChildStdin>>> = Mutex::new(None);
 
-fn painted(tariff: &[u8], book: &mut [u8], trip: &[u8], statement: &mut [u8]) -> u64 {
-    let call = Call { tariff, book, trip, room: statement.len() };
-    CALLS.fetch_add(1, Relaxed);
-    MOST[SETTLE].fetch_max(depth(&call), Relaxed);
+/// The library, with each call made on a painted stack first.
+const PAINTED: Functions = Functions {
+    settle: |tariff, book, trip, statement| {
+        paint(SETTLE, &Call { tariff, book, trip, fourth: statement });
+        (LIBRARY.settle)(tariff, book, trip, statement)
+    },
+    quote: |tariff, book, trip, statement| {
+        paint(QUOTE, &Call { tariff, book, trip, fourth: statement });
+        (LIBRARY.quote)(tariff, book, trip, statement)
+    },
+    post: |tariff, book, trip, record| {
+        paint(POST, &Call { tariff, book, trip, fourth: record });
+        (LIBRARY.post)(tariff, book, trip, record)
+    },
+};
+
+fn paint(function: usize, call: &Call) {
+    CALLS[function].fetch_add(1, Relaxed);
+    MOST[function].fetch_max(depth_of(function, call), Relaxed);
     if let Some(painter) = PAINTER.lock().expect("one thread").as_mut() {
-        painter.write_all(&bytes_of(SETTLE, &call)).expect("the painter takes calls");
+        painter.write_all(&bytes_of(function, call)).expect("the painter takes calls");
     }
-    settle_to_number(tariff, book, trip, statement)
 }
 
 fn main() -> ExitCode {
@@ -46,9 +61,9 @@ fn main() -> ExitCode {
     let there = other.map(|(processor, painter)| (processor, end_painter(painter)));
     let mut status = ExitCode::SUCCESS;
     for (processor, most) in iter::once(here).chain(there) {
-        for (function, most) in FUNCTIONS.iter().zip(most) {
+        for ((function, most), calls) in FUNCTIONS.iter().zip(most).zip(&CALLS) {
             let (name, limit) = (function.name, function.limit);
-            println!("stack: {name} takes {most} bytes at most, of {limit} that it may ({processor}, {CALLS:?} calls)");
+            println!("stack: {name} takes {most} bytes at most, of {limit} that it may ({processor}, {calls:?} calls)");
             if most > limit {
                 status = ExitCode::FAILURE;
             }
@@ -59,10 +74,10 @@ fn main() -> ExitCode {
 
 fn paint_all() -> Result<(), String> {
     for (file, text) in FILES {
-        run(text, painted, None).map_err(|told| format!("{file}, {told}"))?;
+        run(text, PAINTED, None).map_err(|told| format!("{file}, {told}"))?;
     }
     let options = Options { seeds: SEEDS.to_vec(), longer: 1, part: None, names: Vec::new() };
-    settle_alike("the library", painted, &options).map(|_| ())
+    run_alike("the library", PAINTED, &options).map(|_| ())
 }
 
 fn start_painter(words: &[String]) -> Child {

@@ -1,4 +1,4 @@
-//! A case, and the draft of one.
+//! A case, what is done with it, and the draft of one.
 
 use super::fields::Layout;
 use super::trips::Plan;
@@ -13,6 +13,34 @@ pub struct Case {
     pub room: usize,
     /// How it was made, for whoever reads about a difference.
     pub story: Vec<&'static str>,
+}
+
+/// What is asked of both sides.
+#[derive(Clone, Copy)]
+pub enum Call<'a> {
+    Settle,
+    Quote,
+    /// With this record instead of the statement.
+    Post(&'a [u8]),
+}
+
+impl Call<'_> {
+    /// What was done where it was accepted.
+    pub fn done(self) -> &'static str {
+        match self {
+            Call::Settle => "settled",
+            Call::Quote => "quoted",
+            Call::Post(_) => "posted",
+        }
+    }
+
+    /// What the fourth slice is.
+    pub fn fourth(self) -> &'static str {
+        match self {
+            Call::Settle | Call::Quote => "statement",
+            Call::Post(_) => "record",
+        }
+    }
 }
 
 /// A case together with what it was made of, before any damage.

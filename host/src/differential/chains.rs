@@ -1,15 +1,17 @@
-//! Trips settled one after another on one book, with damaged cases in between.
+//! Trips settled one after another on one book, with damaged cases in between, and quotes and postings beside both.
 
 use super::books::{fresh, sound_at_the_edges};
 use super::cases::{Case, Draft};
 use super::damage::damage;
 use super::fields::Layout;
+use super::quotes::beside;
 use super::random::Random;
 use super::run::{Difference, Run};
 use super::tariffs::tariff;
 use super::trips::{plan, start};
 use crate::model::read_tariff;
 use crate::model::tariff::Tariff;
+use std::mem::replace;
 
 const STEPS: u64 = 24;
 
@@ -18,6 +20,8 @@ struct Chain {
     bytes: Vec<u8>,
     tariff: Tariff,
     book: Vec<u8>,
+    /// The book that the last accepted trip found.
+    before: Option<Vec<u8>>,
     /// The check-in of the next trip, where the book has none.
     now: u64,
 }
@@ -34,13 +38,15 @@ pub fn chain(random: &mut Random, run: &mut Run) -> Result<(), Difference> {
         let mut draft = chain.draft(random);
         if random.chance(58) {
             damage(random, &mut draft);
-            run.check(&draft.case)?;
+            let outcome = run.check(&draft.case)?;
+            beside(random, run, &draft.case, &outcome, chain.before.as_deref())?;
         } else {
             let outcome = run.check(&draft.case)?;
+            beside(random, run, &draft.case, &outcome, chain.before.as_deref())?;
             match outcome.answer {
-                Ok(_) => chain.book = outcome.book,
+                Ok(_) => chain.before = Some(replace(&mut chain.book, outcome.book)),
                 // At the end of the century, or with a book that the present tariff cannot read.
-                Err(_) => (chain.book, chain.now) = (fresh(), start(random)),
+                Err(_) => (chain.book, chain.before, chain.now) = (fresh(), None, start(random)),
             }
         }
     }
@@ -54,6 +60,7 @@ impl Chain {
             bytes: Vec::new(),
             tariff: Tariff { areas: vec![], factors: vec![], stops: vec![] },
             book: fresh(),
+            before: None,
             now,
         };
         chain.change_tariff(random);

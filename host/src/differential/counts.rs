@@ -1,8 +1,9 @@
-//! How many cases ended in each refusal and in each kind of acceptance.
+//! How many settled cases ended in each refusal and in each kind of acceptance, and what quotes and postings came to.
 
 use super::cases::Case;
 use super::cuts::RARE;
 use super::kinds::{kinds_of, KINDS};
+use super::offers::Offers;
 use super::particulars::PARTICULARS;
 use crate::answer::Refusal;
 use crate::model::statement::ChargeRecord;
@@ -17,6 +18,12 @@ pub struct Counts {
     refusals: [u64; 13],
     /// Ways in which single refusals come about.
     particulars: [u64; PARTICULARS.len()],
+    pub quotes: Offers,
+}
+
+/// Those that settling gives.
+fn refusals() -> impl Iterator<Item = Refusal> {
+    Refusal::ALL.into_iter().filter(|&refusal| refusal != Refusal::OtherRecord)
 }
 
 impl Counts {
@@ -39,8 +46,9 @@ impl Counts {
         self.refusals.iter().sum()
     }
 
-    pub fn cases(&self) -> u64 {
-        self.accepted + self.refused()
+    /// Everything that was called.
+    fn cases(&self) -> u64 {
+        self.accepted + self.refused() + self.quotes.calls()
     }
 
     /// Each kind with its count.
@@ -50,8 +58,7 @@ impl Counts {
 
     /// The refusals and kinds that fewer than 1 % of their half ended in, and what was not met at all.
     pub fn too_few(&self) -> Vec<String> {
-        let refusals =
-            Refusal::ALL.into_iter().filter(|&refusal| self.refusals[refusal as usize] * 100 < self.refused());
+        let refusals = refusals().filter(|&refusal| self.refusals[refusal as usize] * 100 < self.refused());
         let is_few = |kind, count| if kind == RARE { count == 0 } else { count * 100 < self.accepted };
         let kinds = self.counted_kinds().filter(|&(kind, count)| is_few(kind, count));
         let refusals = refusals.map(|refusal| format!("refusal {}", refusal as u32));
@@ -61,6 +68,7 @@ impl Counts {
                 all.push(format!("refusal {number}, {way}"));
             }
         }
+        all.extend(self.quotes.too_few());
         if self.accepted == 0 {
             all.push("accepted cases".to_string());
         }
@@ -77,7 +85,7 @@ impl fmt::Display for Counts {
             writeln!(out, "  {count:>8} {:>5.1} %  {what}", 100.0 * count as f64 / half.max(1) as f64)
         };
         writeln!(out, "refused {}", self.refused())?;
-        for refusal in Refusal::ALL {
+        for refusal in refusals() {
             let what = format!("{:>2} {}", refusal as u32, refusal.text());
             line(out, self.refusals[refusal as usize], self.refused(), &what)?;
         }
@@ -88,6 +96,6 @@ impl fmt::Display for Counts {
         for (kind, count) in self.counted_kinds() {
             line(out, count, self.accepted, kind)?;
         }
-        write!(out, "cases {}", self.cases())
+        write!(out, "{}cases {}", self.quotes, self.cases())
     }
 }

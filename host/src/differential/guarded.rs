@@ -11,6 +11,7 @@ extern "C" {
 }
 
 const NO_ACCESS: c_int = 0;
+const READ: c_int = 1;
 const READ_AND_WRITE: c_int = 3;
 const PRIVATE_AND_ANONYMOUS: c_int = 0x22;
 
@@ -42,11 +43,16 @@ impl Guarded {
         // SAFETY: a fresh mapping that nobody else knows.
         let mapping = unsafe { mmap(ptr::null_mut(), ROOM + 2 * PAGE, NO_ACCESS, PRIVATE_AND_ANONYMOUS, -1, 0) };
         assert!(mapping as isize != -1, "no memory for guarded slices");
-        let mapping = mapping.cast::<u8>();
+        let guarded = Guarded { mapping: mapping.cast(), start: 0, length: 0, page: Page::After };
+        guarded.open(READ_AND_WRITE);
+        guarded
+    }
+
+    /// Opens what lies between the protected pages.
+    fn open(&self, access: c_int) {
         // SAFETY: the middle of the mapping.
-        let status = unsafe { mprotect(mapping.add(PAGE).cast(), ROOM, READ_AND_WRITE) };
+        let status = unsafe { mprotect(self.mapping.add(PAGE).cast(), ROOM, access) };
         assert!(status == 0, "the guarded slices cannot be opened");
-        Guarded { mapping, start: 0, length: 0, page: Page::After }
     }
 
     /// Puts these bytes beside a protected page, and canaries on their other side.
@@ -73,6 +79,17 @@ impl Guarded {
     pub fn bytes_mut(&mut self) -> &mut [u8] {
         let (start, length) = (self.start, self.length);
         &mut self.room_mut()[start..start + length]
+    }
+
+    /// Lends the slice to be read; where it is locked, a byte written to it is seen, even if it is written back.
+    pub fn locked<T>(&self, is_locked: bool, read: impl FnOnce(&[u8]) -> T) -> T {
+        if !is_locked {
+            return read(self.bytes());
+        }
+        self.open(READ);
+        let result = read(self.bytes());
+        self.open(READ_AND_WRITE);
+        result
     }
 
     /// Whether no byte beside the slice was changed.

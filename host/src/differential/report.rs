@@ -1,22 +1,29 @@
 //! A case and a difference in words.
 
 use super::books::{word, BICYCLES, BYTES, WORDS};
-use super::cases::Case;
+use super::cases::{Call, Case};
 use crate::answer::Answer;
 
 /// All that is needed to run the case again. The lines of bytes are as the maker reads them.
 pub fn case_in_words(case: &Case) -> String {
     let story = case.story.join(", ");
     format!(
-        "made as: {story}\ntariff of {} bytes:{}\nbook of {} bytes:{}\ntrip of {} bytes:{}\nstatement of {} bytes\n",
+        "made as: {story}\ntariff of {} bytes:{}\nbook of {} bytes:{}\ntrip of {} bytes:{}\n",
         case.tariff.len(),
         hexadecimal(&case.tariff),
         case.book.len(),
         book_in_words(&case.book),
         case.trip.len(),
         hexadecimal(&case.trip),
-        case.room,
     )
+}
+
+/// What is done with it.
+pub fn call_in_words(case: &Case, call: Call) -> String {
+    match call {
+        Call::Settle | Call::Quote => format!("{}, with a statement of {} bytes\n", call.done(), case.room),
+        Call::Post(record) => format!("posted, with a record of {} bytes:{}\n", record.len(), hexadecimal(record)),
+    }
 }
 
 /// What an answer's number stands for.

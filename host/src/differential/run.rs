@@ -1,15 +1,14 @@
 //! Runs one case after another on both sides, and compares.
 
-use super::cases::Case;
+use super::cases::{Call, Case};
 use super::counts::Counts;
+use super::functions::{number_of, Functions};
 use super::guarded::{Guarded, Page};
-use super::report::{answer_in_words, books_differ, case_in_words, slices_differ};
+use super::offers::Offer;
+use super::report::{answer_in_words, books_differ, call_in_words, case_in_words, slices_differ};
 use super::signals::{now_at, set_alarm};
 use crate::model::statement::ChargeRecord;
 use crate::model::{self, Refusal};
-
-/// Something that settles as the library does: tariff, book, trip, statement, and the answer's number.
-pub type Settle = fn(&[u8], &mut [u8], &[u8], &mut [u8]) -> u64;
 
 /// A difference, in words.
 pub type Difference = String;
@@ -17,11 +16,12 @@ pub type Difference = String;
 pub struct Run {
     /// What is compared with the model.
     name: &'static str,
-    settle: Settle,
+    functions: Functions,
     tariff: Guarded,
     book: Guarded,
     trip: Guarded,
-    statement: Guarded,
+    /// The statement, or a posting's record.
+    fourth: Guarded,
     pub counts: Counts,
     /// Whether each case is printed before it is run.
     print: bool,
@@ -35,14 +35,22 @@ pub struct Run {
 pub struct Outcome {
     pub answer: Result<usize, Refusal>,
     pub book: Vec<u8>,
-    statement: Vec<u8>,
+    /// The statement, or a posting's record.
+    fourth: Vec<u8>,
+}
+
+impl Outcome {
+    /// The charge records that settling or a quote wrote; nothing where it refused.
+    pub fn records(&self) -> Option<&[u8]> {
+        self.answer.ok().map(|written| &self.fourth[..written])
+    }
 }
 
 impl Run {
-    pub fn of(name: &'static str, settle: Settle, print: bool) -> Run {
-        let [tariff, book, trip, statement] = [(); 4].map(|_| Guarded::new());
+    pub fn of(name: &'static str, functions: Functions, print: bool) -> Run {
+        let [tariff, book, trip, fourth] = [(); 4].map(|_| Guarded::new());
         let counts = Counts::default();
-        Run { name, settle, tariff, book, trip, statement, counts, print, seed: 0, part: 0, case: 0 }
+        Run { name, functions, tariff, book, trip, fourth, counts, print, seed: 0, part: 0, case: 0 }
     }
 
     pub fn start_part(&mut self, seed: u64, part: u64) {
@@ -50,25 +58,12 @@ impl Run {
         (self.seed, self.part, self.case) = (seed, part, 0);
     }
 
-    /// Runs a case on both sides.
+    /// Settles a case on both sides.
     pub fn check(&mut self, case: &Case) -> Result<Outcome, Difference> {
-        self.case += 1;
-        now_at(self.seed, self.part, self.case);
-        if self.print {
-            println!("case {}\n{}", self.case, case_in_words(case));
-        }
-        let blank = blank_statement(case.room, self.case);
-        let (mut book, mut statement) = (case.book.clone(), blank.clone());
-        let answer = model::settle(&case.tariff, &mut book, &case.trip, &mut statement);
-        let outcome = Outcome { answer, book, statement };
-        let number = self.settle_guarded(case, &blank);
-        let faults = self.faults(case, &blank, &outcome, number);
-        if !faults.is_empty() {
-            return Err(self.difference(case, &faults));
-        }
-        match answer {
+        let outcome = self.run(case, Call::Settle)?;
+        match outcome.answer {
             Ok(written) => {
-                let records = &outcome.statement[..written];
+                let records = &outcome.fourth[..written];
                 let records = ChargeRecord::read_all(records).expect("the model writes charge records");
                 self.counts.count_accepted(case, &records);
             }
@@ -77,20 +72,70 @@ impl Run {
         Ok(outcome)
     }
 
-    /// Settles on the other side, each slice beside a protected page. Which side the page is on changes from case to
-    /// case, for each slice by itself.
-    fn settle_guarded(&mut self, case: &Case, blank: &[u8]) -> u64 {
+    /// Quotes a case on both sides.
+    pub fn check_quote(&mut self, case: &Case) -> Result<Outcome, Difference> {
+        let outcome = self.run(case, Call::Quote)?;
+        self.counts.quotes.count_quote(outcome.answer);
+        Ok(outcome)
+    }
+
+    /// Posts a case on both sides with this record, which was made so.
+    pub fn check_post(&mut self, case: &Case, record: &[u8], offer: Offer) -> Result<Outcome, Difference> {
+        let outcome = self.run(case, Call::Post(record))?;
+        self.counts.quotes.count_posting(offer, outcome.answer);
+        Ok(outcome)
+    }
+
+    /// Makes a call on both sides.
+    fn run(&mut self, case: &Case, call: Call) -> Result<Outcome, Difference> {
+        self.case += 1;
+        now_at(self.seed, self.part, self.case);
+        if self.print {
+            println!("case {}\n{}{}", self.case, case_in_words(case), call_in_words(case, call));
+        }
+        let lent = match call {
+            Call::Post(record) => record.to_vec(),
+            _ => blank_statement(case.room, self.case),
+        };
+        let (mut book, mut fourth) = (case.book.clone(), lent.clone());
+        let answer = match call {
+            Call::Settle => model::settle(&case.tariff, &mut book, &case.trip, &mut fourth),
+            Call::Quote => model::quote(&case.tariff, &book, &case.trip, &mut fourth),
+            Call::Post(_) => model::post(&case.tariff, &mut book, &case.trip, &fourth),
+        };
+        let outcome = Outcome { answer, book, fourth };
+        let number = self.call_guarded(case, call, &lent);
+        let faults = self.faults(case, call, &lent, &outcome, number);
+        if faults.is_empty() {
+            Ok(outcome)
+        } else {
+            Err(self.difference(case, call, &faults))
+        }
+    }
+
+    /// Makes the call on the other side, each slice beside a protected page. Which side the page is on changes from case to
+    /// case, for each slice by itself. At times what is only read lies in protected pages itself.
+    fn call_guarded(&mut self, case: &Case, call: Call, lent: &[u8]) -> u64 {
         let page = |bit: u64| if (self.case >> bit) & 1 == 0 { Page::After } else { Page::Before };
         let pages = [page(0), page(1), page(2), page(3)];
         self.tariff.hold(&case.tariff, pages[0]);
         self.book.hold(&case.book, pages[1]);
         self.trip.hold(&case.trip, pages[2]);
-        self.statement.hold(blank, pages[3]);
-        (self.settle)(self.tariff.bytes(), self.book.bytes_mut(), self.trip.bytes(), self.statement.bytes_mut())
+        self.fourth.hold(lent, pages[3]);
+        let Run { functions, tariff, book, trip, fourth, .. } = self;
+        let is_locked = self.case.is_multiple_of(16);
+        match call {
+            Call::Settle => (functions.settle)(tariff.bytes(), book.bytes_mut(), trip.bytes(), fourth.bytes_mut()),
+            Call::Quote => {
+                book.locked(is_locked, |book| (functions.quote)(tariff.bytes(), book, trip.bytes(), fourth.bytes_mut()))
+            }
+            Call::Post(_) => fourth
+                .locked(is_locked, |record| (functions.post)(tariff.bytes(), book.bytes_mut(), trip.bytes(), record)),
+        }
     }
 
-    /// What is wrong after the other side has settled and answered this number.
-    fn faults(&self, case: &Case, blank: &[u8], model: &Outcome, number: u64) -> Vec<String> {
+    /// What is wrong after the other side was called, with this fourth slice, and answered this number.
+    fn faults(&self, case: &Case, call: Call, lent: &[u8], model: &Outcome, number: u64) -> Vec<String> {
         let name = self.name;
         let mut faults = Vec::new();
         let due = number_of(model.answer);
@@ -98,14 +143,15 @@ impl Run {
             let (due, found) = (answer_in_words(due), answer_in_words(number));
             faults.push(format!("the answer differs\n  by the model: {due}\n  by {name}: {found}"));
         }
-        faults.extend(books_differ(&model.book, self.book.bytes(), name));
-        faults.extend(slices_differ("the statement", &model.statement, self.statement.bytes(), name));
         let is_refused = number >> 32 != 0;
-        if is_refused && self.book.bytes() != case.book {
-            faults.push(format!("{name} refused, and changed the book"));
+        let (did, fourth) = (if is_refused { "refused" } else { call.done() }, call.fourth());
+        faults.extend(books_differ(&model.book, self.book.bytes(), name));
+        faults.extend(slices_differ(&format!("the {fourth}"), &model.fourth, self.fourth.bytes(), name));
+        if (is_refused || matches!(call, Call::Quote)) && self.book.bytes() != case.book {
+            faults.push(format!("{name} {did}, and changed the book"));
         }
-        if is_refused && self.statement.bytes() != blank {
-            faults.push(format!("{name} refused, and changed the statement"));
+        if (is_refused || matches!(call, Call::Post(_))) && self.fourth.bytes() != lent {
+            faults.push(format!("{name} {did}, and changed the {fourth}"));
         }
         if self.tariff.bytes() != case.tariff {
             faults.push(format!("{name} changed the tariff"));
@@ -113,8 +159,7 @@ impl Run {
         if self.trip.bytes() != case.trip {
             faults.push(format!("{name} changed the trip"));
         }
-        let slices =
-            [("tariff", &self.tariff), ("book", &self.book), ("trip", &self.trip), ("statement", &self.statement)];
+        let slices = [("tariff", &self.tariff), ("book", &self.book), ("trip", &self.trip), (fourth, &self.fourth)];
         for (what, slice) in slices {
             if !slice.canaries_stand() {
                 faults.push(format!("{name} wrote beside the {what}"));
@@ -123,11 +168,13 @@ impl Run {
         faults
     }
 
-    fn difference(&self, case: &Case, faults: &[String]) -> Difference {
+    /// Tells what is wrong with a call.
+    pub fn difference(&self, case: &Case, call: Call, faults: &[String]) -> Difference {
         let Run { seed, part, case: number, .. } = self;
         format!(
-            "difference at seed {seed}, part {part}, case {number}; --seed {seed} --part {part} repeats it\n{}{}",
+            "difference at seed {seed}, part {part}, case {number}; --seed {seed} --part {part} repeats it\n{}{}{}",
             case_in_words(case),
+            call_in_words(case, call),
             faults.join("\n")
         )
     }
@@ -136,17 +183,4 @@ impl Run {
 /// Other bytes in each case, so that one that is written is seen.
 fn blank_statement(room: usize, case: u64) -> Vec<u8> {
     (0..room).map(|place| (0x5b + 31 * case as usize + 7 * place) as u8).collect()
-}
-
-/// The number that stands for an answer.
-pub fn number_of(answer: Result<usize, Refusal>) -> u64 {
-    match answer {
-        Ok(written) => written as u64,
-        Err(Refusal { number, place }) => (u64::from(number) << 32) + u64::from(place),
-    }
-}
-
-/// The model, called as the library is.
-pub fn settle_by_the_model(tariff: &[u8], book: &mut [u8], trip: &[u8], statement: &mut [u8]) -> u64 {
-    number_of(model::settle(tariff, book, trip, statement))
 }

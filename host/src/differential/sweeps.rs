@@ -1,11 +1,13 @@
 //! Two good cases, one of them with a broken trip, and all that lie one step away from each: each field at each of its
 //! edges, each record of the tariff left out or put in once more anywhere, each bit flipped, each cut, each word of the
-//! book a little off, each length of the statement, the ends of months, the first and the last hours.
+//! book a little off, each length of the statement, each record that is not quite the quote, the ends of months, the first and
+//! the last hours.
 
 use super::books::{fresh, set_word, word, BICYCLES, WORDS};
 use super::cases::Case;
 use super::fields::{set, stop_field, value, values, Field, Layout, AREA, AREA_FIELDS, COUNT_FIELDS, FACTOR};
 use super::fields::{CHECK_IN, FACTOR_FIELDS, KINDS, LENGTHS, NUMBER_OF_STOPS, STAMP, STAMP_FIELDS, STOP, STOP_FIELDS};
+use super::quotes::records_beside;
 use super::random::Random;
 use super::run::{Difference, Run};
 use super::tariffs::ordinary_tariff;
@@ -27,6 +29,7 @@ pub fn sweep(random: &mut Random, run: &mut Run) -> Result<(), Difference> {
         book_words(run, &good)?;
         book_lengths(run, &good)?;
         statement_lengths(run, &good)?;
+        records_beside(run, &good)?;
         month_ends(run, &good)?;
         first_and_last_hours(run, &good)?;
     }
@@ -171,6 +174,7 @@ fn book_lengths(run: &mut Run, good: &Case) -> Result<(), Difference> {
 fn statement_lengths(run: &mut Run, good: &Case) -> Result<(), Difference> {
     for length in 0..good.room + 40 {
         check_with(run, good, "a statement of another length", |case| case.room = length)?;
+        run.check_quote(&Case { room: length, ..good.clone() })?;
     }
     Ok(())
 }

@@ -33,6 +33,13 @@
 //! = refused 12 at 0
 //! but class 2 -> class 3 = refused 6 at 0
 //! then class 2 -> class 1, stops 0 1 -> stops 0 2 = cents 345
+//! quote:         # the one trip that follows is quoted
+//! trip ..
+//! = open 526860 area 2 km 3 min 8 cents 221 off 0 by 255 0
+//! post:          # the one trip that follows is posted, by the last quote that was accepted
+//! quote whole    # or `cut 25`, its first 25 bytes; `longer 1`, a zero more; `off 9`, byte 9 one off; `first`, `second`, `swapped`
+//! trip ..
+//! = posted
 //! roll:          # the records that follow are a roll
 //! trip ..
 //! ```
@@ -47,6 +54,7 @@ use super::words::Words;
 use super::{bytes_of, lines_of, without_comment, Fault};
 use crate::model::book::BOOK_BYTES;
 use crate::numbers::put;
+use crate::offered::Offered;
 
 /// A sort of section.
 #[derive(Clone, Copy, Debug, PartialEq, Eq)]
@@ -55,17 +63,21 @@ pub enum Sort {
     Sample,
     Price,
     Settle,
+    Quote,
+    Post,
     Fresh,
     Book,
     Words,
     Roll,
 }
 
-const SORTS: [(&str, Sort); 8] = [
+const SORTS: [(&str, Sort); 10] = [
     ("tariff:", Sort::Tariff),
     ("sample:", Sort::Sample),
     ("price:", Sort::Price),
     ("settle:", Sort::Settle),
+    ("quote:", Sort::Quote),
+    ("post:", Sort::Post),
     ("fresh:", Sort::Fresh),
     ("book:", Sort::Book),
     ("words:", Sort::Words),
@@ -105,6 +117,8 @@ pub struct Content {
     pub bytes: Vec<u8>,
     /// Bytes of the statement, if that was said.
     pub room: Option<usize>,
+    /// What is made of the quote that a posting is offered.
+    pub offered: Offered,
 }
 
 /// A `but` or a `then`.
@@ -181,24 +195,45 @@ impl Draft<'_> {
 /// What the lines of a section that starts at this line give.
 fn content_of(sort: Sort, line: usize, lines: &[(usize, String)]) -> Result<Content, Fault> {
     let fault = |text: &str| Fault { line, text: format!("{} {text}", sort.name()) };
-    let mut room = None;
+    let mut content = Content { bytes: Vec::new(), room: None, offered: Offered::Whole };
     let mut records = Records::default();
     match sort {
         Sort::Sample | Sort::Fresh | Sort::Words if !lines.is_empty() => return Err(fault("takes no record")),
-        Sort::Sample => return Ok(Content { bytes: bytes_of(include_str!("../../../samples/tariff.txt"))?, room }),
-        Sort::Book => return Ok(Content { bytes: book_of(lines)?, room }),
+        Sort::Sample => {
+            return Ok(Content { bytes: bytes_of(include_str!("../../../samples/tariff.txt"))?, ..content });
+        }
+        Sort::Book => return Ok(Content { bytes: book_of(lines)?, ..content }),
         _ => (),
     }
     for (line, text) in lines {
-        match text.strip_prefix("room ") {
-            Some(bytes) if sort == Sort::Settle => room = Some(numbers(*line, bytes, ["room"])?[0]),
+        match (sort, text.split_once(' ')) {
+            (Sort::Settle | Sort::Quote, Some(("room", bytes))) => {
+                content.room = Some(numbers(*line, bytes, ["room"])?[0]);
+            }
+            (Sort::Post, Some(("quote", words))) => content.offered = offered_of(*line, words)?,
             _ => records.take(*line, text)?,
         }
     }
+    let takes_one = matches!(sort, Sort::Price | Sort::Settle | Sort::Quote | Sort::Post);
     match sort {
-        Sort::Price | Sort::Settle if records.is_without_lines() => Err(fault("has no record")),
-        Sort::Price | Sort::Settle if records.whole_records() > 1 => Err(fault("takes one record")),
-        _ => Ok(Content { bytes: records.finish()?, room }),
+        _ if takes_one && records.is_without_lines() => Err(fault("has no record")),
+        _ if takes_one && records.whole_records() > 1 => Err(fault("takes one record")),
+        _ => Ok(Content { bytes: records.finish()?, ..content }),
+    }
+}
+
+/// What is made of a quote, in a word and its number.
+fn offered_of(line: usize, text: &str) -> Result<Offered, Fault> {
+    let number = |rest: &str| numbers(line, rest, ["the number of bytes"]).map(|[number]| number);
+    match text.split_once(' ').unwrap_or((text, "")) {
+        ("whole", "") => Ok(Offered::Whole),
+        ("cut", rest) => number(rest).map(Offered::Cut),
+        ("longer", rest) => number(rest).map(Offered::Longer),
+        ("off", rest) => number(rest).map(Offered::Off),
+        ("first", "") => Ok(Offered::First),
+        ("second", "") => Ok(Offered::Second),
+        ("swapped", "") => Ok(Offered::Swapped),
+        _ => Err(Fault { line, text: format!("'{text}' makes nothing of a quote") }),
     }
 }
 
@@ -244,7 +279,7 @@ pub struct Cases {
 /// The program's input and output for a case file that has no more than it knows.
 pub fn cases_of(text: &str) -> Result<Cases, Fault> {
     let mut cases = Cases::default();
-    for Section { line, sort, content: Content { bytes, room }, expected, variants } in sections_of(text)? {
+    for Section { line, sort, content: Content { bytes, room, .. }, expected, variants } in sections_of(text)? {
         let tag = sort.tag().filter(|_| room.is_none() && variants.is_empty());
         let tag = tag.ok_or(Fault { line, text: format!("{} is not as the program knows it", sort.name()) })?;
         put(&mut cases.input, 1, u64::from(tag));

@@ -3,6 +3,7 @@
 use super::cases::{cases_of, rolls_of, sections_of, Content, Sort, Variant};
 use super::compare::difference;
 use super::*;
+use crate::offered::Offered;
 
 fn bytes(text: &str) -> Vec<u8> {
     bytes_of(text).unwrap_or_else(|fault| panic!("{fault}"))
@@ -219,12 +220,17 @@ fn faults_of_a_case_file() {
         ("settle:\nrecord 3\nthen record 3 -> route = 3", "line 3: 'route' is no sort of line"),
         ("settle:\nrecord 3\nbut record 3 -> record 4 = 3\nrecord 3", "line 4: a record outside a section"),
         ("settle:\nroom x\nrecord 3", "line 2: room 'x' is not a number"),
+        ("post:\nquote halved\nrecord 3", "line 2: 'halved' makes nothing of a quote"),
+        ("post:\nquote cut\nrecord 3", "line 2: the number of bytes is missing"),
+        ("post:\nquote whole", "line 1: post: has no record"),
+        ("post:\nroom 16\nrecord 3", "line 2: 'room' is no sort of line"),
         ("book:\nrecord 3", "line 2: 'record' is no line of a book"),
         ("book:\nword 1357 1", "line 2: a book has no word 1357"),
         ("book:\nword 3 7 7", "line 2: '7' is one word too many"),
         ("words:\nrecord 3", "line 1: words: takes no record"),
         // What only examples have.
         ("sample:", "line 1: sample: is not as the program knows it"),
+        ("quote:\nrecord 3", "line 1: quote: is not as the program knows it"),
         ("settle:\nroom 16\nrecord 3", "line 1: settle: is not as the program knows it"),
         ("settle:\nrecord 3\nbut = 3", "line 1: settle: is not as the program knows it"),
     ] {
@@ -238,11 +244,24 @@ fn variants_of_a_section() {
         "settle:\nroom 16\nrecord 3 07\n= refused 12 at 0\nbut 07 -> 08, room 16 -> room 17 = accepted # so\nthen = x";
     let [section] = &sections_of(text).expect("a case file")[..] else { panic!("one section") };
     assert_eq!((section.line, section.sort, section.expected[0].as_str()), (1, Sort::Settle, "refused 12 at 0"));
-    assert_eq!(section.content, Content { bytes: vec![3, 0, 3, 0, 7], room: Some(16) });
-    let but = Content { bytes: vec![3, 0, 3, 0, 8], room: Some(17) };
+    assert_eq!(section.content, Content { bytes: vec![3, 0, 3, 0, 7], room: Some(16), offered: Offered::Whole });
+    let but = Content { bytes: vec![3, 0, 3, 0, 8], room: Some(17), offered: Offered::Whole };
     let variant =
         |line, leaves_a_trace, content, end: &str| Variant { line, leaves_a_trace, content, end: end.to_string() };
     assert_eq!(section.variants, [variant(5, false, but, "accepted"), variant(6, true, section.content.clone(), "x")]);
+}
+
+#[test]
+fn quotes_and_postings() {
+    let all = ["whole", "cut 2", "longer 3", "off 1", "first", "second", "swapped"];
+    let made: [&[u8]; 7] =
+        [&[1, 2, 3, 4], &[1, 2], &[1, 2, 3, 4, 0, 0, 0], &[1, 3, 3, 4], &[1, 2], &[3, 4], &[3, 4, 1, 2]];
+    for (words, record) in all.into_iter().zip(made) {
+        let sections =
+            sections_of(&format!("quote:\nroom 9\nrecord 3\npost:\nquote {words}\nrecord 3")).expect("a case file");
+        assert_eq!(sections[0].content.room, Some(9));
+        assert_eq!(sections[1].content.offered.bytes(&[1, 2, 3, 4]), record, "{words}");
+    }
 }
 
 #[test]

@@ -7,14 +7,14 @@ pub struct Planted {
     pub edits: &'static [(&'static str, &'static str, &'static str)],
 }
 
-pub const PLANTED: [Planted; 10] = [
+pub const PLANTED: [Planted; 13] = [
     // Promise 1: a refusal changes nothing, and the refusals are tried in their order.
     Planted {
         name: "refusal_12_writes_the_book",
         edits: &[(
             "model.rs",
-            "outcome(tariff, book, trip, statement.len())?;",
-            "outcome(tariff, book, trip, statement.len()).inspect_err(|refusal| if refusal.number == 12 { book[0] ^= 1 })?;",
+            "(new_book, charge_records) = outcome(tariff, book, trip, statement.len())?;",
+            "(new_book, charge_records) = outcome(tariff, book, trip, statement.len()).inspect_err(|refusal| if refusal.number == 12 { book[0] ^= 1 })?;",
         )],
     },
     Planted {
@@ -90,6 +90,20 @@ pub const PLANTED: [Planted; 10] = [
             "caps.rs",
             "named.filter(|_| reduction != 0)",
             "named.filter(|cap| reduction != 0 || cap.left() == price)",
+        )],
+    },
+    // A quote before posting: 13 compares every byte, takes the place of 12, and changes nothing.
+    Planted {
+        name: "posting_compares_the_length",
+        edits: &[("model.rs", "record == bytes_of(&charge_records)", "record.len() == bytes_of(&charge_records).len()")],
+    },
+    Planted { name: "posting_refuses_by_12", edits: &[("model.rs", "trip, usize::MAX)?;", "trip, record.len())?;")] },
+    Planted {
+        name: "refusal_13_writes_the_book",
+        edits: &[(
+            "model.rs",
+            "unless(record == bytes_of(&charge_records), 13)?;",
+            "book.copy_from_slice(&new_book.bytes()); unless(record == bytes_of(&charge_records), 13)?;",
         )],
     },
 ];

@@ -1,15 +1,13 @@
--- `settle::settle` meets its contract: the tariff's first fault, or what comes under a faultless tariff.
+-- `settle::settle` meets its contract: tariff and book are refused, or what comes on a book that is ready.
 -- Assumes nothing.
-use native.Mathlib.Omega.{arith}
-use mathlib.Core.Path.{sym, _∙_}
+use Rattle.settle.proofs.Ways.{faultless-way, refusal-told}
+use Rattle.settle.proofs.Plans.{refused-settled, is-ready}
 use borrow.Author.Needs.{needs}
-use Rattle.tariff.proofs.Faults.{fault-most}
-use Rattle.settle.proofs.Ways.{fault-way, faultless-way, refusal-told}
 use Rattle.settle.proofs.settle.Statement.{statement}
 use Rattle.settle.proofs.settle.Tie as tie
 
-read-tariff-requires : tie.Need-read-tariff-requires
-read-tariff-requires c κs = search needs
+readiness-of-requires : tie.Need-readiness-of-requires
+readiness-of-requires c κs = search needs
 
 enum-known-number : tie.Need-enum-known-number
 enum-known-number c = search needs
@@ -17,35 +15,38 @@ enum-known-number c = search needs
 enum-known-counts : tie.Need-enum-known-counts
 enum-known-counts c = search needs
 
-settle-under-requires : tie.Need-settle-under-requires
-settle-under-requires c κs =
-    sym (c .before .before .before .before .before .read-tariff .ensures) ∙ c .before .before .before .counts .given .1
-
-returns : tie.Need-returns
-returns c =
-    let fault = sym (c .before .before .before .read-tariff .ensures) ∙ c .before .number .given .1 in
-    refusal-told _ _ _ _ _ (fault-way _ _ _ _ _ _ fault) (omega (arith, fault-most _ _ _ fault .1))
+settle-next-requires : tie.Need-settle-next-requires
+settle-next-requires c κs = is-ready (c .before .before .before .counts .given .1) (c .before .before .before .before .before .readiness-of .ensures)
 
 same-length : tie.Need-same-length
 same-length c = search needs
 
+returns : tie.Need-returns
+returns c =
+    let (is, near) = refused-settled (c .before .number .given .1) (c .before .before .before .readiness-of .ensures) _ _ in
+    refusal-told _ _ _ _ _ is near
+
 same-length-2 : tie.Need-same-length-2
 same-length-2 c = search needs
 
+same-length-3 : tie.Need-same-length-3
+same-length-3 c = search needs
+
 returns-2 : tie.Need-returns-2
 returns-2 c =
-    let faultless = sym (c .before .before .before .before .before .before .before .before .before .before .read-tariff .ensures) ∙ c .before .before .before .before .before .before .before .before .counts .given .1 in
-    rw (faultless-way _ _ _ _ _ faultless) (c .before .before .before .before .settle-under .ensures)
+    let ready = is-ready (c .before .before .before .before .before .before .before .before .counts .given .1) (c .before .before .before .before .before .before .before .before .before .before .readiness-of .ensures) in
+    rw (faultless-way _ _ _ _ _ (ready .read)) (c .before .before .before .before .settle-next .ensures .told)
 
 pub settle-spec : {M : Type 1} → statement M
 settle-spec =
     tie.close
     (tie.spec
-    read-tariff-requires
+    readiness-of-requires
     enum-known-number
     enum-known-counts
-    settle-under-requires
-    returns
+    settle-next-requires
     same-length
+    returns
     same-length-2
+    same-length-3
     returns-2)

@@ -1,0 +1,421 @@
+-- A quote and its posting: that together they are settling, when a posting is accepted, what its refusals say, and what comes back.
+-- Assumes nothing.
+use Prim.Native.Nat.{ℕ, _^_, _≤_, _<_}
+use native.Mathlib.Omega.{arith}
+use mathlib.Core.Path.{_≡_, refl, sym, ap, subst, _∙_}
+use mathlib.Core.Logic.{_↔_, _⊎_, inl, inr, ⊎-elim}
+use mathlib.Core.Bool.{Bool, true, false, cond, false≢true}
+use mathlib.Core.List.{List}
+use lib.ListN.{length, take, drop, length-append, length-drop}
+use lib.Seq.{take-append-seam, drop-at}
+use Rattle.tariff.specs.declared.Counts.{Counts}
+use Rattle.tariff.specs.declared.Reading.{Reading}
+use Rattle.tariff.specs.declared.Reading.the-variants.{Fault, Faultless}
+use Rattle.tariff.specs.Scan.{readTariff}
+use Rattle.tariff.specs.Areas.{Read}
+use Rattle.tariff.specs.Layout.{longestTariff}
+use Rattle.tariff.proofs.Faults.{first-fault, fault-says, fault-exactly, fault-number}
+use Rattle.trip.specs.declared.Trip.{Trip}
+use Rattle.trip.specs.Record.{countAt}
+use Rattle.trip.specs.Trips.{tripOf}
+use Rattle.fare.specs.declared.Breaking.{Breaking}
+use Rattle.fare.specs.Parts.{breakOf}
+use Rattle.book.specs.declared.Window.{Window}
+use Rattle.book.specs.Words.{bookSize}
+use Rattle.book.proofs.SoundLaws.{sound-has}
+use Rattle.statement.specs.Record.{Part, largestStatement, statementOf}
+use Rattle.settle.specs.declared.decide.Decision.{Decision}
+use Rattle.settle.specs.declared.decide.Decision.the-variants.{Refused, Clear}
+use Rattle.settle.specs.declared.refusals.Refusal.the-variants.{NoRoom, OtherRecord}
+use Rattle.settle.specs.Refusals.{refusal, lastRefusal, Found, nothing, found, firstOf}
+use Rattle.settle.specs.Outcome.{
+  Quote,
+  unquoted,
+  priced,
+  Outcome,
+  refused,
+  accepted,
+  decidedUnder,
+  tripParts,
+  tripPosted,
+  bookWith,
+  acceptedTrip,
+  quotedUnder,
+  quoted,
+  settled,
+  settledUnder,
+  Settled,
+  Quoted,
+}
+use Rattle.settle.specs.Posting.{sameBytes, postingRows, unposted, renewed, postingOf, Posted}
+use Rattle.settle.specs.Contracts.{AllClear, clearPosting}
+use Rattle.settle.proofs.Rows.{has, first-range, first-has, posting-range, no-room-row}
+use Rattle.settle.proofs.Ways.{
+  refused-found,
+  clear-first,
+  clear-found,
+  unquoted-under,
+  priced-under,
+  fault-quote,
+  faultless-quote,
+  afterQuote,
+  by-quote,
+  fault-way,
+  faultless-way,
+  refused-under,
+  accepted-under,
+  all-clear,
+}
+use Rattle.settle.proofs.Clear.{parts-right, size-most}
+use Rattle.settle.proofs.Postings.{
+  same-exactly,
+  earlier-or-room,
+  none-earlier,
+  none-then,
+  posting-found,
+  posting-none,
+  posting-earlier,
+  posted-refused,
+  posted-clear,
+  fault-posting,
+  faultless-posting,
+}
+use Rattle.promises.specs.Conditions.{tripWindow, RefusedBy, AcceptedBy}
+use Rattle.promises.specs.Quotes.{InTwoSteps, refuse-alike, accept-alike, PostsQuote, PostingRefusedBy, at-fault, at-row}
+use Rattle.promises.proofs.Refusing.{posting-first-exactly, none-exactly}
+use Rattle.promises.proofs.Answers.{clear, accepted-is, refused-exactly, refused-number}
+
+-- ---- The quote and settling.
+
+-- settling's outcome is made of the quote
+module _ (tariff book trip : List ℕ) (room : ℕ) where
+  pub data Made : Quote → Outcome → Type 0 where
+    both-refuse : {number place : ℕ} → Made (unquoted number place) (refused number place)
+    both-accept : {new : List ℕ} {parts : List Part} → Made (priced parts) (accepted new parts)
+
+  made : Made (quoted tariff book trip room) (settled tariff book trip room)
+  made = go (readTariff tariff) refl
+    where
+      after : (new : List ℕ) (q : Quote) → Made q (afterQuote new q)
+      after new (unquoted number place) = both-refuse
+      after new (priced parts) = both-accept
+
+      go : (r : Reading) → readTariff tariff ≡ r → Made (quoted tariff book trip room) (settled tariff book trip room)
+      go (Fault number at) e = rw (fault-quote tariff book trip room number at e, fault-way tariff book trip room number at e) both-refuse
+      go (Faultless counts) e =
+          rw (
+            faultless-quote tariff book trip room counts e,
+            faultless-way tariff book trip room counts e,
+            by-quote tariff counts book trip room,
+          )
+          (after (bookWith tariff counts book trip) (quotedUnder tariff counts book trip room))
+
+  -- A quote refuses exactly where settling does, with the same number and place.
+  pub quote-refuses-alike : (n place : ℕ) → quoted tariff book trip room ≡ unquoted n place ↔ settled tariff book trip room ≡ refused n place
+  quote-refuses-alike n place = (λ e. there _ _ made e, λ e. back _ _ made e)
+    where
+      there : (q : Quote) (o : Outcome) → Made q o → q ≡ unquoted n place → o ≡ refused n place
+      there (unquoted m at) (refused m′ at′) both-refuse e = let same : m ≡ n = cc in let same′ : at ≡ place = cc in rw (same, same′)
+      there (priced parts) (accepted new parts′) both-accept e = absurd (let z : _≡_ {A = ℕ} 0 1 = cc in omega arith)
+
+      back : (q : Quote) (o : Outcome) → Made q o → o ≡ refused n place → q ≡ unquoted n place
+      back (unquoted m at) (refused m′ at′) both-refuse e = let same : m ≡ n = cc in let same′ : at ≡ place = cc in rw (same, same′)
+      back (priced parts) (accepted new parts′) both-accept e = absurd (let z : _≡_ {A = ℕ} 0 1 = cc in omega arith)
+
+  -- And it tells the parts that settling would charge.
+  pub quote-accepts-alike :
+      (parts : List Part)
+      → quoted tariff book trip room ≡ priced parts ↔ ((new : List ℕ) × (settled tariff book trip room ≡ accepted new parts))
+  quote-accepts-alike parts = (λ e. there _ _ made e, λ w. back _ _ made (w .0) (w .1))
+    where
+      there : (q : Quote) (o : Outcome) → Made q o → q ≡ priced parts → (new : List ℕ) × (o ≡ accepted new parts)
+      there (unquoted m at) (refused m′ at′) both-refuse e = absurd (let z : _≡_ {A = ℕ} 0 1 = cc in omega arith)
+      there (priced these) (accepted new these′) both-accept e = let same : these ≡ parts = cc in (new, rw same)
+
+      back : (q : Quote) (o : Outcome) → Made q o → (new : List ℕ) → o ≡ accepted new parts → q ≡ priced parts
+      back (unquoted m at) (refused m′ at′) both-refuse new e = absurd (let z : _≡_ {A = ℕ} 0 1 = cc in omega arith)
+      back (priced these) (accepted new′ these′) both-accept new e = let same : these ≡ parts = cc in rw same
+
+  -- So each of 1 to 12 is given for a quote exactly under its own condition, in the table's order.
+  pub quote-refused-exactly : (n place : ℕ) → quoted tariff book trip room ≡ unquoted n place ↔ RefusedBy tariff book trip room n place
+  quote-refused-exactly n place =
+      let alike = quote-refuses-alike n place in
+      let exactly = refused-exactly tariff book trip room n place in
+      (λ e. exactly .0 (alike .0 e), λ w. alike .1 (exactly .1 w))
+
+  -- Its number is 1 to 12, and 0 is the place of 4 to 12.
+  pub quote-number :
+      {n place : ℕ} → quoted tariff book trip room ≡ unquoted n place → (1 ≤ n) × (n ≤ lastRefusal) × (place ≤ longestTariff) × (4 ≤ n → place ≡ 0)
+  quote-number {n} {place} e = refused-number tariff book trip room (quote-refuses-alike n place .0 e)
+
+  -- An accepted trip's records have room, and the new book is as long as every book.
+  accepted-clear :
+      {new : List ℕ} {parts : List Part} (a : AcceptedBy tariff book trip room new parts)
+      → AllClear tariff (a .counts) book trip (tripOf trip) (tripWindow book trip) (breakOf tariff (a .counts) trip (countAt trip 0)) room
+  accepted-clear a =
+      all-clear tariff (a .counts) book trip _ _ _ room (record { read = a .read; sound-book = clear a .sound-book })
+      (clear-first tariff (a .counts) book trip room (none-exactly tariff (a .counts) book trip room .1 (a .none)))
+
+  within-room : {new : List ℕ} {parts : List Part} → settled tariff book trip room ≡ accepted new parts → length (statementOf parts) ≤ room
+  within-room e =
+      let a = accepted-is tariff book trip room e in
+      rw (a .parts-is) (size-most tariff (a .counts) book trip (tripOf trip) (tripWindow book trip) room (accepted-clear a) .1)
+
+  new-size : {new : List ℕ} {parts : List Part} → settled tariff book trip room ≡ accepted new parts → length new ≡ bookSize
+  new-size e =
+      let a = accepted-is tariff book trip room e in
+      let sound-again = parts-right tariff (a .counts) book trip (tripOf trip) (tripWindow book trip) room (accepted-clear a) .1 in
+      rw (a .new-is) (sound-has (bookWith tariff (a .counts) book trip) (a .counts .areas) sound-again .size)
+
+-- ---- The posting.
+
+-- what is decided to be clear with some room is so with room for the largest statement
+largest-clear :
+    (tariff : List ℕ) (counts : Counts) (book trip : List ℕ) (room : ℕ) {fields : Trip} {window : Window} {breaking : Breaking}
+    → decidedUnder tariff counts book trip room ≡ Clear fields window breaking
+    → decidedUnder tariff counts book trip largestStatement ≡ Clear fields window breaking
+largest-clear tariff counts book trip room e =
+    let (no-one, (fields-are, (window-is, broken-is))) = clear-found tariff counts book trip room e in
+    clear-first tariff counts book trip largestStatement (none-then tariff counts book trip (none-earlier tariff counts book trip room no-one))
+    ∙ rw (fields-are, window-is, broken-is)
+
+module _ (tariff book trip : List ℕ) where
+  -- Where settling accepts with some room, a posting of any record comes to the new book, or to 13 where the record is not settling's.
+  pub posting-if-clear :
+      (counts : Counts) → Read tariff counts → (room : ℕ) {fields : Trip} {window : Window} {breaking : Breaking}
+      → decidedUnder tariff counts book trip room ≡ Clear fields window breaking → (offered : List ℕ)
+      → postingOf tariff book trip offered ≡ clearPosting tariff counts book trip fields window offered
+  posting-if-clear counts read room {fields} {window} e offered =
+      faultless-posting tariff book trip offered counts read
+      ∙ posted-clear tariff counts book trip offered fields window (largest-clear tariff counts book trip room e)
+
+  -- A quote, and at once its posting: settling.
+  pub quote-then-post : (room : ℕ) → InTwoSteps tariff book trip (quoted tariff book trip room) (settled tariff book trip room)
+  unfolding acceptedTrip
+  quote-then-post room = go (readTariff tariff) refl
+    where
+      under :
+          (counts : Counts) → Read tariff counts → (d : Decision) → decidedUnder tariff counts book trip room ≡ d
+          → InTwoSteps tariff book trip (quotedUnder tariff counts book trip room) (settledUnder tariff counts book trip room)
+      under counts read (Refused why) e =
+          rw (unquoted-under tariff counts book trip room e, refused-under tariff counts book trip room e)
+          (refuse-alike
+          (⊎-elim
+          (λ is. inr (λ offered. faultless-posting tariff book trip offered counts read ∙ posting-found tariff counts book trip offered (posting-earlier tariff counts book trip offered is)))
+          (λ small. inl (ap refusal (small .1 .0)))
+          (earlier-or-room tariff counts book trip room (refused-found tariff counts book trip room e))))
+      under counts read (Clear fields window breaking) e =
+          let parts = tripParts tariff counts book trip fields window in
+          rw (priced-under tariff counts book trip room fields window e, accepted-under tariff counts book trip room fields window e)
+          (accept-alike {new = tripPosted tariff counts book trip fields window}
+          (posting-if-clear counts read room e (statementOf parts) ∙ rw (same-exactly (statementOf parts) (statementOf parts) .1 refl)))
+
+      go : (r : Reading) → readTariff tariff ≡ r → InTwoSteps tariff book trip (quoted tariff book trip room) (settled tariff book trip room)
+      go (Fault number at) e =
+          rw (fault-quote tariff book trip room number at e, fault-way tariff book trip room number at e)
+          (refuse-alike (inr (λ offered. fault-posting tariff book trip offered number at e)))
+      go (Faultless counts) e =
+          rw (faultless-quote tariff book trip room counts e, faultless-way tariff book trip room counts e)
+          (under counts e (decidedUnder tariff counts book trip room) refl)
+
+  -- The present quote decides what comes of every record: each is refused as the quote is, or each but the quote's own is refused with 13.
+  pub data Present : Type 0 where
+    refuses :
+        (n place : ℕ) → ((offered : List ℕ) → postingOf tariff book trip offered ≡ unposted n place)
+        → quoted tariff book trip largestStatement ≡ unquoted n place → Present
+    quotes :
+        (parts : List Part) (new : List ℕ)
+        → ((offered : List ℕ)
+        → postingOf tariff book trip offered ≡ cond (sameBytes (statementOf parts) offered) (renewed new) (unposted (refusal OtherRecord) 0))
+        → quoted tariff book trip largestStatement ≡ priced parts → settled tariff book trip largestStatement ≡ accepted new parts → Present
+
+  present : Present
+  unfolding acceptedTrip
+  present = go (readTariff tariff) refl
+    where
+      under : (counts : Counts) → Read tariff counts → (d : Decision) → decidedUnder tariff counts book trip largestStatement ≡ d → Present
+      under counts read (Refused why) e =
+          refuses (refusal why) 0
+          (λ offered. faultless-posting tariff book trip offered counts read ∙ posted-refused tariff counts book trip offered e)
+          (faultless-quote tariff book trip largestStatement counts read ∙ unquoted-under tariff counts book trip largestStatement e)
+      under counts read (Clear fields window breaking) e =
+          quotes (tripParts tariff counts book trip fields window) (tripPosted tariff counts book trip fields window)
+          (posting-if-clear counts read largestStatement e)
+          (faultless-quote tariff book trip largestStatement counts read ∙ priced-under tariff counts book trip largestStatement fields window e)
+          (faultless-way tariff book trip largestStatement counts read ∙ accepted-under tariff counts book trip largestStatement fields window e)
+
+      go : (r : Reading) → readTariff tariff ≡ r → Present
+      go (Fault number at) e =
+          refuses number at (λ offered. fault-posting tariff book trip offered number at e) (fault-quote tariff book trip largestStatement number at e)
+      go (Faultless counts) e = under counts e (decidedUnder tariff counts book trip largestStatement) refl
+
+  -- A posting is accepted exactly where the record is the bytes of the present quote; and the book that it leaves is settling's.
+  pub posted-exactly : (offered new : List ℕ) → postingOf tariff book trip offered ≡ renewed new ↔ PostsQuote tariff book trip offered new
+  posted-exactly offered new = (there present, back present)
+    where
+      told :
+          (parts : List Part) (new′ : List ℕ) → quoted tariff book trip largestStatement ≡ priced parts
+          → settled tariff book trip largestStatement ≡ accepted new′ parts → (t : Bool) → sameBytes (statementOf parts) offered ≡ t
+          → cond t (renewed new′) (unposted (refusal OtherRecord) 0) ≡ renewed new → PostsQuote tariff book trip offered new
+      told parts new′ q s true is e =
+          let same : new′ ≡ new = cc in
+          record { parts = parts; quote = q; bytes = same-exactly (statementOf parts) offered .0 is; as-settled = rw (← same) s }
+      told parts new′ q s false is e = absurd (let z : _≡_ {A = ℕ} 0 1 = cc in omega arith)
+
+      there : Present → postingOf tariff book trip offered ≡ renewed new → PostsQuote tariff book trip offered new
+      there (refuses n place posts q) e = absurd (let e′ = posts offered in let z : _≡_ {A = ℕ} 0 1 = cc in omega arith)
+      there (quotes parts new′ posts q s) e = told parts new′ q s (sameBytes (statementOf parts) offered) refl (sym (posts offered) ∙ e)
+
+      back : Present → PostsQuote tariff book trip offered new → postingOf tariff book trip offered ≡ renewed new
+      back (refuses n place posts q) w = absurd (let q′ = w .quote in let z : _≡_ {A = ℕ} 0 1 = cc in omega arith)
+      back (quotes parts new′ posts q s) w =
+          let q′ = w .quote in
+          let s′ = w .as-settled in
+          let same : parts ≡ w .parts = cc in
+          let same′ : new′ ≡ new = cc in
+          posts offered ∙ rw (same-exactly (statementOf parts) offered .1 (ap statementOf same ∙ w .bytes), same′)
+
+  -- A quote is stale only by its bytes: whatever book and room it was made with, it is accepted on a book whose quote has the same bytes.
+  pub stale-only-by-bytes :
+      (book₀ : List ℕ) (room₀ : ℕ) (parts₀ parts : List Part) → quoted tariff book₀ trip room₀ ≡ priced parts₀
+      → quoted tariff book trip largestStatement ≡ priced parts → statementOf parts₀ ≡ statementOf parts
+      → (new : List ℕ) × (postingOf tariff book trip (statementOf parts₀) ≡ renewed new)
+  stale-only-by-bytes book₀ room₀ parts₀ parts before now same =
+      let (new, settles) = quote-accepts-alike tariff book trip largestStatement parts .0 now in
+      (new, posted-exactly (statementOf parts₀) new .1 (record { parts = parts; quote = now; bytes = sym same; as-settled = settles }))
+
+  -- ---- Its refusals.
+
+  -- Each of 1 to 11 and 13 is given exactly under its own condition, in the table's order.
+  pub posting-refused-exactly :
+      (offered : List ℕ) (n place : ℕ) → postingOf tariff book trip offered ≡ unposted n place ↔ PostingRefusedBy tariff book trip offered n place
+  posting-refused-exactly offered n place = (go (readTariff tariff) refl, back)
+    where
+      by-row :
+          (counts : Counts) → Read tariff counts → (f : Found) → firstOf (postingRows tariff counts book trip offered) ≡ f
+          → postingOf tariff book trip offered ≡ unposted n place → PostingRefusedBy tariff book trip offered n place
+      by-row counts read (found why) is e =
+          let e′ = faultless-posting tariff book trip offered counts read ∙ posting-found tariff counts book trip offered is in
+          let number : n ≡ refusal why = cc in
+          let at : place ≡ 0 = cc in
+          at-row counts read why number at (posting-first-exactly tariff counts book trip offered why .0 is)
+      by-row counts read nothing is e =
+          let e′ = faultless-posting tariff book trip offered counts read ∙ posting-none tariff counts book trip offered is in
+          absurd (let z : _≡_ {A = ℕ} 0 1 = cc in omega arith)
+
+      go : (r : Reading) → readTariff tariff ≡ r → postingOf tariff book trip offered ≡ unposted n place → PostingRefusedBy tariff book trip offered n place
+      go (Fault m at) is e =
+          let e′ = fault-posting tariff book trip offered m at is in
+          let number : m ≡ n = cc in
+          let here : at ≡ place = cc in
+          let (soFar, found-there) = first-fault tariff n place (is ∙ rw (number, here)) in
+          at-fault soFar found-there (fault-says tariff n place soFar found-there)
+      go (Faultless counts) is e = by-row counts is (firstOf (postingRows tariff counts book trip offered)) refl e
+
+      back : PostingRefusedBy tariff book trip offered n place → postingOf tariff book trip offered ≡ unposted n place
+      back (at-fault soFar found-there says) =
+          fault-posting tariff book trip offered n place (fault-exactly tariff n place .1 (soFar, found-there .passed, says))
+      back (at-row counts read why is at first) =
+          rw (is, at)
+          (faultless-posting tariff book trip offered counts read
+          ∙ posting-found tariff counts book trip offered (posting-first-exactly tariff counts book trip offered why .1 first))
+
+  -- Its number is 1 to 11 or 13; 4 to 11 and 13 have no place.
+  pub posting-number :
+      (offered : List ℕ) {n place : ℕ} → postingOf tariff book trip offered ≡ unposted n place
+      → (1 ≤ n) × (n ≤ refusal OtherRecord) × (n ≡ refusal NoRoom → ⊥) × (4 ≤ n → place ≡ 0)
+  posting-number offered {n} {place} e = met (posting-refused-exactly offered n place .0 e)
+    where
+      met : PostingRefusedBy tariff book trip offered n place → (1 ≤ n) × (n ≤ refusal OtherRecord) × (n ≡ refusal NoRoom → ⊥) × (4 ≤ n → place ≡ 0)
+      met (at-fault soFar found-there says) =
+          ⊎-elim (λ is. (omega arith, omega arith, λ twelve. omega arith, λ h. absurd (omega arith)))
+          (⊎-elim (λ is. (omega arith, omega arith, λ twelve. omega arith, λ h. absurd (omega arith)))
+          (λ is. (omega arith, omega arith, λ twelve. omega arith, λ h. absurd (omega arith))))
+          (fault-number tariff n place soFar found-there)
+      met (at-row counts read why is at first) =
+          let table = postingRows tariff counts book trip offered in
+          let there = posting-first-exactly tariff counts book trip offered why .1 first in
+          let (low, high) = first-range (refusal OtherRecord) table (posting-range tariff counts book trip offered) there in
+          let stands = first-has table there in (
+            omega (arith, is, low),
+            omega (arith, is, high),
+            λ twelve.
+                false≢true (sym (no-room-row tariff counts book trip offered) ∙ ap (λ (k : ℕ). has k table) (sym twelve ∙ is) ∙ stands),
+            λ h. at,
+          )
+
+  -- ---- What comes back.
+
+  -- A refused posting leaves the book.
+  pub posting-leaves :
+      (offered : List ℕ) {n place : ℕ} {book′ : List ℕ} {r : ℕ} → postingOf tariff book trip offered ≡ unposted n place
+      → Posted (postingOf tariff book trip offered) book book′ r → book′ ≡ book
+  posting-leaves offered {n} {place} {book′} {r} e p = let p′ : Posted (unposted n place) book book′ r = rw e at p in p′ .book-is
+
+  -- An accepted one leaves a book of the same length, 5,428 bytes, and that is the answer.
+  pub posting-size : (offered : List ℕ) {new : List ℕ} → postingOf tariff book trip offered ≡ renewed new → length new ≡ bookSize
+  posting-size offered {new} e = new-size tariff book trip largestStatement (posted-exactly offered new .0 e .as-settled)
+
+-- Two results that the contract allows for the same quote are equal: the answer and every byte of the statement. And so it is with a
+-- posting: the answer and the book.
+pub quote-determined :
+    (tariff book trip statement : List ℕ) {s₁ s₂ : List ℕ} {r₁ r₂ : ℕ} → Quoted (quoted tariff book trip (length statement)) statement s₁ r₁
+    → Quoted (quoted tariff book trip (length statement)) statement s₂ r₂ → (r₁ ≡ r₂) × (s₁ ≡ s₂)
+quote-determined tariff book trip statement one other = (one .answer ∙ sym (other .answer), one .statement-is ∙ sym (other .statement-is))
+
+pub posting-determined :
+    (tariff book trip offered : List ℕ) {b₁ b₂ : List ℕ} {r₁ r₂ : ℕ} → Posted (postingOf tariff book trip offered) book b₁ r₁
+    → Posted (postingOf tariff book trip offered) book b₂ r₂ → (r₁ ≡ r₂) × (b₁ ≡ b₂)
+posting-determined tariff book trip offered one other = (one .answer ∙ sym (other .answer), one .book-is ∙ sym (other .book-is))
+
+-- Quoting once more, into the statement that the first quote left, gives the same answer and changes no byte.
+pub quote-again :
+    (tariff book trip statement : List ℕ) {s₁ s₂ : List ℕ} {r₁ r₂ : ℕ} → Quoted (quoted tariff book trip (length statement)) statement s₁ r₁
+    → Quoted (quoted tariff book trip (length s₁)) s₁ s₂ r₂ → (r₂ ≡ r₁) × (s₂ ≡ s₁)
+quote-again tariff book trip statement {s₁} {s₂} {r₁} {r₂} one other = go (quoted tariff book trip (length statement)) refl one
+  where
+    same-room : length s₁ ≡ length statement → Quoted (quoted tariff book trip (length statement)) s₁ s₂ r₂
+    same-room e = subst (λ (room : ℕ). Quoted (quoted tariff book trip room) s₁ s₂ r₂) e other
+
+    go : (q : Quote) → quoted tariff book trip (length statement) ≡ q → Quoted q statement s₁ r₁ → (r₂ ≡ r₁) × (s₂ ≡ s₁)
+    go (unquoted n place) is one′ =
+        let other′ : Quoted (unquoted n place) s₁ s₂ r₂ = rw is at (same-room (ap length (one′ .statement-is))) in
+        (other′ .answer ∙ sym (one′ .answer), other′ .statement-is)
+    go (priced parts) is one′ =
+        let (new, settles) = quote-accepts-alike tariff book trip (length statement) parts .0 is in
+        let bytes = statementOf parts in
+        let fits = within-room tariff book trip (length statement) settles in
+        let long : length s₁ ≡ length statement =
+        ap length (one′ .statement-is) ∙ length-append bytes (drop (length bytes) statement)
+        ∙ rw (length-drop (length bytes) statement) (omega (arith, fits))
+        in
+        let other′ : Quoted (priced parts) s₁ s₂ r₂ = rw is at (same-room long) in
+        let rest : drop (length bytes) s₁ ≡ drop (length bytes) statement =
+        ap (drop (length bytes)) (one′ .statement-is) ∙ drop-at bytes (drop (length bytes) statement) (length bytes) refl
+        in
+        (other′ .answer ∙ sym (one′ .answer), other′ .statement-is ∙ rw rest (sym (one′ .statement-is)))
+
+-- In two calls, as the contracts of the exported functions have them: where a quote is accepted, its bytes posted at once give settling's
+-- book, and its answer and its statement are settling's.
+pub in-two-calls :
+    (tariff book trip statement : List ℕ) {s₁ b₂ b₃ s₃ : List ℕ} {r₁ r₂ r₃ : ℕ} → Quoted (quoted tariff book trip (length statement)) statement s₁ r₁
+    → r₁ < 2 ^ 32 → Posted (postingOf tariff book trip (take r₁ s₁)) book b₂ r₂
+    → Settled (settled tariff book trip (length statement)) book b₃ statement s₃ r₃ → (r₁ ≡ r₃) × (s₁ ≡ s₃) × (b₂ ≡ b₃) × (r₂ ≡ bookSize)
+in-two-calls tariff book trip statement {s₁} {b₂} {b₃} {s₃} {r₁} {r₂} {r₃} quoting near posting settling =
+    go (quoted tariff book trip (length statement)) (settled tariff book trip (length statement)) (quote-then-post tariff book trip (length statement)) refl
+    quoting settling
+  where
+    go :
+        (q : Quote) (o : Outcome) → InTwoSteps tariff book trip q o → settled tariff book trip (length statement) ≡ o → Quoted q statement s₁ r₁
+        → Settled o book b₃ statement s₃ r₃ → (r₁ ≡ r₃) × (s₁ ≡ s₃) × (b₂ ≡ b₃) × (r₂ ≡ bookSize)
+    go (unquoted n place) (refused n′ place′) (refuse-alike why) is quoting′ settling′ =
+        let (low, high, small, none) = refused-number tariff book trip (length statement) is in
+        absurd (omega (arith, quoting′ .answer))
+    go (priced parts) (accepted new parts′) (accept-alike posts) is quoting′ settling′ =
+        let first : take r₁ s₁ ≡ statementOf parts = rw (quoting′ .answer, quoting′ .statement-is) (take-append-seam (statementOf parts) _) in
+        let posting′ : Posted (renewed new) book b₂ r₂ = rw (first, posts) at posting in (
+          quoting′ .answer ∙ sym (settling′ .answer),
+          quoting′ .statement-is ∙ sym (settling′ .statement-is),
+          posting′ .book-is ∙ sym (settling′ .book-is),
+          posting′ .answer ∙ new-size tariff book trip (length statement) is,
+        )

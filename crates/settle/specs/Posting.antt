@@ -1,0 +1,65 @@
+-- docs/RULES.md, section 14: posting a quote. It takes the trip and a record, and writes only the book. 1 to 3 are the tariff's; 4 to 11 are
+-- settling's, and then comes 13.
+use Prim.Native.Nat.{ℕ}
+use mathlib.Core.Path.{_≡_}
+use mathlib.Core.List.{List}
+use mathlib.Core.Bool.{Bool, not, _&&_}
+use lib.ListN.{length, getD}
+use lib.Dec.{eqb}
+use Rattle.wire.specs.Each.{each}
+use Rattle.tariff.specs.declared.Counts.{Counts}
+use Rattle.tariff.specs.declared.Reading.the-variants.{Fault, Faultless}
+use Rattle.tariff.specs.Scan.{readTariff}
+use Rattle.statement.specs.Record.{largestStatement}
+use Rattle.settle.specs.declared.refusals.Refusal.the-variants.{OtherRecord}
+use Rattle.settle.specs.Refusals.{Row, row, rowsTo, refusal, firstOf, nothing, found}
+use Rattle.settle.specs.Outcome.{quotedUnder, quoteBytes, bookWith, refusedAs}
+
+-- as many bytes, and each the same
+unfoldable pub sameBytes : List ℕ → List ℕ → Bool
+sameBytes bytes other = eqb (length bytes) (length other) && each (length other) (λ i. eqb (getD bytes i 0) (getD other i 0))
+
+-- the bytes that a quote on the present book would write, with room for the largest statement
+abbrev pub presentQuote : List ℕ → Counts → List ℕ → List ℕ → List ℕ
+presentQuote tariff counts book trip = quoteBytes (quotedUnder tariff counts book trip largestStatement)
+
+-- 13: the record is not exactly these bytes
+unfoldable pub postingRows : List ℕ → Counts → List ℕ → List ℕ → List ℕ → List Row
+postingRows tariff counts book trip offered =
+    rowsTo tariff counts book trip (row OtherRecord (not (sameBytes (presentQuote tariff counts book trip) offered)))
+
+-- a refusal with its number and place; or the new book
+pub data Posting : Type 0 where
+  unposted : ℕ → ℕ → Posting
+  renewed : List ℕ → Posting
+
+-- of a trip with a record on a book, under a tariff without fault
+unfoldable pub postedUnder : List ℕ → Counts → List ℕ → List ℕ → List ℕ → Posting
+postedUnder tariff counts book trip offered =
+    elim (firstOf (postingRows tariff counts book trip offered)) [
+      | found why ↦ unposted (refusal why) 0
+      | nothing ↦ renewed (bookWith tariff counts book trip)
+    ]
+
+-- under any byte string as a tariff. 1 to 3: the tariff's first fault, at its record's offset
+unfoldable pub postingOf : List ℕ → List ℕ → List ℕ → List ℕ → Posting
+postingOf tariff book trip offered =
+    elim (readTariff tariff) [
+      | Fault number at ↦ unposted number at
+      | Faultless counts ↦ postedUnder tariff counts book trip offered
+    ]
+
+-- acceptance returns the bytes written, which are the whole book
+abbrev pub postingAnswer : Posting → ℕ
+postingAnswer (unposted number place) = refusedAs number place
+postingAnswer (renewed new) = length new
+
+-- a refusal leaves the book
+abbrev pub bookLeft : Posting → List ℕ → List ℕ
+bookLeft (unposted number place) book = book
+bookLeft (renewed new) book = new
+
+-- the answer and every byte left behind are the posting's; the record is only read
+pub record Posted (posting : Posting) (book book′ : List ℕ) (r : ℕ) : Type 0 where
+  pub answer : r ≡ postingAnswer posting
+  pub book-is : book′ ≡ bookLeft posting book

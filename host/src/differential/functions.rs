@@ -1,0 +1,38 @@
+//! What is offered to C, by whoever offers it: the library, the model, a copy of the model.
+
+use crate::model::{self, Refusal};
+
+/// Settles: tariff, book, trip, statement, and the answer's number.
+pub type Settle = fn(&[u8], &mut [u8], &[u8], &mut [u8]) -> u64;
+
+/// Quotes: tariff, book, trip, statement, and the answer's number.
+pub type Quote = fn(&[u8], &[u8], &[u8], &mut [u8]) -> u64;
+
+/// Posts: tariff, book, trip, record, and the answer's number.
+pub type Post = fn(&[u8], &mut [u8], &[u8], &[u8]) -> u64;
+
+#[derive(Clone, Copy)]
+pub struct Functions {
+    pub settle: Settle,
+    pub quote: Quote,
+    pub post: Post,
+}
+
+/// The model, called as the library is.
+pub const MODEL: Functions = Functions {
+    settle: settle_by_the_model,
+    quote: |tariff, book, trip, statement| number_of(model::quote(tariff, book, trip, statement)),
+    post: |tariff, book, trip, record| number_of(model::post(tariff, book, trip, record)),
+};
+
+pub fn settle_by_the_model(tariff: &[u8], book: &mut [u8], trip: &[u8], statement: &mut [u8]) -> u64 {
+    number_of(model::settle(tariff, book, trip, statement))
+}
+
+/// The number that stands for an answer.
+pub fn number_of(answer: Result<usize, Refusal>) -> u64 {
+    match answer {
+        Ok(written) => written as u64,
+        Err(Refusal { number, place }) => (u64::from(number) << 32) + u64::from(place),
+    }
+}
