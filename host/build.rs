@@ -21,10 +21,10 @@ fn main() {
     }
 }
 
-/// MILECOPPER_LIB_DIR is the archive's directory, seen from the package; ../target/staticlib unless set.
+/// MILECOPPER_LIB_DIR is the archive's directory, seen from the package; ../target/native/archive unless set.
 fn link_library(package: &Path) {
     println!("cargo::rerun-if-env-changed=MILECOPPER_LIB_DIR");
-    let directory = package.join(env::var("MILECOPPER_LIB_DIR").unwrap_or("../target/staticlib".to_string()));
+    let directory = package.join(env::var("MILECOPPER_LIB_DIR").unwrap_or("../target/native/archive".to_string()));
     let archive = directory.join("libmilecopper.a");
     println!("cargo::rerun-if-changed={}", archive.display());
     if archive.is_file() {
@@ -80,10 +80,12 @@ fn plant(package: &Path, out: &Path) {
         };
         copies += &format!(
             "    ({name:?}, Functions {{
+        check: |tariff| {},
         settle: |tariff, book, trip, statement| {},
         quote: |tariff, book, trip, statement| {},
         post: |tariff, book, trip, record| {},
     }}),\n",
+            told("check_tariff(tariff)"),
             told("settle(tariff, book, trip, statement)"),
             told("quote(tariff, book, trip, statement)"),
             told("post(tariff, book, trip, record)"),

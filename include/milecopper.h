@@ -3,7 +3,11 @@
  * the trip went out and back. milecopper_settle does so at once. An app that shows the price first does it in two steps:
  * milecopper_quote writes the charge records and leaves the book, milecopper_post writes the book.
  *
- * For C99 and later and C++11 and later. Link with the static library `milecopper` (libmilecopper.a).
+ * For C99 and later and C++11 and later. `host/install PREFIX` in the source's folder builds and installs this file, a
+ * static and a shared library and a file for pkg-config below the folder PREFIX. Then:
+ *
+ *     PKG_CONFIG_PATH=PREFIX/lib/pkgconfig
+ *     cc app.c $(pkg-config --cflags --libs milecopper)
  *
  *     static uint8_t book[MILECOPPER_BOOK_BYTES];            // all zero: a fresh book, one for each account
  *     uint8_t statement[MILECOPPER_LARGEST_STATEMENT_BYTES];
@@ -42,31 +46,75 @@
  *     so are a quote's `book` and a posting's `record`. Else `book` and `statement` may be written within their lengths,
  *     and only there.
  *   - The four slices of a call do not overlap, not even in part.
- *   - No pointer is null, not even with length 0: an empty slice may have any pointer that is not null.
+ *   - A pointer beside a length of 0 is not looked at. It may be null, as that of an empty std::vector is.
+ *   - A tariff has at most MILECOPPER_LARGEST_TARIFF_BYTES bytes, a trip MILECOPPER_LARGEST_TRIP_BYTES and a book exactly
+ *     MILECOPPER_BOOK_BYTES; others may be offered, and are refused. A statement of MILECOPPER_LARGEST_STATEMENT_BYTES has
+ *     room for every trip. Any length that a size_t holds may be given.
  *   - A fresh book is MILECOPPER_BOOK_BYTES bytes, all zero. From then on only this library writes into it. Each
  *     account has a book of its own, and the caller keeps it from one trip to the next. An account's trips are
  *     settled or posted in the order in which they were ridden.
  *   - During a call no other thread writes any of its slices, and none reads its book or its statement, unless the call
- *     only reads them. Calls on different books may run at the same time, and so may quotes on one book. They may share
- *     one tariff.
+ *     only reads them. Calls on different books may run at the same time, on any threads, and so may quotes on one book.
+ *     They may share one tariff.
+ *   - Where milecopper_check_tariff is called, at least 256 bytes of stack are free.
  *   - Where milecopper_settle is called, at least 1,024 bytes of stack are free.
- *     Where milecopper_quote is called, at least 1,536 bytes of stack are free.
- *     Where milecopper_post is called, at least 2,048 bytes of stack are free.
+ *   - Where milecopper_quote is called, at least 1,536 bytes of stack are free.
+ *   - Where milecopper_post is called, at least 2,048 bytes of stack are free.
  *
  * What the library does not do
  *
  *   - It allocates nothing and keeps nothing: no memory, no pointer, no state from one call to the next. All four
  *     slices belong to the caller before, during and after the call. It reads no clock and no file and prints nothing.
+ *   - It sets no errno, raises and handles no signal, takes no lock and never waits, so it may be called in a signal
+ *     handler, too. It always comes back: every call ends, and never with exit, abort or longjmp.
  *   - A trip that is refused changes no byte of the book or the statement. One that is accepted replaces the book, but
  *     not in a quote, and writes its charge records one after another at the start of the statement, but not in a
  *     posting; the statement's further bytes stay as they were. The parts of a broken trip are accepted together or
  *     refused together.
+ *   - It does not find every damage. A book is refused (4) where its words cannot stand together; one with another sum in
+ *     it mostly can. Keep a checksum of your own beside a book that is stored or sent.
+ *
+ * Another tariff
+ *
+ *   A book knows areas by their numbers and no tariff. Where the tariff changes while a window is open, the trips from
+ *   then on have the new one's prices, and its caps are compared with what was charged under the old one in the area of
+ *   the same number: so keep the areas' numbers, and put new areas behind the old ones. A bicycle that was carried in an
+ *   area which the new tariff lacks makes the book unsound under it (4), also for a trip that would open the next window.
+ *   What is promised of caps is promised under one tariff: change it between windows where that matters.
+ *
+ * Storing book and statement, so that a power cut loses neither
+ *
+ *   The book and the charge records belong together; keep both in one file of the account, with the number of the trip that
+ *   they are of, and replace it as a whole:
+ *
+ *   1. Read the file ACCOUNT, and settle the next trip on its book in memory, or quote and post it. Refused: there is
+ *      nothing to store.
+ *   2. Write trip number, new book and charge records to a file beside it, ACCOUNT.new; fsync it, and close it.
+ *   3. Rename ACCOUNT.new to ACCOUNT, which replaces it at once or not at all; fsync the folder.
+ *   4. Now tell what was charged, put the records into whatever else keeps them, and only then take the trip off your
+ *      list.
+ *
+ *   After a power cut ACCOUNT is the old file or the new one. Where its number is below that of the first trip on the
+ *   list, begin at 1: from the same bytes come the same bytes. Where it is that number, go on at 4.
  */
 #ifndef MILECOPPER_H
 #define MILECOPPER_H
 
 #include <stddef.h>
 #include <stdint.h>
+
+/* The version. The number stands here alone: the library's file names, its pkg-config file, its constant
+ * milecopper_version and what the scripts say all come from these lines. */
+#define MILECOPPER_VERSION_MAJOR 0
+#define MILECOPPER_VERSION_MINOR 7
+#define MILECOPPER_VERSION_PATCH 0
+#define MILECOPPER_VERSION_AS_TEXT(major, minor, patch) #major "." #minor "." #patch
+#define MILECOPPER_VERSION_AS_WRITTEN(major, minor, patch) MILECOPPER_VERSION_AS_TEXT(major, minor, patch)
+#define MILECOPPER_VERSION \
+    MILECOPPER_VERSION_AS_WRITTEN(MILECOPPER_VERSION_MAJOR, MILECOPPER_VERSION_MINOR, MILECOPPER_VERSION_PATCH)
+
+/* The stack that has to be free whatever is called: the most of what stands above. */
+#define MILECOPPER_MOST_STACK_BYTES 2048
 
 /* The book's length. */
 #define MILECOPPER_BOOK_BYTES 5428
@@ -77,6 +125,34 @@
 #define MILECOPPER_LARGEST_RECORD_BYTES 266
 #define MILECOPPER_MOST_PERSONS 21
 #define MILECOPPER_MOST_CHARGES 31
+
+/* Every record has a head: its length in 2 bytes, which counts what comes behind it, and its kind in 2. */
+#define MILECOPPER_HEAD_BYTES 4
+#define MILECOPPER_LENGTH_AT 0
+#define MILECOPPER_KIND_AT 2
+#define MILECOPPER_AREA_KIND 1
+#define MILECOPPER_STOP_KIND 2
+#define MILECOPPER_FACTOR_KIND 5
+#define MILECOPPER_CHARGE_KIND 6
+#define MILECOPPER_TRIP_KIND 7
+
+/* Where the fields of a charge record stand, from its first byte: opening minute 4 bytes, area 1, kilometres 2, minutes
+ * 2, those carried 1 each, then for each person ten bytes and for each bicycle four. In a person's: charge and reduction 4
+ * each, area and class of the cap 1 each. */
+#define MILECOPPER_CHARGE_OPENING_AT 4
+#define MILECOPPER_CHARGE_AREA_AT 8
+#define MILECOPPER_CHARGE_KM_AT 9
+#define MILECOPPER_CHARGE_MINUTES_AT 11
+#define MILECOPPER_CHARGE_ADULTS_AT 13
+#define MILECOPPER_CHARGE_CHILDREN_AT 14
+#define MILECOPPER_CHARGE_BICYCLES_AT 15
+#define MILECOPPER_CHARGE_PERSONS_AT 16
+#define MILECOPPER_CHARGE_PERSON_BYTES 10
+#define MILECOPPER_CHARGE_BICYCLE_BYTES 4
+#define MILECOPPER_PERSON_CHARGE_AT 0
+#define MILECOPPER_PERSON_REDUCTION_AT 4
+#define MILECOPPER_PERSON_CAP_AREA_AT 8
+#define MILECOPPER_PERSON_CAP_CLASS_AT 9
 
 /* What a record says of the cap that cut a person's charge: its area, and which of that area's two caps it is. */
 #define MILECOPPER_NO_CAP_AREA 255
@@ -93,9 +169,8 @@
 #define MILECOPPER_MOST_CHILDREN 10
 #define MILECOPPER_MOST_BICYCLES 10
 
-/* A trip record: its kind, the length of each of its two stamps and the offsets from UTC that they may have; its stops, and
- * its length with the most stops. */
-#define MILECOPPER_TRIP_KIND 7
+/* A trip record: the length of each of its two stamps and the offsets from UTC that they may have; its stops, and its
+ * length with the most stops. */
 #define MILECOPPER_STAMP_BYTES 7
 #define MILECOPPER_WINTER_OFFSET 1
 #define MILECOPPER_SUMMER_OFFSET 2
@@ -103,10 +178,69 @@
 #define MILECOPPER_MOST_STOPS_IN_A_TRIP 32
 #define MILECOPPER_LARGEST_TRIP_BYTES 88
 
+/* Where its fields stand: the stamps, then 1 byte each, then the stops' numbers, 2 bytes each. In a stamp: year 2 bytes,
+ * month, day, hour, minute and the hours ahead of UTC 1 each. */
+#define MILECOPPER_TRIP_CHECK_IN_AT 4
+#define MILECOPPER_TRIP_CHECK_OUT_AT 11
+#define MILECOPPER_TRIP_CLASS_AT 18
+#define MILECOPPER_TRIP_LEVEL_AT 19
+#define MILECOPPER_TRIP_ADULTS_AT 20
+#define MILECOPPER_TRIP_CHILDREN_AT 21
+#define MILECOPPER_TRIP_BICYCLES_AT 22
+#define MILECOPPER_TRIP_STOP_COUNT_AT 23
+#define MILECOPPER_TRIP_STOPS_AT 24
+#define MILECOPPER_STAMP_YEAR_AT 0
+#define MILECOPPER_STAMP_MONTH_AT 2
+#define MILECOPPER_STAMP_DAY_AT 3
+#define MILECOPPER_STAMP_HOUR_AT 4
+#define MILECOPPER_STAMP_MINUTE_AT 5
+#define MILECOPPER_STAMP_OFFSET_AT 6
+
+/* A trip's ticket level. */
+#define MILECOPPER_NO_LEVEL 0
+#define MILECOPPER_LEVEL_K 1
+#define MILECOPPER_LEVEL_A 2
+#define MILECOPPER_LEVEL_B 3
+#define MILECOPPER_LEVEL_C 4
+#define MILECOPPER_LEVEL_D 5
+
 /* What a tariff may hold, and its length with the most of each: a factor record for each area, where none is a city. */
 #define MILECOPPER_MOST_AREAS 32
 #define MILECOPPER_MOST_STOPS 1000
 #define MILECOPPER_LARGEST_TARIFF_BYTES 14120
+
+/* The records of a tariff, and where their fields stand. An area's: level, parent 1 byte each, base price, price per
+ * kilometre, validity 2 each, surcharge and reduction in percent, sort of trip cap 1 each, five fields of the trip cap, day
+ * cap, bicycle flat 2 each. A factor record's: 1 each. A stop's: area 1, x and y in metres 4 each. */
+#define MILECOPPER_AREA_BYTES 29
+#define MILECOPPER_AREA_LEVEL_AT 4
+#define MILECOPPER_AREA_PARENT_AT 5
+#define MILECOPPER_AREA_BASE_PRICE_AT 6
+#define MILECOPPER_AREA_PRICE_PER_KM_AT 8
+#define MILECOPPER_AREA_VALIDITY_AT 10
+#define MILECOPPER_AREA_SURCHARGE_AT 12
+#define MILECOPPER_AREA_REDUCTION_AT 13
+#define MILECOPPER_AREA_TRIP_CAP_AT 14
+#define MILECOPPER_AREA_TRIP_CAP_FIELDS_AT 15
+#define MILECOPPER_AREA_DAY_CAP_AT 25
+#define MILECOPPER_AREA_BICYCLE_FLAT_AT 27
+#define MILECOPPER_FACTOR_BYTES 6
+#define MILECOPPER_FACTOR_FACTOR_AT 4
+#define MILECOPPER_FACTOR_MARK_AT 5
+#define MILECOPPER_STOP_BYTES 13
+#define MILECOPPER_STOP_AREA_AT 4
+#define MILECOPPER_STOP_X_AT 5
+#define MILECOPPER_STOP_Y_AT 9
+
+/* An area's level, the sort of its trip cap with how many fields it has, and the day cap that means none. */
+#define MILECOPPER_STATE 0
+#define MILECOPPER_REGION 1
+#define MILECOPPER_CITY 2
+#define MILECOPPER_NO_TRIP_CAP 0
+#define MILECOPPER_FLAT_TRIP_CAP 1
+#define MILECOPPER_TRIP_CAP_BY_LEVEL 2
+#define MILECOPPER_TRIP_CAP_FIELDS 5
+#define MILECOPPER_NO_DAY_CAP 65535
 
 /* The factor of a factor record. */
 #define MILECOPPER_SMALLEST_FACTOR 1
@@ -139,6 +273,17 @@ enum milecopper_refusal {
 #ifdef __cplusplus
 extern "C" {
 #endif
+
+/* The library's own version: MILECOPPER_VERSION, where this header is of the same version as the library. */
+extern const char milecopper_version[];
+
+/*
+ * Checks a tariff alone: the whole of it, once, before trips are settled under it. Only reads.
+ *
+ * Faultless: the tariff's length, at most MILECOPPER_LARGEST_TARIFF_BYTES. Else the refusal, 1 to 3, times 2^32, plus
+ * the place: what settling under it answers. Settling checks the tariff each time, so nobody has to call this.
+ */
+uint64_t milecopper_check_tariff(const uint8_t *tariff, size_t tariff_len);
 
 /*
  * Settles one trip. The duties of the caller stand at the top of this file.
@@ -185,6 +330,9 @@ uint64_t milecopper_post(const uint8_t *tariff, size_t tariff_len,
 
 #ifdef __cplusplus
 }
+#define MILECOPPER_AS(type, value) static_cast<type>(value)
+#else
+#define MILECOPPER_AS(type, value) ((type)(value))
 #endif
 
 /* ---- The answer ----
@@ -202,13 +350,13 @@ static inline int milecopper_accepted(uint64_t answer)
  * 0 if the trip was refused. */
 static inline size_t milecopper_bytes_written(uint64_t answer)
 {
-    return milecopper_accepted(answer) ? (size_t)answer : 0;
+    return milecopper_accepted(answer) ? MILECOPPER_AS(size_t, answer) : 0;
 }
 
 /* Why the trip was refused; MILECOPPER_NOT_REFUSED if it was accepted. */
 static inline enum milecopper_refusal milecopper_refusal_of(uint64_t answer)
 {
-    return (enum milecopper_refusal)(answer >> 32);
+    return MILECOPPER_AS(enum milecopper_refusal, answer >> 32);
 }
 
 /*
@@ -217,7 +365,7 @@ static inline enum milecopper_refusal milecopper_refusal_of(uint64_t answer)
  */
 static inline uint32_t milecopper_place(uint64_t answer)
 {
-    return milecopper_accepted(answer) ? 0 : (uint32_t)(answer & 0xFFFFFFFFu);
+    return milecopper_accepted(answer) ? 0 : MILECOPPER_AS(uint32_t, answer & 0xFFFFFFFFu);
 }
 
 /* A sentence that someone at the desk understands. The text is constant and must not be freed. */
@@ -257,6 +405,29 @@ static inline const char *milecopper_refusal_text(enum milecopper_refusal refusa
     return "This is no answer that the library gives.";
 }
 
+/* ---- Numbers ---- */
+
+/* The little-endian number of `width` bytes, at most 4, that starts at `bytes`. */
+static inline uint32_t milecopper_number(const uint8_t *bytes, size_t width)
+{
+    uint32_t number = 0;
+    while (width > 0) {
+        width -= 1;
+        number = (number << 8) | bytes[width];
+    }
+    return number;
+}
+
+/* Writes the number to the `width` bytes that start at `bytes`; what does not fit in them is left out. */
+static inline void milecopper_put_number(uint8_t *bytes, size_t width, uint32_t number)
+{
+    size_t i;
+    for (i = 0; i < width; i += 1) {
+        bytes[i] = MILECOPPER_AS(uint8_t, number & 0xFFu);
+        number >>= 8;
+    }
+}
+
 /* ---- The charge record ----
  *
  * `record` is the start of a statement into which an accepted trip was settled or quoted. Where the trip was broken, the record
@@ -275,71 +446,41 @@ static inline const char *milecopper_refusal_text(enum milecopper_refusal refusa
  *                    milecopper_record_cap_area(record, i));
  *         printf("\n");
  *     }
+ *
+ * On bytes that are no charge record these functions give some number, and they are safe all the same: none reads behind
+ * the first MILECOPPER_LARGEST_RECORD_BYTES bytes. Whether bytes that were stored or sent are a record, and a whole one,
+ * milecopper_is_record says.
  */
-
-/* The little-endian number of `width` bytes, at most 4, that starts at `bytes`. */
-static inline uint32_t milecopper_number(const uint8_t *bytes, size_t width)
-{
-    uint32_t number = 0;
-    while (width > 0) {
-        width -= 1;
-        number = (number << 8) | bytes[width];
-    }
-    return number;
-}
 
 /* The length of each record of a trip that carries so many. The statement needs as many bytes, and twice as many where
  * the trip is broken, which cannot be with two stops. */
 static inline size_t milecopper_record_bytes_for(unsigned adults, unsigned children, unsigned bicycles)
 {
-    return 26 + 10 * ((size_t)adults + children) + 4 * (size_t)bicycles;
+    size_t persons = MILECOPPER_AS(size_t, 1) + adults + children;
+    return MILECOPPER_CHARGE_PERSONS_AT + MILECOPPER_CHARGE_PERSON_BYTES * persons +
+           MILECOPPER_CHARGE_BICYCLE_BYTES * MILECOPPER_AS(size_t, bicycles);
 }
 
-/* The record's length in bytes. */
-static inline size_t milecopper_record_bytes(const uint8_t *record)
+/* The number in a byte of the record, or `most` where it is above that. */
+static inline unsigned milecopper_record_count(const uint8_t *record, size_t at, unsigned most)
 {
-    return 2 + (size_t)milecopper_number(record, 2);
-}
-
-/* The minute at which the trip's window opened, the same for both parts. Minutes count UTC; minute 0 is 2000-01-01 00:00
- * UTC. */
-static inline uint32_t milecopper_record_opening(const uint8_t *record)
-{
-    return milecopper_number(record + 4, 4);
-}
-
-/* The number of the part's area in the tariff. */
-static inline unsigned milecopper_record_area(const uint8_t *record)
-{
-    return record[8];
-}
-
-/* The started kilometres between the part's first stop and its last. */
-static inline unsigned milecopper_record_km(const uint8_t *record)
-{
-    return (unsigned)milecopper_number(record + 9, 2);
-}
-
-/* The minutes from check-in to check-out, counted in UTC; 0 for a second part. */
-static inline unsigned milecopper_record_minutes(const uint8_t *record)
-{
-    return (unsigned)milecopper_number(record + 11, 2);
+    return record[at] < most ? record[at] : most;
 }
 
 /* Whom and what the trip carried, besides the account holder. */
 static inline unsigned milecopper_record_adults(const uint8_t *record)
 {
-    return record[13];
+    return milecopper_record_count(record, MILECOPPER_CHARGE_ADULTS_AT, MILECOPPER_MOST_ADULTS);
 }
 
 static inline unsigned milecopper_record_children(const uint8_t *record)
 {
-    return record[14];
+    return milecopper_record_count(record, MILECOPPER_CHARGE_CHILDREN_AT, MILECOPPER_MOST_CHILDREN);
 }
 
 static inline unsigned milecopper_record_bicycles(const uint8_t *record)
 {
-    return record[15];
+    return milecopper_record_count(record, MILECOPPER_CHARGE_BICYCLES_AT, MILECOPPER_MOST_BICYCLES);
 }
 
 /* The number of persons, the account holder among them: 1 to MILECOPPER_MOST_PERSONS. */
@@ -354,33 +495,95 @@ static inline unsigned milecopper_record_charges(const uint8_t *record)
     return milecopper_record_persons(record) + milecopper_record_bicycles(record);
 }
 
-/* Charge number i in cents, counted from 0: first the persons', then the bicycles'. `i` is below
- * milecopper_record_charges(record). */
+/* The record's length in bytes, MILECOPPER_SMALLEST_RECORD_BYTES to MILECOPPER_LARGEST_RECORD_BYTES. */
+static inline size_t milecopper_record_bytes(const uint8_t *record)
+{
+    return milecopper_record_bytes_for(milecopper_record_adults(record), milecopper_record_children(record),
+                                       milecopper_record_bicycles(record));
+}
+
+/* 1 if the `length` bytes begin with a whole charge record of this kind, else 0: its length, its kind and the numbers of
+ * those carried are as they have to be. Reads no byte behind `length`. */
+static inline int milecopper_is_record(const uint8_t *bytes, size_t length)
+{
+    if (length < MILECOPPER_SMALLEST_RECORD_BYTES)
+        return 0;
+    return milecopper_number(bytes + MILECOPPER_KIND_AT, 2) == MILECOPPER_CHARGE_KIND &&
+           bytes[MILECOPPER_CHARGE_ADULTS_AT] <= MILECOPPER_MOST_ADULTS &&
+           bytes[MILECOPPER_CHARGE_CHILDREN_AT] <= MILECOPPER_MOST_CHILDREN &&
+           bytes[MILECOPPER_CHARGE_BICYCLES_AT] <= MILECOPPER_MOST_BICYCLES &&
+           milecopper_number(bytes + MILECOPPER_LENGTH_AT, 2) + MILECOPPER_KIND_AT == milecopper_record_bytes(bytes) &&
+           milecopper_record_bytes(bytes) <= length;
+}
+
+/* The minute at which the trip's window opened, the same for both parts. Minutes count UTC; minute 0 is 2000-01-01 00:00
+ * UTC. */
+static inline uint32_t milecopper_record_opening(const uint8_t *record)
+{
+    return milecopper_number(record + MILECOPPER_CHARGE_OPENING_AT, 4);
+}
+
+/* The number of the part's area in the tariff. */
+static inline unsigned milecopper_record_area(const uint8_t *record)
+{
+    return record[MILECOPPER_CHARGE_AREA_AT];
+}
+
+/* The started kilometres between the part's first stop and its last. */
+static inline unsigned milecopper_record_km(const uint8_t *record)
+{
+    return milecopper_number(record + MILECOPPER_CHARGE_KM_AT, 2);
+}
+
+/* The minutes from check-in to check-out, counted in UTC; 0 for a second part. */
+static inline unsigned milecopper_record_minutes(const uint8_t *record)
+{
+    return milecopper_number(record + MILECOPPER_CHARGE_MINUTES_AT, 2);
+}
+
+/* The start of the bytes of person number i, counted from 0. */
+static inline const uint8_t *milecopper_record_person(const uint8_t *record, unsigned i)
+{
+    return record + MILECOPPER_CHARGE_PERSONS_AT + MILECOPPER_CHARGE_PERSON_BYTES * MILECOPPER_AS(size_t, i);
+}
+
+/* Charge number i in cents, counted from 0: first the persons', then the bicycles'; 0 where the record has no such. */
 static inline uint32_t milecopper_record_charge(const uint8_t *record, unsigned i)
 {
     unsigned persons = milecopper_record_persons(record);
-    size_t place = i < persons ? 16 + 10 * (size_t)i : 16 + 10 * (size_t)persons + 4 * (size_t)(i - persons);
-    return milecopper_number(record + place, 4);
+    if (i >= milecopper_record_charges(record))
+        return 0;
+    if (i < persons)
+        return milecopper_number(milecopper_record_person(record, i) + MILECOPPER_PERSON_CHARGE_AT, 4);
+    return milecopper_number(milecopper_record_person(record, persons) +
+                             MILECOPPER_CHARGE_BICYCLE_BYTES * MILECOPPER_AS(size_t, i - persons), 4);
 }
 
 /* What caps took off the price of person number i in cents, counted from 0: the price is the charge and this together.
- * Here and in the two functions below `i` is below milecopper_record_persons(record). */
+ * 0 where the record has no such person. */
 static inline uint32_t milecopper_record_reduction(const uint8_t *record, unsigned i)
 {
-    return milecopper_number(record + 20 + 10 * (size_t)i, 4);
+    if (i >= milecopper_record_persons(record))
+        return 0;
+    return milecopper_number(milecopper_record_person(record, i) + MILECOPPER_PERSON_REDUCTION_AT, 4);
 }
 
-/* The number in the tariff of the area whose cap is named for that; MILECOPPER_NO_CAP_AREA if nothing was taken off. */
+/* The number in the tariff of the area whose cap is named for that; MILECOPPER_NO_CAP_AREA if nothing was taken off, or
+ * the record has no such person. */
 static inline unsigned milecopper_record_cap_area(const uint8_t *record, unsigned i)
 {
-    return record[24 + 10 * (size_t)i];
+    if (i >= milecopper_record_persons(record))
+        return MILECOPPER_NO_CAP_AREA;
+    return milecopper_record_person(record, i)[MILECOPPER_PERSON_CAP_AREA_AT];
 }
 
 /* Which cap of that area it is: MILECOPPER_SECOND_CLASS_CAP or MILECOPPER_ALL_CLASSES_CAP; MILECOPPER_NO_CAP if nothing
- * was taken off. */
+ * was taken off, or the record has no such person. */
 static inline unsigned milecopper_record_cap_class(const uint8_t *record, unsigned i)
 {
-    return record[25 + 10 * (size_t)i];
+    if (i >= milecopper_record_persons(record))
+        return MILECOPPER_NO_CAP;
+    return milecopper_record_person(record, i)[MILECOPPER_PERSON_CAP_CLASS_AT];
 }
 
 /* A few words for what milecopper_record_cap_class gives. The text is constant and must not be freed. */
@@ -412,12 +615,165 @@ static inline uint32_t milecopper_record_total(const uint8_t *record)
  * what posting it gave. */
 static inline uint32_t milecopper_statement_total(const uint8_t *statement, uint64_t answer)
 {
-    const uint8_t *end = statement + milecopper_bytes_written(answer);
-    const uint8_t *record;
+    size_t written = milecopper_bytes_written(answer);
+    size_t at = 0;
     uint32_t total = 0;
-    for (record = statement; record < end; record += milecopper_record_bytes(record))
-        total += milecopper_record_total(record);
+    unsigned part;
+    for (part = 0; part < MILECOPPER_MOST_PARTS && at < written; part += 1) {
+        total += milecopper_record_total(statement + at);
+        at += milecopper_record_bytes(statement + at);
+    }
     return total;
+}
+
+/* ---- Writing trips and tariffs ----
+ *
+ * Each function writes one record to the start of `bytes`, of which there are `room`, and gives its length. It gives 0, and
+ * writes nothing, where there is not enough room or a number does not fit its field; what a number means is not looked
+ * at, since checking and settling do that. A tariff is its areas, then its factor records, then its stops:
+ *
+ *     uint8_t tariff[MILECOPPER_LARGEST_TARIFF_BYTES];
+ *     size_t length = 0;
+ *     length += milecopper_put_area(tariff + length, sizeof tariff - length, &state);
+ *     length += milecopper_put_factor(tariff + length, sizeof tariff - length, 3, 0);
+ *     length += milecopper_put_stop(tariff + length, sizeof tariff - length, 0, 300000, 200000);
+ *     if (!milecopper_accepted(milecopper_check_tariff(tariff, length)))
+ *         ...
+ */
+
+/* A local date and clock time; `offset` is how many hours this clock is ahead of UTC. */
+struct milecopper_stamp {
+    unsigned year;
+    unsigned month;
+    unsigned day;
+    unsigned hour;
+    unsigned minute;
+    unsigned offset;
+};
+
+struct milecopper_trip {
+    struct milecopper_stamp check_in;
+    struct milecopper_stamp check_out;
+    unsigned travel_class;
+    unsigned level;
+    unsigned adults;
+    unsigned children;
+    unsigned bicycles;
+    const uint16_t *stops;
+    unsigned stop_count;
+};
+
+struct milecopper_area {
+    unsigned level;
+    unsigned parent;
+    unsigned base_price;
+    unsigned price_per_km;
+    unsigned validity;
+    unsigned surcharge;
+    unsigned reduction;
+    unsigned trip_cap;
+    unsigned trip_cap_fields[MILECOPPER_TRIP_CAP_FIELDS];
+    unsigned day_cap;
+    unsigned bicycle_flat;
+};
+
+/* Writes a record's head: its whole length in bytes is `length`. */
+static inline void milecopper_put_head(uint8_t *bytes, size_t length, uint32_t kind)
+{
+    milecopper_put_number(bytes + MILECOPPER_LENGTH_AT, 2, MILECOPPER_AS(uint32_t, length - MILECOPPER_KIND_AT));
+    milecopper_put_number(bytes + MILECOPPER_KIND_AT, 2, kind);
+}
+
+static inline int milecopper_stamp_fits(const struct milecopper_stamp *stamp)
+{
+    return stamp->year <= 0xFFFFu && stamp->month <= 0xFFu && stamp->day <= 0xFFu && stamp->hour <= 0xFFu &&
+           stamp->minute <= 0xFFu && stamp->offset <= 0xFFu;
+}
+
+static inline void milecopper_put_stamp(uint8_t *bytes, const struct milecopper_stamp *stamp)
+{
+    milecopper_put_number(bytes + MILECOPPER_STAMP_YEAR_AT, 2, stamp->year);
+    milecopper_put_number(bytes + MILECOPPER_STAMP_MONTH_AT, 1, stamp->month);
+    milecopper_put_number(bytes + MILECOPPER_STAMP_DAY_AT, 1, stamp->day);
+    milecopper_put_number(bytes + MILECOPPER_STAMP_HOUR_AT, 1, stamp->hour);
+    milecopper_put_number(bytes + MILECOPPER_STAMP_MINUTE_AT, 1, stamp->minute);
+    milecopper_put_number(bytes + MILECOPPER_STAMP_OFFSET_AT, 1, stamp->offset);
+}
+
+static inline size_t milecopper_put_trip(uint8_t *bytes, size_t room, const struct milecopper_trip *trip)
+{
+    size_t length = MILECOPPER_TRIP_STOPS_AT + 2 * MILECOPPER_AS(size_t, trip->stop_count);
+    unsigned i;
+    if (!milecopper_stamp_fits(&trip->check_in) || !milecopper_stamp_fits(&trip->check_out) ||
+        trip->travel_class > 0xFFu || trip->level > 0xFFu || trip->adults > 0xFFu || trip->children > 0xFFu ||
+        trip->bicycles > 0xFFu || trip->stop_count > 0xFFu || length > room)
+        return 0;
+    milecopper_put_head(bytes, length, MILECOPPER_TRIP_KIND);
+    milecopper_put_stamp(bytes + MILECOPPER_TRIP_CHECK_IN_AT, &trip->check_in);
+    milecopper_put_stamp(bytes + MILECOPPER_TRIP_CHECK_OUT_AT, &trip->check_out);
+    milecopper_put_number(bytes + MILECOPPER_TRIP_CLASS_AT, 1, trip->travel_class);
+    milecopper_put_number(bytes + MILECOPPER_TRIP_LEVEL_AT, 1, trip->level);
+    milecopper_put_number(bytes + MILECOPPER_TRIP_ADULTS_AT, 1, trip->adults);
+    milecopper_put_number(bytes + MILECOPPER_TRIP_CHILDREN_AT, 1, trip->children);
+    milecopper_put_number(bytes + MILECOPPER_TRIP_BICYCLES_AT, 1, trip->bicycles);
+    milecopper_put_number(bytes + MILECOPPER_TRIP_STOP_COUNT_AT, 1, trip->stop_count);
+    for (i = 0; i < trip->stop_count; i += 1)
+        milecopper_put_number(bytes + MILECOPPER_TRIP_STOPS_AT + 2 * MILECOPPER_AS(size_t, i), 2, trip->stops[i]);
+    return length;
+}
+
+static inline int milecopper_area_fits(const struct milecopper_area *area)
+{
+    unsigned i;
+    for (i = 0; i < MILECOPPER_TRIP_CAP_FIELDS; i += 1)
+        if (area->trip_cap_fields[i] > 0xFFFFu)
+            return 0;
+    return area->level <= 0xFFu && area->parent <= 0xFFu && area->base_price <= 0xFFFFu && area->price_per_km <= 0xFFFFu &&
+           area->validity <= 0xFFFFu && area->surcharge <= 0xFFu && area->reduction <= 0xFFu && area->trip_cap <= 0xFFu &&
+           area->day_cap <= 0xFFFFu && area->bicycle_flat <= 0xFFFFu;
+}
+
+static inline size_t milecopper_put_area(uint8_t *bytes, size_t room, const struct milecopper_area *area)
+{
+    unsigned i;
+    if (room < MILECOPPER_AREA_BYTES || !milecopper_area_fits(area))
+        return 0;
+    milecopper_put_head(bytes, MILECOPPER_AREA_BYTES, MILECOPPER_AREA_KIND);
+    milecopper_put_number(bytes + MILECOPPER_AREA_LEVEL_AT, 1, area->level);
+    milecopper_put_number(bytes + MILECOPPER_AREA_PARENT_AT, 1, area->parent);
+    milecopper_put_number(bytes + MILECOPPER_AREA_BASE_PRICE_AT, 2, area->base_price);
+    milecopper_put_number(bytes + MILECOPPER_AREA_PRICE_PER_KM_AT, 2, area->price_per_km);
+    milecopper_put_number(bytes + MILECOPPER_AREA_VALIDITY_AT, 2, area->validity);
+    milecopper_put_number(bytes + MILECOPPER_AREA_SURCHARGE_AT, 1, area->surcharge);
+    milecopper_put_number(bytes + MILECOPPER_AREA_REDUCTION_AT, 1, area->reduction);
+    milecopper_put_number(bytes + MILECOPPER_AREA_TRIP_CAP_AT, 1, area->trip_cap);
+    for (i = 0; i < MILECOPPER_TRIP_CAP_FIELDS; i += 1)
+        milecopper_put_number(bytes + MILECOPPER_AREA_TRIP_CAP_FIELDS_AT + 2 * MILECOPPER_AS(size_t, i), 2,
+                              area->trip_cap_fields[i]);
+    milecopper_put_number(bytes + MILECOPPER_AREA_DAY_CAP_AT, 2, area->day_cap);
+    milecopper_put_number(bytes + MILECOPPER_AREA_BICYCLE_FLAT_AT, 2, area->bicycle_flat);
+    return MILECOPPER_AREA_BYTES;
+}
+
+static inline size_t milecopper_put_factor(uint8_t *bytes, size_t room, unsigned factor, unsigned mark)
+{
+    if (room < MILECOPPER_FACTOR_BYTES || factor > 0xFFu || mark > 0xFFu)
+        return 0;
+    milecopper_put_head(bytes, MILECOPPER_FACTOR_BYTES, MILECOPPER_FACTOR_KIND);
+    milecopper_put_number(bytes + MILECOPPER_FACTOR_FACTOR_AT, 1, factor);
+    milecopper_put_number(bytes + MILECOPPER_FACTOR_MARK_AT, 1, mark);
+    return MILECOPPER_FACTOR_BYTES;
+}
+
+static inline size_t milecopper_put_stop(uint8_t *bytes, size_t room, unsigned area, uint32_t x, uint32_t y)
+{
+    if (room < MILECOPPER_STOP_BYTES || area > 0xFFu)
+        return 0;
+    milecopper_put_head(bytes, MILECOPPER_STOP_BYTES, MILECOPPER_STOP_KIND);
+    milecopper_put_number(bytes + MILECOPPER_STOP_AREA_AT, 1, area);
+    milecopper_put_number(bytes + MILECOPPER_STOP_X_AT, 4, x);
+    milecopper_put_number(bytes + MILECOPPER_STOP_Y_AT, 4, y);
+    return MILECOPPER_STOP_BYTES;
 }
 
 #endif

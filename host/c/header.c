@@ -26,8 +26,11 @@ static void sizes(void)
           "the largest trip");
     check(MILECOPPER_LARGEST_STATEMENT_BYTES == MILECOPPER_MOST_PARTS * MILECOPPER_LARGEST_RECORD_BYTES,
           "the largest statement");
-    check(MILECOPPER_LARGEST_TARIFF_BYTES == (29 + 6) * MILECOPPER_MOST_AREAS + 13 * MILECOPPER_MOST_STOPS,
+    check(MILECOPPER_LARGEST_TARIFF_BYTES == (MILECOPPER_AREA_BYTES + MILECOPPER_FACTOR_BYTES) * MILECOPPER_MOST_AREAS +
+                                                 MILECOPPER_STOP_BYTES * MILECOPPER_MOST_STOPS,
           "the largest tariff");
+    check(MILECOPPER_TRIP_STOPS_AT + 2 * MILECOPPER_MOST_STOPS_IN_A_TRIP == MILECOPPER_LARGEST_TRIP_BYTES, "a trip's stops");
+    check(MILECOPPER_TRIP_CHECK_IN_AT + MILECOPPER_STAMP_BYTES == MILECOPPER_TRIP_CHECK_OUT_AT, "a trip's stamps");
 }
 
 /* Only the types are looked at; nothing is called. */

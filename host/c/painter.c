@@ -10,12 +10,13 @@ word painted_depth(const void *function, const word given[8], word *stack, word 
 word milecopper_settle(const void *, word, void *, word, const void *, word, void *, word);
 word milecopper_quote(const void *, word, const void *, word, const void *, word, void *, word);
 word milecopper_post(const void *, word, void *, word, const void *, word, const void *, word);
+word milecopper_check_tariff(const void *, word);
 number read(int, void *, word);
 number write(int, const void *, word);
 
 /* As in host/src/stack.rs. */
 static const void *const FUNCTIONS[] = {
-    (const void *)milecopper_settle, (const void *)milecopper_quote, (const void *)milecopper_post
+    (const void *)milecopper_settle, (const void *)milecopper_quote, (const void *)milecopper_post, (const void *)milecopper_check_tariff
 };
 
 enum { MANY = sizeof FUNCTIONS / sizeof *FUNCTIONS, SLICES = 4, LONGEST = 1 << 17, WORDS = 1 << 10 };

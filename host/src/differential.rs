@@ -30,7 +30,7 @@ mod tariffs;
 pub mod trips;
 
 pub use counts::Counts;
-pub use functions::{number_of, settle_by_the_model, Functions, Post, Quote, Settle, MODEL};
+pub use functions::{number_of, settle_by_the_model, Check, Functions, Post, Quote, Settle, MODEL};
 pub use options::{Options, USAGE};
 pub use run::Difference;
 

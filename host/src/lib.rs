@@ -10,6 +10,7 @@
 //! - [`examples`] runs the examples of samples/ on anything that offers the same.
 //! - [`differential`] compares the library with the model on many cases.
 //! - `stack` (feature `library`) paints the stack that a call of the library runs on.
+//! - [`tool`] is what every program says of itself.
 //! - `planted` (feature `planted`) holds copies of the model with an error in each, to show that the comparison finds it.
 
 pub mod answer;
@@ -25,3 +26,4 @@ pub mod offered;
 pub mod planted;
 #[cfg(feature = "library")]
 pub mod stack;
+pub mod tool;

@@ -4,6 +4,7 @@ use crate::answer::Answer;
 use crate::differential::Functions;
 
 extern "C" {
+    pub(crate) fn milecopper_check_tariff(tariff: *const u8, tariff_len: usize) -> u64;
     pub(crate) fn milecopper_settle(
         tariff: *const u8,
         tariff_len: usize,
@@ -38,8 +39,16 @@ extern "C" {
     ) -> u64;
 }
 
-/// The three functions, each with the answer's number as the library gives it.
-pub const LIBRARY: Functions = Functions { settle: settle_to_number, quote: quote_to_number, post: post_to_number };
+/// A faultless tariff's length, or the number that settling under it gives.
+pub fn check_tariff(tariff: &[u8]) -> u64 {
+    // SAFETY: the pointer comes with its slice's own length and is never null. The bytes are only read, and no pointer is
+    // kept.
+    unsafe { milecopper_check_tariff(tariff.as_ptr(), tariff.len()) }
+}
+
+/// The four functions, each with the answer's number as the library gives it.
+pub const LIBRARY: Functions =
+    Functions { check: check_tariff, settle: settle_to_number, quote: quote_to_number, post: post_to_number };
 
 pub fn settle_to_number(tariff: &[u8], book: &mut [u8], trip: &[u8], statement: &mut [u8]) -> u64 {
     // SAFETY: each pointer comes with its slice's own length, and a slice's pointer is never null. The mutable slices,

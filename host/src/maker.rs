@@ -1,30 +1,17 @@
 //! Makes bytes from a readable text, so that samples come with their source.
 //!
-//! One record a line; `#` starts a comment; blank lines are ignored.
-//!
-//! ```text
-//! area state parent 0 base 140 km 27 valid 90 first 50 child 50 cap none day 3000 bike 400
-//! area city parent 1 base 140 km 27 valid 90 first 50 child 50 cap flat 230 90 day none bike 300
-//! area region parent 0 base 173 km 29 valid 240 first 50 child 50 cap levels 1 2 3 4 5 day 2890 bike 350
-//! factor 3 mark 0
-//! stop 2 300000 200000
-//! trip 2026-10-25T02:50+02:00 to 2026-10-25T02:10+01:00 class 2 level K adults 0 children 0 bikes 0 stops 0 1
-//! record 9 0a0b 0c
-//! bytes 01 02
-//! repeat 3
-//! stop 2 300000 200000
-//! ```
-//!
-//! `area`, `factor` and `trip` take their fields in this order. A time is written as in ISO 8601, with its offset from UTC
-//! in whole hours. A level may also be a number. Numbers are checked only for their width in bytes, so that bad records can
-//! be written. `record` gives a kind and a body in hexadecimal, `bytes` anything at all. `repeat` stands on its own line
-//! and writes the next record that many times.
+//! docs/TEXT.md says what such a text may have. Its values are checked by the rules, and all mistakes are told with their
+//! lines; only where it is raw, numbers are looked at for nothing but their width in bytes, so that bad records can be
+//! written, and `record` and `bytes` give any bytes.
 //!
 //! A case file has sections besides (see [`cases`]).
 
 pub mod cases;
 pub mod compare;
+pub mod encoding;
+mod order;
 mod records;
+mod stamps;
 mod words;
 
 #[cfg(test)]
@@ -46,13 +33,39 @@ impl fmt::Display for Fault {
     }
 }
 
-/// The bytes of a text of records.
-pub fn bytes_of(text: &str) -> Result<Vec<u8>, Fault> {
-    let mut records = Records::default();
+/// How many stops the tariff of some file has, or why that cannot be told.
+pub type StopsOf<'a> = &'a dyn Fn(&str) -> Result<usize, String>;
+
+/// The bytes of a text of records whose values are right; or all of its mistakes.
+pub fn checked_bytes_of(text: &str, stops_of: StopsOf) -> Result<Vec<u8>, Vec<Fault>> {
+    all_of(text, Records::checked(stops_of))
+}
+
+/// The bytes of a raw text; or all of its mistakes.
+pub fn raw_bytes_of(text: &str) -> Result<Vec<u8>, Vec<Fault>> {
+    all_of(text, Records::default())
+}
+
+fn all_of(text: &str, mut records: Records) -> Result<Vec<u8>, Vec<Fault>> {
+    let (mut faults, mut last) = (Vec::new(), 1);
     for (line, content) in lines_of(text) {
-        records.take(line, without_comment(content))?;
+        let content = without_comment(content);
+        let mistakes = records.mistakes_of(line, content);
+        faults.extend(mistakes.into_iter().map(|text| Fault { line, text }));
+        last = if content.is_empty() { last } else { line };
     }
-    records.finish()
+    faults.extend(records.mistakes_at_the_end().into_iter().map(|text| Fault { line: last, text }));
+    match records.finish() {
+        Ok(bytes) if faults.is_empty() => return Ok(bytes),
+        Ok(_) => (),
+        Err(fault) => faults.push(fault),
+    }
+    Err(faults)
+}
+
+/// The bytes of a raw text; or its first mistake.
+pub fn bytes_of(text: &str) -> Result<Vec<u8>, Fault> {
+    raw_bytes_of(text).map_err(|mut faults| faults.remove(0))
 }
 
 /// The lines with their numbers.

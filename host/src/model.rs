@@ -53,6 +53,11 @@ pub struct Refusal {
     pub place: u32,
 }
 
+/// Checks a tariff alone: its length, or its refusal.
+pub fn check_tariff(tariff: &[u8]) -> Result<usize, Refusal> {
+    read_tariff(tariff).map(|_| tariff.len())
+}
+
 /// Settles one trip. Accepted: the bytes written; the book is replaced, and the charge records of the trip's parts stand
 /// one after another at the start of the statement. Refused: book and statement stay.
 pub fn settle(tariff: &[u8], book: &mut [u8], trip: &[u8], statement: &mut [u8]) -> Result<usize, Refusal> {

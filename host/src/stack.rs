@@ -1,19 +1,21 @@
 //! The stack that a call of the library takes, by painting the stack that it runs on (c/painted.c). x86-64 and aarch64.
 
-use crate::library::{milecopper_post, milecopper_quote, milecopper_settle};
+use crate::library::{milecopper_check_tariff, milecopper_post, milecopper_quote, milecopper_settle};
 
 /// What the library exports, and how many bytes of stack a call may take. Who raises a limit says why in docs/DECISIONS.md.
 /// c/painter.c has the functions in the same order.
-pub const FUNCTIONS: [Function; 3] = [
+pub const FUNCTIONS: [Function; 4] = [
     Function { name: "milecopper_settle", limit: 1_024, start: milecopper_settle as *const () },
     Function { name: "milecopper_quote", limit: 1_536, start: milecopper_quote as *const () },
     Function { name: "milecopper_post", limit: 2_048, start: milecopper_post as *const () },
+    Function { name: "milecopper_check_tariff", limit: 256, start: milecopper_check_tariff as *const () },
 ];
 
 /// Their places among them.
 pub const SETTLE: usize = 0;
 pub const QUOTE: usize = 1;
 pub const POST: usize = 2;
+pub const CHECK: usize = 3;
 
 pub struct Function {
     pub name: &'static str,
@@ -30,7 +32,8 @@ const WORDS: usize = 8 * 1_024;
 #[repr(align(16))]
 struct Stack([u64; WORDS]);
 
-/// What is lent to a call: tariff, book and trip, and a statement, or a posting's record.
+/// What is lent to a call: tariff, book and trip, and a statement, or a posting's record. A function that takes the tariff alone does not
+/// look at the others.
 pub struct Call<'a> {
     pub tariff: &'a [u8],
     pub book: &'a [u8],
@@ -59,7 +62,7 @@ pub fn depth_of(function: usize, call: &Call) -> usize {
         slice(call.trip.as_ptr(), call.trip.len()),
         slice(fourth.as_mut_ptr(), fourth.len()),
     ];
-    // SAFETY: each function takes four slices, a pointer and a length each, eight words. The pointers come with their slices'
+    // SAFETY: each function takes at most four slices, a pointer and a length each, eight words. The pointers come with their slices'
     // own lengths, and the mutable slices overlap nothing. The stack is memory that nobody else uses, of so many words, an
     // even number, at a multiple of 16, and far more than a call needs.
     unsafe {
@@ -84,11 +87,11 @@ mod tests {
         let header = include_str!("../../include/milecopper.h");
         for function in FUNCTIONS {
             let (name, limit) = (function.name, function.limit);
-            let duty = format!(
-                "Where {name} is called, at least {},{:03} bytes of stack are free.",
-                limit / 1_000,
-                limit % 1_000
-            );
+            let bytes = match limit / 1_000 {
+                0 => limit.to_string(),
+                thousands => format!("{thousands},{:03}", limit % 1_000),
+            };
+            let duty = format!("Where {name} is called, at least {bytes} bytes of stack are free.");
             assert!(header.contains(&duty), "{duty}");
         }
     }

@@ -1,7 +1,8 @@
-//! What the pages show is what comes of it: the worked examples of docs/FORMAT.md, by the model and by the library, and
-//! the sample that README.md prints.
+//! What the pages show is what comes of it: the worked examples of docs/FORMAT.md, by the model and by the library, the
+//! texts of docs/TEXT.md, and the sample that README.md prints.
 
 use milecopper_host::differential::{settle_by_the_model, Functions, Settle, MODEL};
+use milecopper_host::maker::checked_bytes_of;
 use milecopper_host::model::settle_roll;
 
 const FORMAT: &str = include_str!("../../docs/FORMAT.md");
@@ -43,7 +44,7 @@ fn gives_the_cut(settle: Settle) {
 }
 
 /// Quoted, both trips give these records and leave the book. Posted by them they leave settling's book; by fewer bytes, none.
-fn are_quoted_and_posted(Functions { settle, quote, post }: Functions) {
+fn are_quoted_and_posted(Functions { settle, quote, post, .. }: Functions) {
     for (trip, records) in [("trip", "record"), ("ride-out-and-back", "two-records")] {
         let (tariff, trip, records) = (block("tariff"), block(trip), block(records));
         let (mut book, mut settled, mut statement) = ([0; 5_428], [0; 5_428], [0; 532]);
@@ -88,4 +89,35 @@ fn the_sample_that_is_printed() {
 fn the_night_in_words() {
     let night: String = include_str!("../c/expected.txt").lines().map(|line| format!("    {line}\n")).collect();
     assert!(README.contains(&format!("\n\n{night}\n")));
+}
+
+/// What the header says of the stack of any call is the most of what it says of each.
+#[test]
+fn the_stack_in_the_header() {
+    let header = include_str!("../../include/milecopper.h");
+    let told = header.lines().find_map(|line| line.strip_prefix("#define MILECOPPER_MOST_STACK_BYTES "));
+    let each = header.split("is called, at least ").skip(1).filter_map(|rest| rest.split(" bytes of stack").next());
+    let each = each.map(|number| number.replace(',', "").parse::<u32>().expect("a number"));
+    assert_eq!(told.map(|told| told.parse().expect("a number")), each.max());
+}
+
+/// The texts of docs/TEXT.md: the tariff and the trip are made and settled, and the mistakes are told as they stand there.
+#[test]
+fn the_texts() {
+    let page = include_str!("../../docs/TEXT.md");
+    let block = |name: &str| {
+        let start = page.find(&format!("```{name}\n")).expect("the page has the block") + 4 + name.len();
+        page[start..].split("```").next().expect("the block ends").to_string()
+    };
+    let tariff = checked_bytes_of(&block("tariff"), &|_| Err("no tariff".to_string())).expect("a tariff");
+    let stops_of = |name: &str| if name == "tariff.txt" { Ok(2) } else { Err("no tariff".to_string()) };
+    let roll = checked_bytes_of(&block("roll"), &stops_of).expect("a roll");
+    assert!(settle_roll(&tariff, &roll).ends_with("\naccepted 1 refused 0 cents 635\n"));
+    let wrong = block("roll").lines().next().expect("the tariff").to_string()
+        + "
+trip 2026-02-30T24:00+01:00 to 2026-03-01T00:10+01:00 class 2 level 0 adults 0 children 0 bikes 0 stops 0 1
+trip 2026-03-01T00:00+01:00 to 2026-03-01T00:10+01:00 class 3 level 0 adults 0 children 0 bikes 0 stops 0 2";
+    let faults = checked_bytes_of(&wrong, &stops_of).expect_err("mistakes");
+    let told: String = faults.iter().map(|fault| format!("roll.txt: {fault}\n")).collect();
+    assert_eq!(block("mistakes"), told + "roll.bin, which was there before, was removed\n");
 }

@@ -3,12 +3,15 @@ use settle::Answer;
 use settle::posting::post;
 use settle::quote::quote;
 use settle::settle;
+use tariff::Reading;
+use tariff::scan::read_tariff;
 ghost use mathlib.Core.Path.{_≡_};
 ghost use lib.ListN.{length};
 ghost use Rattle.settle.specs.Outcome.{quoted, settled, Settled, Quoted};
 ghost use Rattle.settle.specs.Posting.{postingOf, Posted};
 ghost use Rattle.settle.specs.Contracts.{AnswerFits};
 ghost use Rattle.milecopper.specs.Contracts.{encodedAs};
+ghost use Rattle.milecopper.specs.Tariffs.{tariffAnswer};
 
 // An answer as one number. Written: the bytes, below 2^32. Refused: the refusal's number × 2^32 + its place.
 fn encoded(answer: Answer) -> u64
@@ -18,6 +21,17 @@ fn encoded(answer: Answer) -> u64
     match answer {
         Answer::Refused { number, place } => number as u64 * 4_294_967_296 + place as u64,
         Answer::Written(size) => size as u64,
+    }
+}
+
+// Checks a tariff alone. Faultless: its length. Else 1 to 3, × 2^32 + the place of the first faulty record, as settling under it answers.
+#[no_mangle]
+pub extern "C" fn milecopper_check_tariff(tariff: &[u8]) -> u64
+    ensures { λ r. ⌜ r ≡ tariffAnswer (now (tariff .entry)) ⌝ }
+{
+    match read_tariff(tariff) {
+        Reading::Fault { number, at } => encoded(Answer::Refused { number, place: at }),
+        Reading::Faultless(_) => encoded(Answer::Written(tariff.len())),
     }
 }
 

@@ -3,19 +3,18 @@
 
 use milecopper_host::differential::{compare, status, Options, USAGE};
 use milecopper_host::library::LIBRARY;
+use milecopper_host::tool::{is_asked, misused};
 use std::env;
 use std::process::ExitCode;
 
 fn main() -> ExitCode {
-    let options = match Options::of(env::args().skip(1)) {
-        Ok(options) if options.names.is_empty() => options,
-        Ok(options) => return usage(&format!("'{}' is not asked for", options.names[0])),
-        Err(fault) => return usage(&fault),
-    };
-    status(compare("the library", LIBRARY, &options))
-}
-
-fn usage(fault: &str) -> ExitCode {
-    eprintln!("{fault}\nusage: differential [switches]\n{USAGE}");
-    ExitCode::from(2)
+    let usage = format!("usage: differential [SWITCHES]\n{USAGE}\n\nCompares the library with the plain implementation of the rules on many cases.");
+    if is_asked(&usage) {
+        return ExitCode::SUCCESS;
+    }
+    match Options::of(env::args().skip(1)) {
+        Ok(options) if options.names.is_empty() => status(compare("the library", LIBRARY, &options)),
+        Ok(options) => misused("differential", &format!("'{}' is not asked for", options.names[0]), &usage),
+        Err(fault) => misused("differential", &fault, &usage),
+    }
 }

@@ -7,12 +7,18 @@
 use milecopper_host::differential::{run_alike, Functions, Options};
 use milecopper_host::examples::{run, FILES};
 use milecopper_host::library::LIBRARY;
-use milecopper_host::stack::{bytes_of, depth_of, Call, FUNCTIONS, IS_PAINTED, POST, QUOTE, SETTLE};
+use milecopper_host::stack::{bytes_of, depth_of, Call, CHECK, FUNCTIONS, IS_PAINTED, POST, QUOTE, SETTLE};
+use milecopper_host::tool::{is_asked, misused};
 use std::io::{BufWriter, Read, Write};
 use std::process::{Child, ChildStdin, Command, ExitCode, Stdio};
 use std::sync::atomic::{AtomicUsize, Ordering::Relaxed};
 use std::sync::Mutex;
 use std::{env, iter};
+
+const USAGE: &str = "usage: stack [PROCESSOR WORD...]
+
+Tells the most bytes of stack that a call of each function takes on the examples and on cases of the differential test. The words
+start c/painter.c where it is built for another processor.";
 
 /// The seeds of the differential test whose cases are painted: half of its fixed run.
 const SEEDS: [u64; 2] = [1, 2];
@@ -24,6 +30,10 @@ static PAINTER: Mutex<Option<BufWriter<ChildStdin>>> = Mutex::new(None);
 
 /// The library, with each call made on a painted stack first.
 const PAINTED: Functions = Functions {
+    check: |tariff| {
+        paint(CHECK, &Call { tariff, book: &[], trip: &[], fourth: &[] });
+        (LIBRARY.check)(tariff)
+    },
     settle: |tariff, book, trip, statement| {
         paint(SETTLE, &Call { tariff, book, trip, fourth: statement });
         (LIBRARY.settle)(tariff, book, trip, statement)
@@ -47,12 +57,21 @@ fn paint(function: usize, call: &Call) {
 }
 
 fn main() -> ExitCode {
+    if is_asked(USAGE) {
+        return ExitCode::SUCCESS;
+    }
     if !IS_PAINTED {
         println!("stack: NOT painted, which is done on x86-64 and aarch64 only");
         return ExitCode::SUCCESS;
     }
     let mut arguments = env::args().skip(1);
-    let other = arguments.next().map(|processor| (processor, start_painter(&arguments.collect::<Vec<_>>())));
+    let other = match (arguments.next(), arguments.collect::<Vec<_>>()) {
+        (None, _) => None,
+        (Some(word), words) if words.is_empty() => {
+            return misused("stack", &format!("words are due behind '{word}'"), USAGE);
+        }
+        (Some(processor), words) => Some((processor, start_painter(&words))),
+    };
     if let Err(told) = paint_all() {
         println!("stack: {told}");
         return ExitCode::FAILURE;

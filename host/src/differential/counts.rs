@@ -19,6 +19,8 @@ pub struct Counts {
     /// Ways in which single refusals come about.
     particulars: [u64; PARTICULARS.len()],
     pub quotes: Offers,
+    /// Tariffs checked alone, those with a fault and those without.
+    tariffs: [u64; 2],
 }
 
 /// Those that settling gives.
@@ -40,6 +42,10 @@ impl Counts {
         for (count, (refusal, _, is_so)) in self.particulars.iter_mut().zip(PARTICULARS) {
             *count += u64::from(refusal == number && is_so(case));
         }
+    }
+
+    pub fn count_tariff(&mut self, is_faultless: bool) {
+        self.tariffs[usize::from(is_faultless)] += 1;
     }
 
     pub fn refused(&self) -> u64 {
@@ -69,6 +75,9 @@ impl Counts {
             }
         }
         all.extend(self.quotes.too_few());
+        if self.tariffs.contains(&0) {
+            all.push("tariffs checked alone".to_string());
+        }
         if self.accepted == 0 {
             all.push("accepted cases".to_string());
         }
@@ -96,6 +105,8 @@ impl fmt::Display for Counts {
         for (kind, count) in self.counted_kinds() {
             line(out, count, self.accepted, kind)?;
         }
+        let [faulty, faultless] = self.tariffs;
+        writeln!(out, "tariffs checked alone: {faultless} without and {faulty} with a fault")?;
         write!(out, "{}cases {}", self.quotes, self.cases())
     }
 }

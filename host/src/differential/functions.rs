@@ -2,6 +2,9 @@
 
 use crate::model::{self, Refusal};
 
+/// Checks a tariff alone, and answers its length or the number of its refusal.
+pub type Check = fn(&[u8]) -> u64;
+
 /// Settles: tariff, book, trip, statement, and the answer's number.
 pub type Settle = fn(&[u8], &mut [u8], &[u8], &mut [u8]) -> u64;
 
@@ -13,6 +16,7 @@ pub type Post = fn(&[u8], &mut [u8], &[u8], &[u8]) -> u64;
 
 #[derive(Clone, Copy)]
 pub struct Functions {
+    pub check: Check,
     pub settle: Settle,
     pub quote: Quote,
     pub post: Post,
@@ -20,6 +24,7 @@ pub struct Functions {
 
 /// The model, called as the library is.
 pub const MODEL: Functions = Functions {
+    check: |tariff| number_of(model::check_tariff(tariff)),
     settle: settle_by_the_model,
     quote: |tariff, book, trip, statement| number_of(model::quote(tariff, book, trip, statement)),
     post: |tariff, book, trip, record| number_of(model::post(tariff, book, trip, record)),

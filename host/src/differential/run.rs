@@ -22,6 +22,8 @@ pub struct Run {
     trip: Guarded,
     /// The statement, or a posting's record.
     fourth: Guarded,
+    /// The last tariff that was checked alone.
+    checked: Vec<u8>,
     pub counts: Counts,
     /// Whether each case is printed before it is run.
     print: bool,
@@ -49,8 +51,8 @@ impl Outcome {
 impl Run {
     pub fn of(name: &'static str, functions: Functions, print: bool) -> Run {
         let [tariff, book, trip, fourth] = [(); 4].map(|_| Guarded::new());
-        let counts = Counts::default();
-        Run { name, functions, tariff, book, trip, fourth, counts, print, seed: 0, part: 0, case: 0 }
+        let (checked, counts) = (Vec::new(), Counts::default());
+        Run { name, functions, tariff, book, trip, fourth, checked, counts, print, seed: 0, part: 0, case: 0 }
     }
 
     pub fn start_part(&mut self, seed: u64, part: u64) {
@@ -61,6 +63,7 @@ impl Run {
     /// Settles a case on both sides.
     pub fn check(&mut self, case: &Case) -> Result<Outcome, Difference> {
         let outcome = self.run(case, Call::Settle)?;
+        self.check_tariff(case)?;
         match outcome.answer {
             Ok(written) => {
                 let records = &outcome.fourth[..written];
@@ -70,6 +73,23 @@ impl Run {
             Err(refusal) => self.counts.count_refused(case, refusal.number),
         }
         Ok(outcome)
+    }
+
+    /// Checks the tariff alone on both sides, unless it is the last one again. It still stands beside its protected page.
+    fn check_tariff(&mut self, case: &Case) -> Result<(), Difference> {
+        if self.checked == case.tariff {
+            return Ok(());
+        }
+        self.checked.clone_from(&case.tariff);
+        let due = model::check_tariff(&case.tariff);
+        let number = (self.functions.check)(self.tariff.bytes());
+        if number != number_of(due) || self.tariff.bytes() != case.tariff {
+            let (due, found) = (number_of(due), number);
+            let fault = format!("checked alone, the tariff is {due:#x} by the model and {found:#x} by {}", self.name);
+            return Err(self.difference(case, Call::Settle, &[fault]));
+        }
+        self.counts.count_tariff(due.is_ok());
+        Ok(())
     }
 
     /// Quotes a case on both sides.

@@ -1,19 +1,32 @@
-//! The lines that give bytes: `area`, `factor`, `stop`, `trip`, `record`, `bytes` and `repeat`.
+//! The lines that give bytes: `area`, `factor`, `stop`, `trip`, `record`, `bytes` and `repeat`; and `tariff`, which names one.
 
-use super::words::{fitting, hexadecimal, whole, Words};
-use super::Fault;
+use super::order::Order;
+use super::stamps::{duration, stamp};
+use super::words::{hexadecimal, whole, Words};
+use super::{Fault, StopsOf};
 use crate::model::record::{KIND_AREA, KIND_FACTOR, KIND_STOP, KIND_TRIP};
+use crate::model::tariff::{
+    BASE_PRICES, FACTORS, METRES, MONEY, MOST_AREAS, NO_DAY_CAP, PERCENTAGES, PRICES_PER_KM, VALIDITIES,
+};
+use crate::model::trip::{CARRIED, CLASSES, STOPS_IN_A_TRIP, TICKET_LEVELS};
 use crate::numbers::put;
+use std::ops::RangeInclusive;
 
 /// The most that `repeat` repeats.
 const MOST_TIMES: u64 = 1_000_000;
 
-/// The day cap that means none.
-const NO_DAY_CAP: u64 = 65_535;
+/// Numbers of areas, and of marks and levels of areas.
+const AREAS: RangeInclusive<u64> = 0..=MOST_AREAS as u64 - 1;
+const MARKS: RangeInclusive<u64> = 0..=1;
+const LEVELS: RangeInclusive<u64> = 0..=2;
 
 /// The bytes gathered so far, and what waits for the next line.
+///
+/// By default values are not checked, so that wrong ones can be written.
 #[derive(Default)]
-pub struct Records {
+pub struct Records<'a> {
+    /// Where values are checked: the lines so far, and how many stops a tariff of some name has.
+    checked: Option<(Order, StopsOf<'a>)>,
     bytes: Vec<u8>,
     /// The whole records among the lines taken, a repeated one once for each time.
     whole_records: u64,
@@ -24,34 +37,79 @@ pub struct Records {
 }
 
 /// What a line gives.
-enum Content {
+enum Content<'a> {
     Nothing,
     Repeat(u64),
-    Bytes { bytes: Vec<u8>, whole_record: bool },
+    Tariff(&'a str),
+    /// A whole record has its kind.
+    Bytes {
+        bytes: Vec<u8>,
+        kind: Option<u64>,
+    },
 }
 
-impl Records {
-    /// Takes one line without its comment.
+impl<'a> Records<'a> {
+    pub fn checked(stops_of: StopsOf<'a>) -> Records<'a> {
+        Records { checked: Some((Order::default(), stops_of)), ..Records::default() }
+    }
+
+    /// Takes one line without its comment; the first of its mistakes is told.
     pub fn take(&mut self, line: usize, text: &str) -> Result<(), Fault> {
-        match content_of(text).map_err(|text| Fault { line, text })? {
-            Content::Nothing => Ok(()),
-            Content::Repeat(_) if self.waiting.is_some() => {
-                Err(Fault { line, text: "a repeat after a repeat".to_string() })
+        match self.mistakes_of(line, text).into_iter().next() {
+            None => Ok(()),
+            Some(text) => Err(Fault { line, text }),
+        }
+    }
+
+    /// Takes one line without its comment, and tells all of its mistakes.
+    pub fn mistakes_of(&mut self, line: usize, text: &str) -> Vec<String> {
+        let mut words = if self.checked.is_some() { Words::checked(text) } else { Words::of(text) };
+        let content = content_of(&mut words);
+        let mut mistakes = words.mistakes;
+        match content {
+            Err(text) => {
+                mistakes.push(text);
+                // The line that it was to repeat is this one.
+                self.waiting = None;
             }
-            Content::Repeat(times) => {
-                self.waiting = Some((line, times));
-                Ok(())
+            Ok(Content::Nothing) => (),
+            Ok(Content::Repeat(_)) if self.waiting.is_some() => mistakes.push("a repeat after a repeat".to_string()),
+            Ok(Content::Repeat(times)) => self.waiting = Some((line, times)),
+            Ok(Content::Tariff(name)) => mistakes.extend(self.name_tariff(name)),
+            Ok(Content::Bytes { bytes, kind }) => mistakes.extend(self.put(&bytes, kind)),
+        }
+        mistakes
+    }
+
+    /// The trips are under the tariff of this name.
+    fn name_tariff(&mut self, name: &str) -> Option<String> {
+        let (order, stops_of) = self.checked.as_mut()?;
+        match stops_of(name) {
+            Ok(stops) => {
+                order.known_stops = Some(stops);
+                None
             }
-            Content::Bytes { bytes, whole_record } => {
-                let times = self.waiting.take().map_or(1, |(_, times)| times);
-                for _ in 0..times {
-                    self.bytes.extend_from_slice(&bytes);
-                }
-                self.whole_records += if whole_record { times } else { 0 };
-                self.lines += 1;
-                Ok(())
+            Err(text) => {
+                // That is told once, and not at each stop again.
+                order.known_stops = Some(usize::MAX);
+                Some(text)
             }
         }
+    }
+
+    /// The bytes as often as they are due, with the mistakes of the first that has any.
+    fn put(&mut self, bytes: &[u8], kind: Option<u64>) -> Vec<String> {
+        let times = self.waiting.take().map_or(1, |(_, times)| times);
+        let mut mistakes = Vec::new();
+        for _ in 0..times {
+            self.bytes.extend_from_slice(bytes);
+            if let (Some((order, _)), Some(kind), true) = (&mut self.checked, kind, mistakes.is_empty()) {
+                mistakes = order.follow(kind, &bytes[4..]);
+            }
+        }
+        self.whole_records += if kind.is_some() { times } else { 0 };
+        self.lines += 1;
+        mistakes
     }
 
     pub fn whole_records(&self) -> u64 {
@@ -69,21 +127,29 @@ impl Records {
             Some((line, _)) => Err(Fault { line, text: "a repeat without a record after it".to_string() }),
         }
     }
+
+    /// What is still due after the last line.
+    pub fn mistakes_at_the_end(&self) -> Vec<String> {
+        self.checked.iter().flat_map(|(order, _)| order.end()).collect()
+    }
 }
 
-fn content_of(text: &str) -> Result<Content, String> {
-    let mut words = Words::of(text);
+fn content_of<'a>(words: &mut Words<'a>) -> Result<Content<'a>, String> {
     let Ok(name) = words.next("") else {
         return Ok(Content::Nothing);
     };
     let content = match name {
-        "area" => record(KIND_AREA, area_body(&mut words)?)?,
-        "factor" => record(KIND_FACTOR, factor_body(&mut words)?)?,
-        "stop" => record(KIND_STOP, stop_body(&mut words)?)?,
-        "trip" => record(KIND_TRIP, trip_body(&mut words)?)?,
+        "area" => record(KIND_AREA, area_body(words)?)?,
+        "factor" => record(KIND_FACTOR, factor_body(words)?)?,
+        "stop" => record(KIND_STOP, stop_body(words)?)?,
+        "trip" => record(KIND_TRIP, trip_body(words)?)?,
+        "record" | "bytes" if words.checks() => {
+            return Err(format!("'{name}' writes any bytes, which only 'make_bytes --raw' does"));
+        }
         "record" => record(words.number("the kind", 2)?, hexadecimal(&words.all())?)?,
-        "bytes" => Content::Bytes { bytes: hexadecimal(&words.all())?, whole_record: false },
-        "repeat" => Content::Repeat(times(&mut words)?),
+        "bytes" => Content::Bytes { bytes: hexadecimal(&words.all())?, kind: None },
+        "repeat" => Content::Repeat(times(words)?),
+        "tariff" => Content::Tariff(words.next("the tariff's file")?),
         _ => return Err(format!("'{name}' is no sort of line")),
     };
     words.end()?;
@@ -91,7 +157,7 @@ fn content_of(text: &str) -> Result<Content, String> {
 }
 
 /// A whole record: length, kind, body.
-fn record(kind: u64, body: Vec<u8>) -> Result<Content, String> {
+fn record<'a>(kind: u64, body: Vec<u8>) -> Result<Content<'a>, String> {
     let length = 2 + body.len() as u64;
     if length > 65_535 {
         return Err(format!("a body of {} bytes is too long for a record", body.len()));
@@ -100,7 +166,7 @@ fn record(kind: u64, body: Vec<u8>) -> Result<Content, String> {
     put(&mut bytes, 2, length);
     put(&mut bytes, 2, kind);
     bytes.extend(body);
-    Ok(Content::Bytes { bytes, whole_record: true })
+    Ok(Content::Bytes { bytes, kind: Some(kind) })
 }
 
 fn times(words: &mut Words) -> Result<u64, String> {
@@ -115,19 +181,19 @@ fn times(words: &mut Words) -> Result<u64, String> {
 fn area_body(words: &mut Words) -> Result<Vec<u8>, String> {
     let mut body = Vec::new();
     put(&mut body, 1, area_level(words)?);
-    put(&mut body, 1, words.field("parent", 1)?);
-    put(&mut body, 2, words.field("base", 2)?);
-    put(&mut body, 2, words.field("km", 2)?);
-    put(&mut body, 2, words.field("valid", 2)?);
-    put(&mut body, 1, words.field("first", 1)?);
-    put(&mut body, 1, words.field("child", 1)?);
+    put(&mut body, 1, words.field("parent", 1, &AREAS)?);
+    put(&mut body, 2, words.field("base", 2, &BASE_PRICES)?);
+    put(&mut body, 2, words.field("km", 2, &PRICES_PER_KM)?);
+    put(&mut body, 2, words.field("valid", 2, &VALIDITIES)?);
+    put(&mut body, 1, words.field("first", 1, &PERCENTAGES)?);
+    put(&mut body, 1, words.field("child", 1, &PERCENTAGES)?);
     let (sort, fields) = trip_cap(words)?;
     put(&mut body, 1, sort);
     for field in fields {
         put(&mut body, 2, field);
     }
     put(&mut body, 2, day_cap(words)?);
-    put(&mut body, 2, words.field("bike", 2)?);
+    put(&mut body, 2, words.field("bike", 2, &MONEY)?);
     Ok(body)
 }
 
@@ -136,7 +202,11 @@ fn area_level(words: &mut Words) -> Result<u64, String> {
         "state" => Ok(0),
         "region" => Ok(1),
         "city" => Ok(2),
-        word => fitting("the area's level", word, 1),
+        word if words.checks() && whole("", word).is_err() => {
+            words.mistakes.push(format!("'{word}' is no level of an area: state, region or city"));
+            Ok(0)
+        }
+        word => words.value_in("the area's level", word, 1, &LEVELS),
     }
 }
 
@@ -145,11 +215,14 @@ fn trip_cap(words: &mut Words) -> Result<(u64, [u64; 5]), String> {
     words.fixed("cap")?;
     match words.next("the sort of trip cap")? {
         "none" => Ok((0, [0; 5])),
-        "flat" => Ok((1, [words.number("the amount", 2)?, words.number("the minutes", 2)?, 0, 0, 0])),
+        "flat" => {
+            let amount = words.number_in("the amount", 2, &MONEY)?;
+            Ok((1, [amount, words.number_in("the minutes", 2, &VALIDITIES)?, 0, 0, 0]))
+        }
         "levels" => {
             let mut amounts = [0; 5];
             for (amount, level) in amounts.iter_mut().zip(["K", "A", "B", "C", "D"]) {
-                *amount = words.number(&format!("the amount of level {level}"), 2)?;
+                *amount = words.number_in(&format!("the amount of level {level}"), 2, &MONEY)?;
             }
             Ok((2, amounts))
         }
@@ -161,69 +234,45 @@ fn day_cap(words: &mut Words) -> Result<u64, String> {
     words.fixed("day")?;
     match words.next("the day cap")? {
         "none" => Ok(NO_DAY_CAP),
-        word => fitting("the day cap", word, 2),
+        word => words.value_in("the day cap", word, 2, &MONEY),
     }
 }
 
 fn factor_body(words: &mut Words) -> Result<Vec<u8>, String> {
     let mut body = Vec::new();
-    put(&mut body, 1, words.number("the factor", 1)?);
-    put(&mut body, 1, words.field("mark", 1)?);
+    put(&mut body, 1, words.number_in("the factor", 1, &FACTORS)?);
+    put(&mut body, 1, words.field("mark", 1, &MARKS)?);
     Ok(body)
 }
 
 fn stop_body(words: &mut Words) -> Result<Vec<u8>, String> {
     let mut body = Vec::new();
-    put(&mut body, 1, words.number("the stop's area", 1)?);
-    put(&mut body, 4, words.number("x", 4)?);
-    put(&mut body, 4, words.number("y", 4)?);
+    put(&mut body, 1, words.number_in("the stop's area", 1, &AREAS)?);
+    put(&mut body, 4, words.number_in("x", 4, &METRES)?);
+    put(&mut body, 4, words.number_in("y", 4, &METRES)?);
     Ok(body)
 }
 
 fn trip_body(words: &mut Words) -> Result<Vec<u8>, String> {
-    let mut body = stamp(words)?;
+    let carried = *CARRIED.start() as u64..=*CARRIED.end() as u64;
+    let (mut body, check_in) = stamp(words, "check-in")?;
     words.fixed("to")?;
-    body.extend(stamp(words)?);
-    put(&mut body, 1, words.field("class", 1)?);
+    let (bytes, check_out) = stamp(words, "check-out")?;
+    body.extend(bytes);
+    words.mistakes.extend(duration(check_in, check_out));
+    put(&mut body, 1, words.field("class", 1, &CLASSES)?);
     put(&mut body, 1, ticket_level(words)?);
-    put(&mut body, 1, words.field("adults", 1)?);
-    put(&mut body, 1, words.field("children", 1)?);
-    put(&mut body, 1, words.field("bikes", 1)?);
+    put(&mut body, 1, words.field("adults", 1, &carried)?);
+    put(&mut body, 1, words.field("children", 1, &carried)?);
+    put(&mut body, 1, words.field("bikes", 1, &carried)?);
     words.fixed("stops")?;
     let stops = words.all();
-    put(&mut body, 1, fitting("the number of stops", &stops.len().to_string(), 1)?);
+    let counts = *STOPS_IN_A_TRIP.start() as u64..=*STOPS_IN_A_TRIP.end() as u64;
+    put(&mut body, 1, words.value_in("the number of stops", &stops.len().to_string(), 1, &counts)?);
     for stop in stops {
-        put(&mut body, 2, fitting("the stop", stop, 2)?);
+        put(&mut body, 2, words.value_in("the stop", stop, 2, &(0..=65_535))?);
     }
     Ok(body)
-}
-
-/// A date, a clock time and the whole hours that it is ahead of UTC, in one word as ISO 8601 has it.
-fn stamp(words: &mut Words) -> Result<Vec<u8>, String> {
-    let word = words.next("the time")?;
-    let told = || format!("the time '{word}' is not of the form 2026-10-25T02:50+02:00, in whole hours ahead of UTC");
-    let (date, rest) = word.split_once('T').ok_or_else(told)?;
-    let (time, offset) = rest.split_once('+').ok_or_else(told)?;
-    let hours = offset.strip_suffix(":00").ok_or_else(told)?;
-    let date = parts("the date", date, '-', 3)?;
-    let time = parts("the clock time", time, ':', 2)?;
-    let mut bytes = Vec::new();
-    put(&mut bytes, 2, fitting("the year", date[0], 2)?);
-    put(&mut bytes, 1, fitting("the month", date[1], 1)?);
-    put(&mut bytes, 1, fitting("the day", date[2], 1)?);
-    put(&mut bytes, 1, fitting("the hour", time[0], 1)?);
-    put(&mut bytes, 1, fitting("the minute", time[1], 1)?);
-    put(&mut bytes, 1, fitting("the offset", hours, 1)?);
-    Ok(bytes)
-}
-
-fn parts<'a>(what: &str, word: &'a str, between: char, many: usize) -> Result<Vec<&'a str>, String> {
-    let parts: Vec<&str> = word.split(between).collect();
-    if parts.len() == many {
-        Ok(parts)
-    } else {
-        Err(format!("{what} '{word}' does not have {many} parts"))
-    }
 }
 
 /// 0 for none, K, A, B, C, D for 1 to 5, or any number.
@@ -235,6 +284,10 @@ fn ticket_level(words: &mut Words) -> Result<u64, String> {
         "B" => Ok(3),
         "C" => Ok(4),
         "D" => Ok(5),
-        word => fitting("the ticket level", word, 1),
+        word if words.checks() && whole("", word).is_err() => {
+            words.mistakes.push(format!("'{word}' is no ticket level: 0 for none, K, A, B, C or D"));
+            Ok(0)
+        }
+        word => words.value_in("the ticket level", word, 1, &TICKET_LEVELS),
     }
 }

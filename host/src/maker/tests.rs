@@ -2,6 +2,7 @@
 
 use super::cases::{cases_of, rolls_of, sections_of, Content, Sort, Variant};
 use super::compare::difference;
+use super::encoding::text_of;
 use super::*;
 use crate::offered::Offered;
 
@@ -152,6 +153,215 @@ fn faults_name_their_line() {
         fault(&format!("record 1 {}", "00".repeat(65_534))),
         "line 1: a body of 65534 bytes is too long for a record"
     );
+}
+
+// ---- Values that are checked.
+
+const GOOD_TRIP: &str =
+    "trip 2026-10-25T02:50+02:00 to 2026-10-25T02:10+01:00 class 2 level K adults 0 children 0 bikes 0 stops 0 27";
+
+/// The mistakes of a text that is checked; its tariff has 28 stops.
+fn mistakes(text: &str) -> Vec<String> {
+    let stops_of = |name: &str| if name == "t" { Ok(28) } else { Err(format!("no tariff {name}")) };
+    let faults = checked_bytes_of(text, &stops_of).err().unwrap_or_default();
+    faults.iter().map(Fault::to_string).collect()
+}
+
+/// The mistakes of a trip with something replaced.
+fn trip_mistakes(from: &str, to: &str) -> Vec<String> {
+    assert_eq!(GOOD_TRIP.matches(from).count(), 1);
+    mistakes(&format!("tariff t\n{}", GOOD_TRIP.replace(from, to)))
+}
+
+#[test]
+fn a_checked_text_gives_the_bytes_of_a_raw_one() {
+    for text in [include_str!("../../../samples/tariff.txt"), include_str!("../../../samples/roll.txt")] {
+        assert_eq!(checked_bytes_of(text, &|_| Ok(28)), Ok(bytes(text)));
+    }
+}
+
+#[test]
+fn wrong_values_of_a_trip_are_told() {
+    for (from, to, told) in [
+        (
+            "to 2026-10-25T02:10+01:00",
+            "to 2026-10-25T24:00+01:00",
+            "check-out 2026-10-25T24:00+01:00: 24:00 is 00:00 of the next day",
+        ),
+        (
+            "2026-10-25T02:50+02:00 to",
+            "2026-02-30T02:50+02:00 to",
+            "check-in 2026-02-30T02:50+02:00: February 2026 has 28 days, and no day 30",
+        ),
+        (
+            "2026-10-25T02:50+02:00 to",
+            "2028-02-30T02:50+02:00 to",
+            "check-in 2028-02-30T02:50+02:00: February 2028 has 29 days, and no day 30",
+        ),
+        (
+            "2026-10-25T02:50",
+            "2026-10-00T02:50",
+            "check-in 2026-10-00T02:50+02:00: October 2026 has 31 days, and no day 0",
+        ),
+        ("2026-10-25T02:50", "2026-13-25T02:50", "check-in 2026-13-25T02:50+02:00: the month is 1 to 12"),
+        ("2026-10-25T02:50", "2100-10-25T02:50", "check-in 2100-10-25T02:50+02:00: the year is 2000 to 2099"),
+        ("2026-10-25T02:50", "2026-10-25T02:60", "check-in 2026-10-25T02:60+02:00: the clock goes from 00:00 to 23:59"),
+        (
+            "T02:50+02:00",
+            "T02:50+00:00",
+            "check-in 2026-10-25T02:50+00:00: +00:00 is neither winter time, +01:00, nor summer time, +02:00",
+        ),
+        (
+            "2026-10-25T02:50+02:00",
+            "2000-01-01T01:59+02:00",
+            "check-in 2000-01-01T01:59+02:00: this is before 2000 began in UTC",
+        ),
+        ("T02:10+01:00", "T02:10+02:00", "the trip ends 40 minutes before it begins"),
+        (
+            "to 2026-10-25T02:10+01:00",
+            "to 2026-10-26T01:51+01:00",
+            "the trip lasts 1,441 minutes, and 1,440 are the most",
+        ),
+        ("class 2", "class 3", "class 3 is not allowed, only 1 or 2"),
+        ("class 2", "class two", "class 'two' is not a number"),
+        ("level K", "level E", "'E' is no ticket level: 0 for none, K, A, B, C or D"),
+        ("level K", "level 6", "the ticket level 6 is not allowed, only 0 to 5"),
+        ("adults 0", "adults 11", "adults 11 is not allowed, only 0 to 10"),
+        ("children 0", "children 70000", "children 70,000 is not allowed, only 0 to 10"),
+        ("bikes 0", "bikes 11", "bikes 11 is not allowed, only 0 to 10"),
+        ("stops 0 27", "stops 0", "the number of stops 1 is not allowed, only 2 to 32"),
+        ("stops 0 27", "stops 0 28", "there is no stop 28: the tariff's are 0 to 27"),
+    ] {
+        assert_eq!(trip_mistakes(from, to), [format!("line 2: {told}")]);
+    }
+    assert_eq!(trip_mistakes("class 2", "class 2"), [""; 0]);
+    assert_eq!(
+        mistakes(GOOD_TRIP),
+        ["line 1: the tariff with the stops is not named: a line 'tariff FILE' is due before the first trip"]
+    );
+    assert_eq!(mistakes(&format!("tariff u\n{GOOD_TRIP}")), ["line 1: no tariff u"]);
+}
+
+#[test]
+fn all_mistakes_are_told_at_once() {
+    let text = "tariff t
+trip 2026-02-30T24:00+02:00 to 2026-03-01T12:00+01:00 class 3 level 0 adults 11 children 0 bikes 0 stops 0 99 100
+route
+record 9
+trip 2026-03-01T12:00+01:00 to 2026-03-01T12:10+01:00 klass 2
+repeat 2
+trip 2026-03-01T12:00+01:00 to 2026-03-01T12:10+01:00 class 0 level 0 adults 0 children 0 bikes 0 stops 0 1
+repeat 2";
+    let due = [
+        "line 2: check-in 2026-02-30T24:00+02:00: February 2026 has 28 days, and no day 30",
+        "line 2: check-in 2026-02-30T24:00+02:00: 24:00 is 00:00 of the next day",
+        "line 2: class 3 is not allowed, only 1 or 2",
+        "line 2: adults 11 is not allowed, only 0 to 10",
+        "line 2: there is no stop 99: the tariff's are 0 to 27",
+        "line 2: there is no stop 100: the tariff's are 0 to 27",
+        "line 3: 'route' is no sort of line",
+        "line 4: 'record' writes any bytes, which only 'make_bytes --raw' does",
+        "line 5: the word 'class' is due, not 'klass'",
+        "line 7: class 0 is not allowed, only 1 or 2",
+        "line 8: a repeat without a record after it",
+    ];
+    assert_eq!(mistakes(text), due);
+    let raw = raw_bytes_of("route\nstop 0 0\nrecord x").expect_err("mistakes");
+    assert_eq!(raw.iter().map(|fault| fault.line).collect::<Vec<usize>>(), [1, 2, 3]);
+}
+
+#[test]
+fn mistakes_of_a_tariff_are_told() {
+    let state = "area state parent 0 base 180 km 28 valid 360 first 50 child 50 cap none day 3000 bike 500\n";
+    let region = state.replace("state", "region");
+    let city = state.replace("state parent 0", "city parent 1");
+    let factor = "factor 3 mark 0\n";
+    let stop = "stop 0 300000 200000\n";
+    let well = [state, &region, &city, factor, factor, stop].concat();
+    assert_eq!(mistakes(&well), [""; 0]);
+    for (text, told) in [
+        (
+            well.replace("km 28", "km 1001").replacen("km 1001", "km 28", 2),
+            "line 3: km 1,001 is not allowed, only 0 to 1,000",
+        ),
+        (format!("{region}{factor}"), "line 1: the first area has to be the state"),
+        (format!("{state}{state}{factor}{factor}"), "line 2: a second state: the first area alone is the state"),
+        (
+            format!("{}{factor}", state.replace("parent 0", "parent 1")),
+            "line 1: the state's parent is 0, the state itself",
+        ),
+        (
+            format!("{state}{}{factor}{factor}", region.replace("parent 0", "parent 1")),
+            "line 2: a region's parent is 0, the state",
+        ),
+        (format!("{state}{city}{factor}"), "line 2: a city's parent is a region before it, and area 1 is none"),
+        (well.replacen("bike 500", "bike 499", 1), "line 2: bike 500 is above its parent's 499"),
+        (
+            format!("{state}{factor}{}{factor}", region),
+            "line 3: an area behind a factor or a stop: all areas come first",
+        ),
+        (
+            format!("{state}repeat 32\n{region}repeat 33\n{factor}"),
+            "line 3: this is area 32, and a tariff has 32 at most, 0 to 31",
+        ),
+        (
+            format!("{state}{region}{factor}{stop}"),
+            "line 4: factors are missing: 2 are due, one for the state and one for each region, and 1 stand there",
+        ),
+        (
+            format!("{state}{region}{factor}# the end\n"),
+            "line 3: factors are missing: 2 are due, one for the state and one for each region, and 1 stand there",
+        ),
+        (format!("{state}{factor}{factor}"), "line 3: a factor too many: 1 are due, for the state and each region"),
+        (format!("{state}{factor}{stop}{factor}"), "line 4: a factor behind a stop: all factors come before the stops"),
+        (
+            format!("{state}factor 3 mark 1"),
+            "line 2: mark 1 is not allowed here: the first factor is the state's, and its mark is 0",
+        ),
+        (format!("{state}factor 10 mark 0"), "line 2: the factor 10 is not allowed, only 1 to 9"),
+        (stop.to_string(), "line 1: a stop before any area"),
+        (well.replace("stop 0", "stop 3"), "line 6: there is no area 3: areas are 0 to 2"),
+        (well.replace("300000", "1000001"), "line 6: x 1,000,001 is not allowed, only 0 to 1,000,000"),
+        (format!("{state}{factor}repeat 1001\n{stop}"), "line 4: this is stop 1000, and a tariff has 1,000 at most"),
+        (
+            format!("{}{factor}", state.replace("state", "land")),
+            "line 1: 'land' is no level of an area: state, region or city",
+        ),
+        (
+            format!("{}{factor}", state.replace("cap none", "cap flat 60001 90")),
+            "line 1: the amount 60,001 is not allowed, only 0 to 60,000",
+        ),
+        (
+            format!("{}{factor}", state.replace("day 3000", "day 65535")),
+            "line 1: the day cap 65,535 is not allowed, only 0 to 60,000",
+        ),
+        (
+            format!("{state}{factor}tariff t\n{GOOD_TRIP}"),
+            "line 4: a trip in a tariff: trips stand in a text of their own",
+        ),
+        (
+            format!("tariff t\n{GOOD_TRIP}\n{state}{factor}"),
+            "line 3: an area among trips: a tariff stands in a text of its own",
+        ),
+    ] {
+        assert_eq!(mistakes(&text).first().map(String::as_str), Some(told), "{text}");
+    }
+}
+
+#[test]
+fn encodings() {
+    let told =
+        |bytes: &[u8]| text_of(bytes).map_err(|faults| faults.iter().map(Fault::to_string).collect::<Vec<String>>());
+    assert_eq!(told(b"\xef\xbb\xbfstop 1\r\n"), Ok("stop 1\r\n".to_string()));
+    assert_eq!(told("# \u{e4}".as_bytes()), Ok("# \u{e4}".to_string()));
+    let latin =
+        |line| format!("line {line}: the byte e4 is not UTF-8, but Latin-1 or the like; save the text as UTF-8");
+    assert_eq!(told(b"# \xe4\nstop\n\n# \xe4"), Err(vec![latin(1), latin(4)]));
+    for mark in [b"\xff\xfes\0", b"\xfe\xff\0s"] {
+        assert_eq!(told(mark), Err(vec!["line 1: this is UTF-16; save the text as UTF-8".to_string()]));
+    }
+    let zero = "line 2: there is a zero byte: this is UTF-16, or no text; save the text as UTF-8".to_string();
+    assert_eq!(told(b"\ns\0t\0\n\0"), Err(vec![zero]));
 }
 
 #[test]

@@ -1,14 +1,31 @@
 //! The words of one line, taken one after another. An error is a text; the caller knows the line.
+//!
+//! Where values are checked, one that is not allowed is noted and the line goes on, so that all of its mistakes are told.
+//! A word that is missing, or another one than is due, ends the line.
 
+use std::ops::RangeInclusive;
 use std::str::{FromStr, SplitWhitespace};
 
 pub struct Words<'a> {
     rest: SplitWhitespace<'a>,
+    checks: bool,
+    /// What was noted.
+    pub mistakes: Vec<String>,
 }
 
 impl<'a> Words<'a> {
+    /// Numbers are only looked at for their width in bytes.
     pub fn of(line: &'a str) -> Self {
-        Words { rest: line.split_whitespace() }
+        Words { rest: line.split_whitespace(), checks: false, mistakes: Vec::new() }
+    }
+
+    /// Numbers have to be those that are allowed.
+    pub fn checked(line: &'a str) -> Self {
+        Words { checks: true, ..Words::of(line) }
+    }
+
+    pub fn checks(&self) -> bool {
+        self.checks
     }
 
     /// The next word, which is there to say `what`.
@@ -29,10 +46,37 @@ impl<'a> Words<'a> {
         fitting(what, self.next(what)?, width)
     }
 
+    /// The next word is a number that fits in `width` bytes, and where values are checked one of those allowed.
+    pub fn number_in(&mut self, what: &str, width: usize, allowed: &RangeInclusive<u64>) -> Result<u64, String> {
+        let word = self.next(what)?;
+        self.value_in(what, word, width, allowed)
+    }
+
     /// The next two words are a field's name and its number.
-    pub fn field(&mut self, name: &str, width: usize) -> Result<u64, String> {
+    pub fn field(&mut self, name: &str, width: usize, allowed: &RangeInclusive<u64>) -> Result<u64, String> {
         self.fixed(name)?;
-        self.number(name, width)
+        self.number_in(name, width, allowed)
+    }
+
+    /// The number that this word writes; 0 stands for one that was noted and does not fit.
+    pub fn value_in(
+        &mut self,
+        what: &str,
+        word: &str,
+        width: usize,
+        allowed: &RangeInclusive<u64>,
+    ) -> Result<u64, String> {
+        if !self.checks {
+            return fitting(what, word, width);
+        }
+        let value = whole(what, word).unwrap_or_else(|text| {
+            self.mistakes.push(text);
+            *allowed.start()
+        });
+        if !allowed.contains(&value) {
+            self.mistakes.push(format!("{what} {} is not allowed, only {}", with_commas(value), in_words(allowed)));
+        }
+        Ok(if value < 1 << (8 * width) { value } else { 0 })
     }
 
     /// All further words.
@@ -47,6 +91,29 @@ impl<'a> Words<'a> {
             Some(word) => Err(format!("'{word}' is one word too many")),
         }
     }
+}
+
+/// A range as a person says it.
+fn in_words(allowed: &RangeInclusive<u64>) -> String {
+    let (least, most) = (with_commas(*allowed.start()), with_commas(*allowed.end()));
+    match allowed.end() - allowed.start() {
+        0 => least,
+        1 => format!("{least} or {most}"),
+        _ => format!("{least} to {most}"),
+    }
+}
+
+/// A number with a comma before each three digits.
+pub fn with_commas(number: u64) -> String {
+    let digits = number.to_string();
+    let mut text = String::new();
+    for (place, digit) in digits.chars().enumerate() {
+        if place > 0 && (digits.len() - place).is_multiple_of(3) {
+            text.push(',');
+        }
+        text.push(digit);
+    }
+    text
 }
 
 /// The number that a word writes, if it fits in `width` bytes.

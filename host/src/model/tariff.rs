@@ -3,6 +3,7 @@
 
 use super::record::{record_at, Fields, Record, KIND_AREA, KIND_FACTOR, KIND_STOP};
 use super::{Cents, Metres, Minutes, Refusal};
+use std::ops::RangeInclusive;
 
 pub const MOST_AREAS: usize = 32;
 pub const MOST_STOPS: usize = 1_000;
@@ -12,7 +13,16 @@ const FACTOR_BODY: usize = 2;
 const STOP_BODY: usize = 9;
 
 /// The day cap that means none.
-const NO_DAY_CAP: u64 = 65_535;
+pub const NO_DAY_CAP: u64 = 65_535;
+
+pub const BASE_PRICES: RangeInclusive<Cents> = 0..=10_000;
+pub const PRICES_PER_KM: RangeInclusive<Cents> = 0..=1_000;
+/// All other money.
+pub const MONEY: RangeInclusive<Cents> = 0..=60_000;
+pub const VALIDITIES: RangeInclusive<Minutes> = 30..=1_440;
+pub const PERCENTAGES: RangeInclusive<u64> = 0..=100;
+pub const FACTORS: RangeInclusive<u64> = 1..=9;
+pub const METRES: RangeInclusive<Metres> = 0..=1_000_000;
 
 #[derive(Clone, Copy, Debug, PartialEq, Eq)]
 pub enum Level {
@@ -183,12 +193,12 @@ fn read_area(body: &[u8], earlier: &[Area]) -> Option<Area> {
     let day_cap = read_day_cap(fields.next(2))?;
     let bicycle_flat = fields.next(2);
 
-    let in_range = base_price <= 10_000
-        && price_per_km <= 1_000
-        && is_validity(base_validity)
-        && surcharge <= 100
-        && reduction <= 100
-        && is_money(bicycle_flat);
+    let in_range = BASE_PRICES.contains(&base_price)
+        && PRICES_PER_KM.contains(&price_per_km)
+        && VALIDITIES.contains(&base_validity)
+        && PERCENTAGES.contains(&surcharge)
+        && PERCENTAGES.contains(&reduction)
+        && MONEY.contains(&bicycle_flat);
     if !in_range || !is_parent(level, parent, earlier) {
         return None;
     }
@@ -225,10 +235,10 @@ fn read_level(level: u64) -> Option<Level> {
 fn read_trip_cap(sort: u64, fields: &[u64]) -> Option<TripCap> {
     match (sort, fields) {
         (0, &[0, 0, 0, 0, 0]) => Some(TripCap::None),
-        (1, &[amount, minutes, 0, 0, 0]) if is_money(amount) && is_validity(minutes) => {
+        (1, &[amount, minutes, 0, 0, 0]) if MONEY.contains(&amount) && VALIDITIES.contains(&minutes) => {
             Some(TripCap::Flat { amount, minutes })
         }
-        (2, &[k, a, b, c, d]) if fields.iter().all(|&amount| is_money(amount)) => {
+        (2, &[k, a, b, c, d]) if fields.iter().all(|amount| MONEY.contains(amount)) => {
             Some(TripCap::ByLevel { k, a, b, c, d })
         }
         _ => None,
@@ -239,7 +249,7 @@ fn read_trip_cap(sort: u64, fields: &[u64]) -> Option<TripCap> {
 fn read_day_cap(day_cap: u64) -> Option<Option<Cents>> {
     match day_cap {
         NO_DAY_CAP => Some(None),
-        amount if is_money(amount) => Some(Some(amount)),
+        amount if MONEY.contains(&amount) => Some(Some(amount)),
         _ => None,
     }
 }
@@ -257,7 +267,7 @@ fn is_parent(level: Level, parent: usize, earlier: &[Area]) -> bool {
 fn read_factor(body: &[u8], is_states: bool) -> Option<Factor> {
     let mut fields = Fields::of(body);
     let (factor, mark) = (fields.next(1), fields.next(1));
-    let well = (1..=9).contains(&factor) && mark <= if is_states { 0 } else { 1 };
+    let well = FACTORS.contains(&factor) && mark <= if is_states { 0 } else { 1 };
     well.then_some(Factor { factor, keeps_city_trips: mark == 1 })
 }
 
@@ -265,15 +275,6 @@ fn read_factor(body: &[u8], is_states: bool) -> Option<Factor> {
 fn read_stop(body: &[u8], areas: usize) -> Option<Stop> {
     let mut fields = Fields::of(body);
     let stop = Stop { area: fields.next(1) as usize, x: fields.next(4), y: fields.next(4) };
-    let well = stop.area < areas && stop.x <= 1_000_000 && stop.y <= 1_000_000;
+    let well = stop.area < areas && METRES.contains(&stop.x) && METRES.contains(&stop.y);
     well.then_some(stop)
-}
-
-/// All money but base and kilometre prices.
-fn is_money(amount: u64) -> bool {
-    amount <= 60_000
-}
-
-fn is_validity(minutes: u64) -> bool {
-    (30..=1_440).contains(&minutes)
 }

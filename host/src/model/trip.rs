@@ -2,6 +2,14 @@
 
 use super::clock::Stamp;
 use super::record::{record_at, Fields, KIND_TRIP};
+use std::ops::RangeInclusive;
+
+pub const CLASSES: RangeInclusive<u64> = 1..=2;
+/// 0 none, 1 = K to 5 = D.
+pub const TICKET_LEVELS: RangeInclusive<u64> = 0..=5;
+/// Adults, children and bicycles, of each.
+pub const CARRIED: RangeInclusive<usize> = 0..=10;
+pub const STOPS_IN_A_TRIP: RangeInclusive<usize> = 2..=32;
 
 /// The body before the stops.
 const BODY_HEAD: usize = 20;
@@ -47,11 +55,9 @@ impl Trip {
 
     /// Class 1 or 2, level up to 5, adults, children and bicycles up to 10 each, 2 to 32 stops.
     pub fn counts_are_in_range(&self) -> bool {
-        (1..=2).contains(&self.class)
-            && self.ticket_level <= 5
-            && self.adults <= 10
-            && self.children <= 10
-            && self.bicycles <= 10
-            && (2..=32).contains(&self.stops.len())
+        CLASSES.contains(&self.class)
+            && TICKET_LEVELS.contains(&self.ticket_level)
+            && [self.adults, self.children, self.bicycles].iter().all(|carried| CARRIED.contains(carried))
+            && STOPS_IN_A_TRIP.contains(&self.stops.len())
     }
 }

@@ -18,10 +18,10 @@ pub fn report(programs: &Programs) -> Result<(), String> {
     Ok(())
 }
 
-/// The one archive of its directory. MILECOPPER_LIB_DIR is that, seen from this package's; ../../target/staticlib unless
+/// The one archive of its directory. MILECOPPER_LIB_DIR is that, seen from this package's; ../../target/native/archive unless
 /// set.
 fn archive() -> Result<PathBuf, String> {
-    let directory = package().join(env::var("MILECOPPER_LIB_DIR").unwrap_or("../../target/staticlib".to_string()));
+    let directory = package().join(env::var("MILECOPPER_LIB_DIR").unwrap_or("../../target/native/archive".to_string()));
     let files = fs::read_dir(&directory).map_err(|error| format!("{}: {error}", directory.display()))?;
     let mut archives =
         files.flatten().map(|file| file.path()).filter(|file| file.extension().is_some_and(|a| a == "a"));

@@ -1,6 +1,7 @@
 //! The program that settles a roll, by the tuned implementation: the tariff from `tariff.bin`, the roll from standard
 //! input, a line a part on standard output.
 
+use milecopper_host::tool::is_asked;
 use milecopper_speed::tuned::settle_roll;
 use std::fs::File;
 use std::io::{self, ErrorKind, Read};
@@ -11,7 +12,14 @@ use std::process::ExitCode;
 /// record too many.
 const TARIFF_BYTES: u64 = 15_146;
 
+const USAGE: &str = "usage: tuned_roll <ROLL
+
+Settles the roll under tariff.bin, by the implementation tuned for speed, and prints a line a part.";
+
 fn main() -> ExitCode {
+    if is_asked(USAGE) {
+        return ExitCode::SUCCESS;
+    }
     let tariff = match read_tariff() {
         Ok(tariff) => tariff,
         Err(error) => return told("tariff.bin", &error),

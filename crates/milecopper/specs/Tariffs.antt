@@ -1,0 +1,16 @@
+-- docs/RULES.md, section 4: what checking a tariff alone answers. A faulty one: the refusal, 1 to 3, and the place of the first faulty record. A
+-- faultless one: its length.
+use Prim.Native.Nat.{ℕ}
+use mathlib.Core.List.{List}
+use lib.ListN.{length}
+use Rattle.tariff.specs.declared.Reading.the-variants.{Fault, Faultless}
+use Rattle.tariff.specs.Scan.{readTariff}
+use Rattle.settle.specs.declared.Answer.the-variants.{Refused, Written}
+use Rattle.milecopper.specs.Contracts.{encodedAs}
+
+unfoldable pub tariffAnswer : List ℕ → ℕ
+tariffAnswer tariff =
+    elim (readTariff tariff) [
+      | Fault number at ↦ encodedAs (Refused number at)
+      | Faultless counts ↦ encodedAs (Written (length tariff))
+    ]

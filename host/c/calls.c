@@ -1,0 +1,368 @@
+/*
+ * Calls the library and the header's functions as an app might, rightly and wrongly: empty slices with a null pointer, a
+ * tariff checked alone, bytes that are no record, and records written by the header's writers.
+ *
+ *     calls TARIFF ROLL
+ *
+ * Each record of TARIFF and of ROLL is read by the header's places and written again, and has to come out the same.
+ * C99 and C++11; bytes that are looked at stand before a protected page, where the system has one.
+ */
+#define _DEFAULT_SOURCE
+#include "milecopper.h"
+
+#include <stdio.h>
+#include <stdlib.h>
+#include <string.h>
+#include <sys/mman.h>
+#include <unistd.h>
+
+static int faults;
+
+static void check(int well, const char *what)
+{
+    if (!well) {
+        printf("calls: %s\n", what);
+        faults += 1;
+    }
+}
+
+/* So many bytes that end where a page begins which nobody may touch. They are never given back. */
+static uint8_t *guarded(size_t length)
+{
+    size_t page = (size_t)sysconf(_SC_PAGESIZE);
+    size_t pages = length / page + 1;
+    uint8_t *start =
+        (uint8_t *)mmap(NULL, (pages + 1) * page, PROT_READ | PROT_WRITE, MAP_PRIVATE | MAP_ANONYMOUS, -1, 0);
+    if (start == MAP_FAILED || mprotect(start + pages * page, page, PROT_NONE) != 0) {
+        perror("calls");
+        exit(1);
+    }
+    return start + pages * page - length;
+}
+
+/* The bytes of a file. */
+static uint8_t *bytes_of(const char *name, size_t *length)
+{
+    static uint8_t room[1 << 16];
+    FILE *file = fopen(name, "rb");
+    uint8_t *bytes;
+    if (file == NULL) {
+        perror(name);
+        exit(1);
+    }
+    *length = fread(room, 1, sizeof room, file);
+    fclose(file);
+    bytes = guarded(*length);
+    memcpy(bytes, room, *length);
+    return bytes;
+}
+
+static uint64_t refused(enum milecopper_refusal refusal, uint32_t place)
+{
+    return ((uint64_t)refusal << 32) + place;
+}
+
+/* A null pointer beside a length of 0, in each place. */
+static void nulls(const uint8_t *tariff, size_t tariff_len, const uint8_t *trip, size_t trip_len)
+{
+    uint8_t *book = guarded(MILECOPPER_BOOK_BYTES);
+    uint8_t *statement = guarded(MILECOPPER_LARGEST_STATEMENT_BYTES);
+    size_t all = MILECOPPER_LARGEST_STATEMENT_BYTES;
+    check(milecopper_check_tariff(NULL, 0) == refused(MILECOPPER_TARIFF_MISSHAPEN, 0), "no tariff to check");
+    check(milecopper_settle(NULL, 0, book, MILECOPPER_BOOK_BYTES, trip, trip_len, statement, all) ==
+              refused(MILECOPPER_TARIFF_MISSHAPEN, 0), "no tariff");
+    check(milecopper_settle(tariff, tariff_len, NULL, 0, trip, trip_len, statement, all) ==
+              refused(MILECOPPER_BOOK_UNSOUND, 0), "no book");
+    check(milecopper_settle(tariff, tariff_len, book, MILECOPPER_BOOK_BYTES, NULL, 0, statement, all) ==
+              refused(MILECOPPER_TRIP_MISSHAPEN, 0), "no trip");
+    check(milecopper_settle(tariff, tariff_len, book, MILECOPPER_BOOK_BYTES, trip, trip_len, NULL, 0) ==
+              refused(MILECOPPER_NO_ROOM, 0), "no statement");
+    check(milecopper_settle(NULL, 0, NULL, 0, NULL, 0, NULL, 0) == refused(MILECOPPER_TARIFF_MISSHAPEN, 0), "nothing");
+    check(milecopper_quote(NULL, 0, book, MILECOPPER_BOOK_BYTES, trip, trip_len, statement, all) ==
+              refused(MILECOPPER_TARIFF_MISSHAPEN, 0), "no tariff to quote by");
+    check(milecopper_quote(tariff, tariff_len, NULL, 0, trip, trip_len, statement, all) ==
+              refused(MILECOPPER_BOOK_UNSOUND, 0), "no book to quote on");
+    check(milecopper_quote(tariff, tariff_len, book, MILECOPPER_BOOK_BYTES, NULL, 0, statement, all) ==
+              refused(MILECOPPER_TRIP_MISSHAPEN, 0), "no trip to quote");
+    check(milecopper_quote(tariff, tariff_len, book, MILECOPPER_BOOK_BYTES, trip, trip_len, NULL, 0) ==
+              refused(MILECOPPER_NO_ROOM, 0), "no room for a quote");
+    check(milecopper_post(NULL, 0, book, MILECOPPER_BOOK_BYTES, trip, trip_len, statement, all) ==
+              refused(MILECOPPER_TARIFF_MISSHAPEN, 0), "no tariff to post by");
+    check(milecopper_post(tariff, tariff_len, NULL, 0, trip, trip_len, statement, all) ==
+              refused(MILECOPPER_BOOK_UNSOUND, 0), "no book to post in");
+    check(milecopper_post(tariff, tariff_len, book, MILECOPPER_BOOK_BYTES, NULL, 0, statement, all) ==
+              refused(MILECOPPER_TRIP_MISSHAPEN, 0), "no trip to post");
+    check(milecopper_post(tariff, tariff_len, book, MILECOPPER_BOOK_BYTES, trip, trip_len, NULL, 0) ==
+              refused(MILECOPPER_OTHER_RECORD, 0), "no record to post");
+    check(milecopper_accepted(milecopper_settle(tariff, tariff_len, book, MILECOPPER_BOOK_BYTES, trip, trip_len,
+                                                statement, all)), "everything");
+}
+
+/* A tariff checked alone. */
+static void tariffs(const uint8_t *tariff, size_t length)
+{
+    uint8_t *other = guarded(length);
+    check(milecopper_check_tariff(tariff, length) == length, "a faultless tariff");
+    check(milecopper_check_tariff(tariff, length - 1) == refused(MILECOPPER_TARIFF_BROKEN, (uint32_t)length - 13),
+          "a tariff without its last byte");
+    memcpy(other, tariff, length);
+    other[MILECOPPER_AREA_BYTES + MILECOPPER_AREA_LEVEL_AT] = MILECOPPER_STATE;
+    check(milecopper_check_tariff(other, length) == refused(MILECOPPER_TARIFF_VALUE, MILECOPPER_AREA_BYTES), "two states");
+}
+
+/* Everything that the header reads of a record, on any bytes and for any number of a charge. */
+static void looked_at(const uint8_t *record)
+{
+    static const unsigned numbers[] = {0, 1, 20, 21, 30, 31, 255, 256, 65535, 2147483647u, 4294967295u};
+    size_t i;
+    check(milecopper_record_persons(record) >= 1 && milecopper_record_persons(record) <= MILECOPPER_MOST_PERSONS,
+          "the persons of any bytes");
+    check(milecopper_record_charges(record) <= MILECOPPER_MOST_CHARGES, "the charges of any bytes");
+    check(milecopper_record_bytes(record) >= MILECOPPER_SMALLEST_RECORD_BYTES &&
+              milecopper_record_bytes(record) <= MILECOPPER_LARGEST_RECORD_BYTES, "the length of any bytes");
+    (void)milecopper_record_opening(record);
+    (void)milecopper_record_area(record);
+    (void)milecopper_record_km(record);
+    (void)milecopper_record_minutes(record);
+    (void)milecopper_record_total(record);
+    for (i = 0; i < sizeof numbers / sizeof numbers[0]; i += 1) {
+        unsigned number = numbers[i];
+        if (number >= milecopper_record_charges(record))
+            check(milecopper_record_charge(record, number) == 0, "a charge that is not there");
+        if (number >= milecopper_record_persons(record)) {
+            check(milecopper_record_reduction(record, number) == 0, "a reduction that is not there");
+            check(milecopper_record_cap_area(record, number) == MILECOPPER_NO_CAP_AREA, "the area of no cap");
+            check(milecopper_record_cap_class(record, number) == MILECOPPER_NO_CAP, "the class of no cap");
+        }
+        (void)milecopper_record_charge(record, number);
+        (void)milecopper_record_reduction(record, number);
+        (void)milecopper_record_cap_area(record, number);
+        (void)milecopper_cap_text(milecopper_record_cap_class(record, number));
+    }
+}
+
+/* Bytes that are no record: zeros, ones, and many others. */
+static void any_bytes(void)
+{
+    uint8_t *record = guarded(MILECOPPER_LARGEST_RECORD_BYTES);
+    uint8_t *statement = guarded(MILECOPPER_LARGEST_STATEMENT_BYTES);
+    uint32_t seed = 1;
+    int round;
+    size_t i;
+    memset(record, 0, MILECOPPER_LARGEST_RECORD_BYTES);
+    looked_at(record);
+    check(milecopper_record_total(record) == 0, "the sum of zeros");
+    check(!milecopper_is_record(record, MILECOPPER_LARGEST_RECORD_BYTES), "zeros are no record");
+    check(milecopper_statement_total(statement, MILECOPPER_LARGEST_STATEMENT_BYTES) == 0, "the sum of a blank statement");
+    memset(record, 0xFF, MILECOPPER_LARGEST_RECORD_BYTES);
+    looked_at(record);
+    check(!milecopper_is_record(record, MILECOPPER_LARGEST_RECORD_BYTES), "ones are no record");
+    for (round = 0; round < 2000; round += 1) {
+        for (i = 0; i < MILECOPPER_LARGEST_STATEMENT_BYTES; i += 1) {
+            seed = seed * 1664525u + 1013904223u;
+            statement[i] = (uint8_t)(seed >> 24);
+        }
+        memcpy(record, statement, MILECOPPER_LARGEST_RECORD_BYTES);
+        looked_at(record);
+        (void)milecopper_statement_total(statement, MILECOPPER_LARGEST_STATEMENT_BYTES);
+        (void)milecopper_statement_total(statement, seed);
+        for (i = 0; i <= MILECOPPER_SMALLEST_RECORD_BYTES; i += 1)
+            (void)milecopper_is_record(record + MILECOPPER_LARGEST_RECORD_BYTES - i, i);
+    }
+}
+
+/* What settling writes is a record, whole and not cut short. */
+static void written(const uint8_t *tariff, size_t tariff_len, const uint8_t *trip, size_t trip_len)
+{
+    uint8_t book[MILECOPPER_BOOK_BYTES] = {0};
+    uint8_t statement[MILECOPPER_LARGEST_STATEMENT_BYTES];
+    size_t length = milecopper_bytes_written(
+        milecopper_settle(tariff, tariff_len, book, sizeof book, trip, trip_len, statement, sizeof statement));
+    check(length == milecopper_record_bytes(statement), "one record");
+    check(milecopper_is_record(statement, sizeof statement) && milecopper_is_record(statement, length), "it is a record");
+    check(!milecopper_is_record(statement, length - 1), "a record cut short");
+    statement[MILECOPPER_KIND_AT] = 4;
+    check(!milecopper_is_record(statement, length), "a record of another kind");
+    statement[MILECOPPER_KIND_AT] = MILECOPPER_CHARGE_KIND;
+    statement[MILECOPPER_CHARGE_BICYCLES_AT] = 0;
+    check(!milecopper_is_record(statement, length), "a record with a bicycle less");
+}
+
+/* ---- The writers. */
+
+static size_t area_again(const uint8_t *from, uint8_t *to, size_t room)
+{
+    struct milecopper_area area;
+    unsigned i;
+    area.level = from[MILECOPPER_AREA_LEVEL_AT];
+    area.parent = from[MILECOPPER_AREA_PARENT_AT];
+    area.base_price = milecopper_number(from + MILECOPPER_AREA_BASE_PRICE_AT, 2);
+    area.price_per_km = milecopper_number(from + MILECOPPER_AREA_PRICE_PER_KM_AT, 2);
+    area.validity = milecopper_number(from + MILECOPPER_AREA_VALIDITY_AT, 2);
+    area.surcharge = from[MILECOPPER_AREA_SURCHARGE_AT];
+    area.reduction = from[MILECOPPER_AREA_REDUCTION_AT];
+    area.trip_cap = from[MILECOPPER_AREA_TRIP_CAP_AT];
+    for (i = 0; i < MILECOPPER_TRIP_CAP_FIELDS; i += 1)
+        area.trip_cap_fields[i] = milecopper_number(from + MILECOPPER_AREA_TRIP_CAP_FIELDS_AT + 2 * i, 2);
+    area.day_cap = milecopper_number(from + MILECOPPER_AREA_DAY_CAP_AT, 2);
+    area.bicycle_flat = milecopper_number(from + MILECOPPER_AREA_BICYCLE_FLAT_AT, 2);
+    return milecopper_put_area(to, room, &area);
+}
+
+static struct milecopper_stamp stamp_of(const uint8_t *from)
+{
+    struct milecopper_stamp stamp;
+    stamp.year = milecopper_number(from + MILECOPPER_STAMP_YEAR_AT, 2);
+    stamp.month = from[MILECOPPER_STAMP_MONTH_AT];
+    stamp.day = from[MILECOPPER_STAMP_DAY_AT];
+    stamp.hour = from[MILECOPPER_STAMP_HOUR_AT];
+    stamp.minute = from[MILECOPPER_STAMP_MINUTE_AT];
+    stamp.offset = from[MILECOPPER_STAMP_OFFSET_AT];
+    return stamp;
+}
+
+static struct milecopper_trip trip_of(const uint8_t *from, uint16_t *stops)
+{
+    struct milecopper_trip trip;
+    unsigned i;
+    trip.check_in = stamp_of(from + MILECOPPER_TRIP_CHECK_IN_AT);
+    trip.check_out = stamp_of(from + MILECOPPER_TRIP_CHECK_OUT_AT);
+    trip.travel_class = from[MILECOPPER_TRIP_CLASS_AT];
+    trip.level = from[MILECOPPER_TRIP_LEVEL_AT];
+    trip.adults = from[MILECOPPER_TRIP_ADULTS_AT];
+    trip.children = from[MILECOPPER_TRIP_CHILDREN_AT];
+    trip.bicycles = from[MILECOPPER_TRIP_BICYCLES_AT];
+    trip.stop_count = from[MILECOPPER_TRIP_STOP_COUNT_AT];
+    for (i = 0; i < trip.stop_count; i += 1)
+        stops[i] = (uint16_t)milecopper_number(from + MILECOPPER_TRIP_STOPS_AT + 2 * i, 2);
+    trip.stops = stops;
+    return trip;
+}
+
+/* The record written again; its length, or 0 where it is of no kind that can be written. */
+static size_t record_again(const uint8_t *from, uint8_t *to, size_t room)
+{
+    uint16_t stops[255];
+    struct milecopper_trip trip;
+    switch (milecopper_number(from + MILECOPPER_KIND_AT, 2)) {
+    case MILECOPPER_AREA_KIND:
+        return area_again(from, to, room);
+    case MILECOPPER_FACTOR_KIND:
+        return milecopper_put_factor(to, room, from[MILECOPPER_FACTOR_FACTOR_AT], from[MILECOPPER_FACTOR_MARK_AT]);
+    case MILECOPPER_STOP_KIND:
+        return milecopper_put_stop(to, room, from[MILECOPPER_STOP_AREA_AT], milecopper_number(from + MILECOPPER_STOP_X_AT, 4),
+                                   milecopper_number(from + MILECOPPER_STOP_Y_AT, 4));
+    case MILECOPPER_TRIP_KIND:
+        trip = trip_of(from, stops);
+        return milecopper_put_trip(to, room, &trip);
+    }
+    return 0;
+}
+
+static void all_again(const uint8_t *from, size_t length)
+{
+    uint8_t *to = guarded(length);
+    size_t at = 0;
+    while (at < length) {
+        size_t size = record_again(from + at, to + at, length - at);
+        check(size > 0 && record_again(from + at, to + at, size) == size, "a record written again, in just enough room");
+        check(record_again(from + at, to + at, size - 1) == 0, "a record without room");
+        if (size == 0)
+            return;
+        at += size;
+    }
+    check(at == length && memcmp(from, to, length) == 0, "records written again are the same");
+}
+
+/* Another tariff while a window is open, as the header says it: the state alone, with the stops of the trip's numbers. */
+static void another_tariff(const uint8_t *tariff, size_t tariff_len, const uint8_t *trip, size_t trip_len)
+{
+    static const struct milecopper_area state = {MILECOPPER_STATE, 0, 500, 0, 360, 0, 0, MILECOPPER_NO_TRIP_CAP,
+                                                 {0, 0, 0, 0, 0}, 600, 0};
+    uint8_t other[MILECOPPER_AREA_BYTES + MILECOPPER_FACTOR_BYTES + 2 * MILECOPPER_STOP_BYTES];
+    uint8_t book[MILECOPPER_BOOK_BYTES] = {0};
+    uint8_t statement[MILECOPPER_LARGEST_STATEMENT_BYTES];
+    uint8_t again[MILECOPPER_LARGEST_TRIP_BYTES];
+    uint16_t stops[255];
+    struct milecopper_trip next = trip_of(trip, stops);
+    size_t length = 0;
+    size_t again_len;
+    uint32_t paid;
+    length += milecopper_put_area(other + length, sizeof other - length, &state);
+    length += milecopper_put_factor(other + length, sizeof other - length, 1, 0);
+    length += milecopper_put_stop(other + length, sizeof other - length, 0, 0, 0);
+    length += milecopper_put_stop(other + length, sizeof other - length, 0, 1000, 0);
+    check(milecopper_check_tariff(other, length) == sizeof other, "a tariff by the header's writers");
+
+    /* without a bicycle: what was paid under the first counts for the second's cap of 600 */
+    next.bicycles = 0;
+    again_len = milecopper_put_trip(again, sizeof again, &next);
+    milecopper_settle(tariff, tariff_len, book, sizeof book, again, again_len, statement, sizeof statement);
+    paid = milecopper_record_total(statement);
+    check(paid > 100 && paid < 600, "the first tariff's price");
+    next.check_in = next.check_out;
+    again_len = milecopper_put_trip(again, sizeof again, &next);
+    check(milecopper_accepted(milecopper_settle(other, length, book, sizeof book, again, again_len, statement, sizeof statement)),
+          "a trip under another tariff");
+    check(milecopper_record_total(statement) == 600 - paid, "another tariff's cap, and what was paid before");
+
+    /* with one, carried in an area that the second lacks: the book is not sound under it, whenever the next trip is */
+    memset(book, 0, sizeof book);
+    check(milecopper_accepted(milecopper_settle(tariff, tariff_len, book, sizeof book, trip, trip_len, statement, sizeof statement)),
+          "a trip with a bicycle");
+    next.check_in.year += 1;
+    next.check_out.year += 1;
+    again_len = milecopper_put_trip(again, sizeof again, &next);
+    check(milecopper_settle(other, length, book, sizeof book, again, again_len, statement, sizeof statement) ==
+              refused(MILECOPPER_BOOK_UNSOUND, 0), "a bicycle in an area that is gone");
+}
+
+/* Numbers that do not fit: nothing is written. */
+static void too_large(const uint8_t *trip)
+{
+    uint8_t bytes[MILECOPPER_LARGEST_TRIP_BYTES] = {0};
+    uint8_t blank[MILECOPPER_LARGEST_TRIP_BYTES] = {0};
+    uint16_t stops[255];
+    struct milecopper_trip other = trip_of(trip, stops);
+    struct milecopper_area area = {0, 0, 0, 0, 0, 0, 0, 0, {0, 0, 0, 0, 65536}, 0, 0};
+    other.adults = 256;
+    check(milecopper_put_trip(bytes, sizeof bytes, &other) == 0, "256 adults");
+    other = trip_of(trip, stops);
+    other.check_out.year = 65536;
+    check(milecopper_put_trip(bytes, sizeof bytes, &other) == 0, "the year 65536");
+    other = trip_of(trip, stops);
+    other.stop_count = 256;
+    check(milecopper_put_trip(bytes, sizeof bytes, &other) == 0, "256 stops");
+    check(milecopper_put_area(bytes, sizeof bytes, &area) == 0, "a trip cap of 65536");
+    check(milecopper_put_factor(bytes, sizeof bytes, 256, 0) == 0, "the factor 256");
+    check(milecopper_put_stop(bytes, sizeof bytes, 256, 0, 0) == 0, "a stop in area 256");
+    check(memcmp(bytes, blank, sizeof bytes) == 0, "what does not fit is not written");
+}
+
+int main(int argc, char **argv)
+{
+    size_t tariff_len;
+    size_t roll_len;
+    size_t trip_len;
+    uint8_t *tariff;
+    uint8_t *roll;
+    uint8_t *trip;
+    if (argc != 3) {
+        fprintf(stderr, "usage: calls TARIFF ROLL\n");
+        return 2;
+    }
+    tariff = bytes_of(argv[1], &tariff_len);
+    roll = bytes_of(argv[2], &roll_len);
+    trip_len = MILECOPPER_KIND_AT + milecopper_number(roll, 2); /* the first of the roll */
+    trip = guarded(trip_len);
+    memcpy(trip, roll, trip_len);
+    nulls(tariff, tariff_len, trip, trip_len);
+    tariffs(tariff, tariff_len);
+    any_bytes();
+    written(tariff, tariff_len, trip, trip_len);
+    all_again(tariff, tariff_len);
+    all_again(roll, roll_len);
+    another_tariff(tariff, tariff_len, trip, trip_len);
+    too_large(trip);
+    return faults == 0 ? 0 : 1;
+}
