@@ -106,7 +106,7 @@
 /* The version. The number stands here alone: the library's file names, its pkg-config file, its constant
  * milecopper_version and what the scripts say all come from these lines. */
 #define MILECOPPER_VERSION_MAJOR 0
-#define MILECOPPER_VERSION_MINOR 7
+#define MILECOPPER_VERSION_MINOR 8
 #define MILECOPPER_VERSION_PATCH 0
 #define MILECOPPER_VERSION_AS_TEXT(major, minor, patch) #major "." #minor "." #patch
 #define MILECOPPER_VERSION_AS_WRITTEN(major, minor, patch) MILECOPPER_VERSION_AS_TEXT(major, minor, patch)
@@ -116,8 +116,8 @@
 /* The stack that has to be free whatever is called: the most of what stands above. */
 #define MILECOPPER_MOST_STACK_BYTES 2048
 
-/* The book's length. */
-#define MILECOPPER_BOOK_BYTES 5428
+/* The book's length. A book of 5,428 bytes, from before areas of kind 8, is refused with 4: begin with a fresh one. */
+#define MILECOPPER_BOOK_BYTES 5468
 
 /* Charge records: the smallest has one person, the largest MILECOPPER_MOST_PERSONS and MILECOPPER_MOST_BICYCLES. Each of
  * them has a charge. */
@@ -135,6 +135,7 @@
 #define MILECOPPER_FACTOR_KIND 5
 #define MILECOPPER_CHARGE_KIND 6
 #define MILECOPPER_TRIP_KIND 7
+#define MILECOPPER_AACHEN_AREA_KIND 8
 
 /* Where the fields of a charge record stand, from its first byte: opening minute 4 bytes, area 1, kilometres 2, minutes
  * 2, those carried 1 each, then for each person ten bytes and for each bicycle four. In a person's: charge and reduction 4
@@ -204,10 +205,11 @@
 #define MILECOPPER_LEVEL_C 4
 #define MILECOPPER_LEVEL_D 5
 
-/* What a tariff may hold, and its length with the most of each: a factor record for each area, where none is a city. */
+/* What a tariff may hold, areas of both kinds together, and its length with the most of each: a factor record for each
+ * area, where none is a city, and every area but the state of kind 8. */
 #define MILECOPPER_MOST_AREAS 32
 #define MILECOPPER_MOST_STOPS 1000
-#define MILECOPPER_LARGEST_TARIFF_BYTES 14120
+#define MILECOPPER_LARGEST_TARIFF_BYTES 14523
 
 /* The records of a tariff, and where their fields stand. An area's: level, parent 1 byte each, base price, price per
  * kilometre, validity 2 each, surcharge and reduction in percent, sort of trip cap 1 each, five fields of the trip cap, day
@@ -224,6 +226,12 @@
 #define MILECOPPER_AREA_TRIP_CAP_FIELDS_AT 15
 #define MILECOPPER_AREA_DAY_CAP_AT 25
 #define MILECOPPER_AREA_BICYCLE_FLAT_AT 27
+/* An area of kind 8 has the same fields at the same places, its bicycle cap in the flat's, and behind them five child tickets
+ * and the bicycle's price per trip, 2 bytes each, and the town mark, 1. */
+#define MILECOPPER_AACHEN_AREA_BYTES 42
+#define MILECOPPER_AREA_CHILD_TICKETS_AT 29
+#define MILECOPPER_AREA_BICYCLE_PRICE_AT 39
+#define MILECOPPER_AREA_TOWN_AT 41
 #define MILECOPPER_FACTOR_BYTES 6
 #define MILECOPPER_FACTOR_FACTOR_AT 4
 #define MILECOPPER_FACTOR_MARK_AT 5
@@ -241,6 +249,11 @@
 #define MILECOPPER_TRIP_CAP_BY_LEVEL 2
 #define MILECOPPER_TRIP_CAP_FIELDS 5
 #define MILECOPPER_NO_DAY_CAP 65535
+
+/* The town mark of a city of kind 8: what is dropped from the price of rides inside it. */
+#define MILECOPPER_NOTHING_DROPPED 0
+#define MILECOPPER_BASE_PRICE_DROPPED 1
+#define MILECOPPER_PRICE_PER_KM_DROPPED 2
 
 /* The factor of a factor record. */
 #define MILECOPPER_SMALLEST_FACTOR 1
@@ -260,7 +273,8 @@ enum milecopper_refusal {
     MILECOPPER_TARIFF_VALUE = 3,      /* tariff: a value outside its range */
     MILECOPPER_BOOK_UNSOUND = 4,      /* book: wrong length, or words that cannot stand together */
     MILECOPPER_TRIP_MISSHAPEN = 5,    /* trip: frame, kind or length wrong, or bytes after the record */
-    MILECOPPER_TRIP_COUNTS = 6,       /* trip: class, ticket level, party or number of stops out of range */
+    MILECOPPER_TRIP_COUNTS = 6,       /* trip: class, ticket level, party or number of stops out of range; or first class
+                                       * in a town that has none, which is tested right after 7 */
     MILECOPPER_UNKNOWN_STOP = 7,      /* trip: a stop number that the tariff lacks */
     MILECOPPER_NO_SUCH_TIME = 8,      /* trip: a stamp's date, clock time or offset is none, or it is before minute 0 */
     MILECOPPER_TRIP_BACKWARD = 9,     /* trip: check-out before check-in, or over 1,440 minutes after it */
@@ -381,11 +395,12 @@ static inline const char *milecopper_refusal_text(enum milecopper_refusal refusa
     case MILECOPPER_TARIFF_VALUE:
         return "The price file holds a number that is not allowed.";
     case MILECOPPER_BOOK_UNSOUND:
-        return "The account's book is damaged, or it was kept with a different price file.";
+        return "The account's book is damaged, or it was kept with a different price file or by an older version.";
     case MILECOPPER_TRIP_MISSHAPEN:
         return "The trip's data are damaged, or they are not a trip.";
     case MILECOPPER_TRIP_COUNTS:
-        return "The trip's class, ticket level, number of people or bicycles, or number of stops is not allowed.";
+        return "The trip's class, ticket level, number of people or bicycles, or number of stops is not allowed; a town that "
+               "drops part of the price has no first class.";
     case MILECOPPER_UNKNOWN_STOP:
         return "The trip uses a stop that is not in the price file.";
     case MILECOPPER_NO_SUCH_TIME:
@@ -677,6 +692,14 @@ struct milecopper_area {
     unsigned bicycle_flat;
 };
 
+/* An area of kind 8; `common.bicycle_flat` is the bicycle's cap in a window. */
+struct milecopper_aachen_area {
+    struct milecopper_area common;
+    unsigned child_tickets[MILECOPPER_TRIP_CAP_FIELDS];
+    unsigned bicycle_price;
+    unsigned town;
+};
+
 /* Writes a record's head: its whole length in bytes is `length`. */
 static inline void milecopper_put_head(uint8_t *bytes, size_t length, uint32_t kind)
 {
@@ -733,12 +756,10 @@ static inline int milecopper_area_fits(const struct milecopper_area *area)
            area->day_cap <= 0xFFFFu && area->bicycle_flat <= 0xFFFFu;
 }
 
-static inline size_t milecopper_put_area(uint8_t *bytes, size_t room, const struct milecopper_area *area)
+/* Writes the fields that both kinds of area have. */
+static inline void milecopper_put_area_fields(uint8_t *bytes, const struct milecopper_area *area)
 {
     unsigned i;
-    if (room < MILECOPPER_AREA_BYTES || !milecopper_area_fits(area))
-        return 0;
-    milecopper_put_head(bytes, MILECOPPER_AREA_BYTES, MILECOPPER_AREA_KIND);
     milecopper_put_number(bytes + MILECOPPER_AREA_LEVEL_AT, 1, area->level);
     milecopper_put_number(bytes + MILECOPPER_AREA_PARENT_AT, 1, area->parent);
     milecopper_put_number(bytes + MILECOPPER_AREA_BASE_PRICE_AT, 2, area->base_price);
@@ -752,7 +773,40 @@ static inline size_t milecopper_put_area(uint8_t *bytes, size_t room, const stru
                               area->trip_cap_fields[i]);
     milecopper_put_number(bytes + MILECOPPER_AREA_DAY_CAP_AT, 2, area->day_cap);
     milecopper_put_number(bytes + MILECOPPER_AREA_BICYCLE_FLAT_AT, 2, area->bicycle_flat);
+}
+
+static inline size_t milecopper_put_area(uint8_t *bytes, size_t room, const struct milecopper_area *area)
+{
+    if (room < MILECOPPER_AREA_BYTES || !milecopper_area_fits(area))
+        return 0;
+    milecopper_put_head(bytes, MILECOPPER_AREA_BYTES, MILECOPPER_AREA_KIND);
+    milecopper_put_area_fields(bytes, area);
     return MILECOPPER_AREA_BYTES;
+}
+
+static inline int milecopper_aachen_area_fits(const struct milecopper_aachen_area *area)
+{
+    unsigned i;
+    for (i = 0; i < MILECOPPER_TRIP_CAP_FIELDS; i += 1)
+        if (area->child_tickets[i] > 0xFFFFu)
+            return 0;
+    return milecopper_area_fits(&area->common) && area->bicycle_price <= 0xFFFFu && area->town <= 0xFFu;
+}
+
+/* Kind 8. */
+static inline size_t milecopper_put_aachen_area(uint8_t *bytes, size_t room, const struct milecopper_aachen_area *area)
+{
+    unsigned i;
+    if (room < MILECOPPER_AACHEN_AREA_BYTES || !milecopper_aachen_area_fits(area))
+        return 0;
+    milecopper_put_head(bytes, MILECOPPER_AACHEN_AREA_BYTES, MILECOPPER_AACHEN_AREA_KIND);
+    milecopper_put_area_fields(bytes, &area->common);
+    for (i = 0; i < MILECOPPER_TRIP_CAP_FIELDS; i += 1)
+        milecopper_put_number(bytes + MILECOPPER_AREA_CHILD_TICKETS_AT + 2 * MILECOPPER_AS(size_t, i), 2,
+                              area->child_tickets[i]);
+    milecopper_put_number(bytes + MILECOPPER_AREA_BICYCLE_PRICE_AT, 2, area->bicycle_price);
+    milecopper_put_number(bytes + MILECOPPER_AREA_TOWN_AT, 1, area->town);
+    return MILECOPPER_AACHEN_AREA_BYTES;
 }
 
 static inline size_t milecopper_put_factor(uint8_t *bytes, size_t room, unsigned factor, unsigned mark)

@@ -190,7 +190,8 @@ static void written(const uint8_t *tariff, size_t tariff_len, const uint8_t *tri
 
 /* ---- The writers. */
 
-static size_t area_again(const uint8_t *from, uint8_t *to, size_t room)
+/* The fields that both kinds of area have. */
+static struct milecopper_area area_of(const uint8_t *from)
 {
     struct milecopper_area area;
     unsigned i;
@@ -206,7 +207,25 @@ static size_t area_again(const uint8_t *from, uint8_t *to, size_t room)
         area.trip_cap_fields[i] = milecopper_number(from + MILECOPPER_AREA_TRIP_CAP_FIELDS_AT + 2 * i, 2);
     area.day_cap = milecopper_number(from + MILECOPPER_AREA_DAY_CAP_AT, 2);
     area.bicycle_flat = milecopper_number(from + MILECOPPER_AREA_BICYCLE_FLAT_AT, 2);
+    return area;
+}
+
+static size_t area_again(const uint8_t *from, uint8_t *to, size_t room)
+{
+    struct milecopper_area area = area_of(from);
     return milecopper_put_area(to, room, &area);
+}
+
+static size_t aachen_area_again(const uint8_t *from, uint8_t *to, size_t room)
+{
+    struct milecopper_aachen_area area;
+    unsigned i;
+    area.common = area_of(from);
+    for (i = 0; i < MILECOPPER_TRIP_CAP_FIELDS; i += 1)
+        area.child_tickets[i] = milecopper_number(from + MILECOPPER_AREA_CHILD_TICKETS_AT + 2 * i, 2);
+    area.bicycle_price = milecopper_number(from + MILECOPPER_AREA_BICYCLE_PRICE_AT, 2);
+    area.town = from[MILECOPPER_AREA_TOWN_AT];
+    return milecopper_put_aachen_area(to, room, &area);
 }
 
 static struct milecopper_stamp stamp_of(const uint8_t *from)
@@ -247,6 +266,8 @@ static size_t record_again(const uint8_t *from, uint8_t *to, size_t room)
     switch (milecopper_number(from + MILECOPPER_KIND_AT, 2)) {
     case MILECOPPER_AREA_KIND:
         return area_again(from, to, room);
+    case MILECOPPER_AACHEN_AREA_KIND:
+        return aachen_area_again(from, to, room);
     case MILECOPPER_FACTOR_KIND:
         return milecopper_put_factor(to, room, from[MILECOPPER_FACTOR_FACTOR_AT], from[MILECOPPER_FACTOR_MARK_AT]);
     case MILECOPPER_STOP_KIND:
@@ -325,6 +346,7 @@ static void too_large(const uint8_t *trip)
     uint16_t stops[255];
     struct milecopper_trip other = trip_of(trip, stops);
     struct milecopper_area area = {0, 0, 0, 0, 0, 0, 0, 0, {0, 0, 0, 0, 65536}, 0, 0};
+    struct milecopper_aachen_area aachen = {{0, 0, 0, 0, 0, 0, 0, 0, {0, 0, 0, 0, 0}, 0, 0}, {0, 0, 0, 0, 65536}, 0, 0};
     other.adults = 256;
     check(milecopper_put_trip(bytes, sizeof bytes, &other) == 0, "256 adults");
     other = trip_of(trip, stops);
@@ -334,6 +356,7 @@ static void too_large(const uint8_t *trip)
     other.stop_count = 256;
     check(milecopper_put_trip(bytes, sizeof bytes, &other) == 0, "256 stops");
     check(milecopper_put_area(bytes, sizeof bytes, &area) == 0, "a trip cap of 65536");
+    check(milecopper_put_aachen_area(bytes, sizeof bytes, &aachen) == 0, "a child ticket of 65536");
     check(milecopper_put_factor(bytes, sizeof bytes, 256, 0) == 0, "the factor 256");
     check(milecopper_put_stop(bytes, sizeof bytes, 256, 0, 0) == 0, "a stop in area 256");
     check(memcmp(bytes, blank, sizeof bytes) == 0, "what does not fit is not written");

@@ -16,7 +16,7 @@ static void check(int well, const char *what)
 
 static void sizes(void)
 {
-    check(MILECOPPER_BOOK_BYTES == 4 * (3 + 21 * 32 * 2 + MILECOPPER_MOST_BICYCLES), "the book");
+    check(MILECOPPER_BOOK_BYTES == 4 * (3 + 21 * 32 * 2 + 2 * MILECOPPER_MOST_BICYCLES), "the book");
     check(MILECOPPER_MOST_PERSONS == 1 + MILECOPPER_MOST_ADULTS + MILECOPPER_MOST_CHILDREN, "the persons");
     check(MILECOPPER_MOST_CHARGES == MILECOPPER_MOST_PERSONS + MILECOPPER_MOST_BICYCLES, "the charges");
     check(milecopper_record_bytes_for(0, 0, 0) == MILECOPPER_SMALLEST_RECORD_BYTES, "the smallest record");
@@ -26,8 +26,10 @@ static void sizes(void)
           "the largest trip");
     check(MILECOPPER_LARGEST_STATEMENT_BYTES == MILECOPPER_MOST_PARTS * MILECOPPER_LARGEST_RECORD_BYTES,
           "the largest statement");
-    check(MILECOPPER_LARGEST_TARIFF_BYTES == (MILECOPPER_AREA_BYTES + MILECOPPER_FACTOR_BYTES) * MILECOPPER_MOST_AREAS +
-                                                 MILECOPPER_STOP_BYTES * MILECOPPER_MOST_STOPS,
+    /* The state's record is the shorter one. */
+    check(MILECOPPER_LARGEST_TARIFF_BYTES ==
+              MILECOPPER_AREA_BYTES + MILECOPPER_AACHEN_AREA_BYTES * (MILECOPPER_MOST_AREAS - 1) +
+                  MILECOPPER_FACTOR_BYTES * MILECOPPER_MOST_AREAS + MILECOPPER_STOP_BYTES * MILECOPPER_MOST_STOPS,
           "the largest tariff");
     check(MILECOPPER_TRIP_STOPS_AT + 2 * MILECOPPER_MOST_STOPS_IN_A_TRIP == MILECOPPER_LARGEST_TRIP_BYTES, "a trip's stops");
     check(MILECOPPER_TRIP_CHECK_IN_AT + MILECOPPER_STAMP_BYTES == MILECOPPER_TRIP_CHECK_OUT_AT, "a trip's stamps");

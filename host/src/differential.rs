@@ -7,12 +7,14 @@
 //! ([`quotes`]). What is called on the library's side gets slices beside protected pages ([`guarded`]), so that a byte
 //! touched outside them is seen.
 
+mod aachen;
 pub mod books;
 mod cases;
 mod chains;
 mod counts;
 mod cuts;
 mod damage;
+mod faulty;
 mod fields;
 mod functions;
 mod guarded;
@@ -40,7 +42,7 @@ use std::process::ExitCode;
 use std::time::Instant;
 
 /// Chains of each seed.
-const CHAINS: u64 = 2_200;
+const CHAINS: u64 = 2_500;
 
 /// Compares these functions, of whoever is called `name`, with the model. Prints the seeds first and the counts at the end.
 /// An error is the first difference, or says what was met too seldom.

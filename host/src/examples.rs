@@ -7,6 +7,7 @@ use crate::differential::Functions;
 use crate::maker::bytes_of;
 use crate::maker::cases::{sections_of, Content, Section, Sort};
 use crate::model::book::BOOK_BYTES;
+use crate::model::record::{record_at, KIND_AACHEN_AREA, KIND_AREA};
 use crate::model::statement::{number_of, ChargeRecord, LARGEST_STATEMENT};
 use crate::numbers::number;
 
@@ -195,9 +196,7 @@ impl Desk {
             number => return format!("refused {number}"),
         }
         let mut tariff = self.tariff.clone();
-        for area in tariff.chunks_mut(29).take_while(|record| record[2] == 1) {
-            area[25..27].fill(0xff);
-        }
+        without_day_caps(&mut tariff);
         let mut with_a_child = trip.to_vec();
         with_a_child[20..23].copy_from_slice(&[0, 1, 0]);
         let settled = self.settled(&tariff, &mut [0; BOOK_BYTES], &with_a_child, LARGEST_STATEMENT);
@@ -232,6 +231,18 @@ fn record_line(record: &ChargeRecord) -> String {
     let bicycles = charges[cuts.len()..].iter().map(|charge| format!(" {charge}"));
     let cents: String = persons.chain(bicycles).collect();
     format!("open {opening} area {area} km {km} min {minutes} cents{cents}")
+}
+
+/// Leaves a faultless tariff's areas without day caps, which stand at one place in both kinds of area.
+fn without_day_caps(tariff: &mut [u8]) {
+    let mut place = 0;
+    while let Some(record) = tariff.get(place..).and_then(|rest| record_at(rest, 0)) {
+        let (size, is_area) = (record.size(), [KIND_AREA, KIND_AACHEN_AREA].contains(&record.kind));
+        if is_area {
+            tariff[place + 25..place + 27].fill(0xff);
+        }
+        place += size;
+    }
 }
 
 /// A book of one trip whose first bicycle's covering area is this one, counted from 1.

@@ -6,7 +6,7 @@
 //! - [`clock`]: stamps and minute numbers;
 //! - [`trip`]: the trip record;
 //! - [`parts`]: changes, and the parts in which a trip is charged;
-//! - [`fare`]: kilometres and the four price steps;
+//! - [`fare`]: kilometres and the price, kind by kind;
 //! - [`caps`]: the caps of a ride, and which one is named;
 //! - [`charge`]: windows, charges and bicycles;
 //! - [`statement`]: the charge record;
@@ -31,7 +31,7 @@ use book::{Book, TRIPS_IN_A_WINDOW};
 use charge::{costs_of, window_for, Costs};
 use clock::MINUTES_IN_A_DAY;
 use fare::Ride;
-use parts::parts_of;
+use parts::{parts_of, rides_in_a_marked_town};
 pub use roll::settle_roll;
 use statement::ChargeRecord;
 pub use tariff::{read_tariff, Tariff};
@@ -108,6 +108,8 @@ fn outcome(tariff: &[u8], book: &[u8], trip: &[u8], room: usize) -> Result<(Book
     unless(trip.counts_are_in_range(), 6)?;
     // 7: a stop number the tariff lacks
     unless(trip.stops.iter().all(|&stop| stop < tariff.stops.len()), 7)?;
+    // 6 once more: first class where the area of the trip, or of a part, is a marked town
+    unless(trip.class != 1 || !rides_in_a_marked_town(&tariff, &trip.stops), 6)?;
     // 8: a stamp with no local date or clock time, with another offset, or before minute 0 UTC
     let check_in = trip.check_in.minute_number().ok_or(refused(8))?;
     let check_out = trip.check_out.minute_number().ok_or(refused(8))?;

@@ -4,6 +4,7 @@
 
 use milecopper_host::differential::{settle_by_the_model, Settle};
 use milecopper_host::maker::bytes_of;
+use milecopper_host::model::book::BOOK_BYTES;
 use milecopper_host::numbers::number;
 
 const TARIFF: &[u8] = include_bytes!("../../samples/tariff.bin");
@@ -14,7 +15,7 @@ const REFUSED_9: u64 = 9 << 32;
 fn ride(settle: Settle, from: &str, to: &str) -> (u64, u64, u64) {
     let text = format!("trip {from} to {to} class 2 level 0 adults 0 children 0 bikes 0 stops 0 1");
     let mut statement = [0; 26];
-    let answer = settle(TARIFF, &mut [0; 5_428], &bytes_of(&text).expect("a trip"), &mut statement);
+    let answer = settle(TARIFF, &mut [0; BOOK_BYTES], &bytes_of(&text).expect("a trip"), &mut statement);
     (answer, number(&statement[4..8]), number(&statement[11..13]))
 }
 

@@ -3,6 +3,7 @@
 
 use milecopper_host::differential::{settle_by_the_model, Functions, Settle, MODEL};
 use milecopper_host::maker::checked_bytes_of;
+use milecopper_host::model::book::BOOK_BYTES;
 use milecopper_host::model::settle_roll;
 
 const FORMAT: &str = include_str!("../../docs/FORMAT.md");
@@ -20,7 +21,7 @@ fn gives_the_records(settle: Settle) {
     for (trip, records, trips) in
         [("trip", "record", 1), ("october-trip", "october-record", 1), ("ride-out-and-back", "two-records", 2)]
     {
-        let (mut book, mut statement) = ([0; 5_428], [0xaa; 532]);
+        let (mut book, mut statement) = ([0; BOOK_BYTES], [0xaa; 532]);
         let records = block(records);
         let written = records.len();
         assert_eq!(settle(&block("tariff"), &mut book, &block(trip), &mut statement), written as u64);
@@ -30,9 +31,18 @@ fn gives_the_records(settle: Settle) {
     }
 }
 
+/// The ride in an area of kind 8; its bicycle's payment stands in the book.
+fn gives_the_aachen_record(settle: Settle) {
+    let (mut book, mut statement) = ([0; BOOK_BYTES], [0; 532]);
+    let record = block("aachen-record");
+    assert_eq!(settle(&block("aachen-tariff"), &mut book, &block("aachen-trip"), &mut statement), record.len() as u64);
+    assert_eq!(statement[..record.len()], record);
+    assert_eq!(book[4 * 1_357..4 * 1_358], record[record.len() - 4..]);
+}
+
 /// The ride out and back five times, the later ones at the first one's check-out: the last record is the one with a cut.
 fn gives_the_cut(settle: Settle) {
-    let (mut book, mut statement) = ([0; 5_428], [0; 532]);
+    let (mut book, mut statement) = ([0; BOOK_BYTES], [0; 532]);
     let mut trip = block("ride-out-and-back");
     let record = block("cut-record");
     for _ in 0..5 {
@@ -47,14 +57,14 @@ fn gives_the_cut(settle: Settle) {
 fn are_quoted_and_posted(Functions { settle, quote, post, .. }: Functions) {
     for (trip, records) in [("trip", "record"), ("ride-out-and-back", "two-records")] {
         let (tariff, trip, records) = (block("tariff"), block(trip), block(records));
-        let (mut book, mut settled, mut statement) = ([0; 5_428], [0; 5_428], [0; 532]);
+        let (mut book, mut settled, mut statement) = ([0; BOOK_BYTES], [0; BOOK_BYTES], [0; 532]);
         assert_eq!(quote(&tariff, &book, &trip, &mut statement), records.len() as u64);
         assert_eq!(statement[..records.len()], records);
         for fewer in [0, 40, records.len() - 1].into_iter().filter(|&fewer| fewer < records.len()) {
             assert_eq!(post(&tariff, &mut book, &trip, &records[..fewer]), 13 << 32);
         }
-        assert_eq!(book, [0; 5_428]);
-        assert_eq!(post(&tariff, &mut book, &trip, &records), 5_428);
+        assert_eq!(book, [0; BOOK_BYTES]);
+        assert_eq!(post(&tariff, &mut book, &trip, &records), BOOK_BYTES as u64);
         settle(&tariff, &mut settled, &trip, &mut statement);
         assert_eq!(book, settled);
     }
@@ -62,6 +72,7 @@ fn are_quoted_and_posted(Functions { settle, quote, post, .. }: Functions) {
 
 #[test]
 fn the_worked_example_by_the_model() {
+    gives_the_aachen_record(settle_by_the_model);
     gives_the_records(settle_by_the_model);
     gives_the_cut(settle_by_the_model);
     are_quoted_and_posted(MODEL);
@@ -70,6 +81,7 @@ fn the_worked_example_by_the_model() {
 #[cfg(feature = "library")]
 #[test]
 fn the_worked_example_by_the_library() {
+    gives_the_aachen_record(milecopper_host::library::settle_to_number);
     gives_the_records(milecopper_host::library::settle_to_number);
     gives_the_cut(milecopper_host::library::settle_to_number);
     are_quoted_and_posted(milecopper_host::library::LIBRARY);

@@ -10,7 +10,7 @@ fn planted(name: &str) -> (bool, String) {
 }
 
 /// Each planted error, and words of the difference that it makes.
-const FOUND: [(&str, &str); 14] = [
+const FOUND: [(&str, &str); 19] = [
     ("refusal_12_writes_the_book", "the copy refused, and changed the book"),
     ("stops_after_stamps", "by the model: refused 7 at 0 (unknown stop)\n  by the copy: refused 8 at 0"),
     ("rounding_once_at_the_end", "of the statement is"),
@@ -18,6 +18,11 @@ const FOUND: [(&str, &str); 14] = [
     ("broken_at_the_factor", "the answer differs"),
     ("last_of_equals", "of the statement is"),
     ("second_part_with_the_duration", "of the statement is"),
+    ("first_class_compared", "of the statement is"),
+    ("child_reduced_after_the_ticket", "of the statement is"),
+    ("towns_ticket_compared", "of the statement is"),
+    ("payments_credited", "of the statement is"),
+    ("town_after_stamps", "by the model: refused 6 at 0 (trip counts)\n  by the copy: refused 8 at 0"),
     ("offset_added", "words of the book differ"),
     ("narrowest_of_equals", "of the statement is"),
     ("named_at_the_whole_price", "of the statement is"),

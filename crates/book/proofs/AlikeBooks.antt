@@ -17,11 +17,11 @@ use Rattle.tariff.specs.Areas.{parentOf, FaultlessTariff}
 use Rattle.tariff.proofs.Within.{parent-there}
 use Rattle.fare.specs.declared.Ride.{Ride}
 use Rattle.book.specs.declared.Window.{Window}
-use Rattle.book.specs.Words.{word, putWord, pairPlace, secondSum, allSum, firstChild, coverPlace, coverWord}
+use Rattle.book.specs.Words.{word, putWord, pairPlace, secondSum, allSum, firstChild, coverPlace, coverWord, paidPlace, paidWord}
 use Rattle.book.specs.Windows.{inWindow}
 use Rattle.book.specs.Charging.{riderCharge, riderCharges, newCover, bicycleCharges, chargesOf}
 use Rattle.book.specs.Cuts.{riderCut, riderCuts, cutsOf}
-use Rattle.book.specs.Posting.{addHere, addUp, addList, coverBicycles, opened, withCharges, posted}
+use Rattle.book.specs.Posting.{addHere, addUp, addList, paidWith, coverBicycles, opened, withCharges, posted}
 use Rattle.book.proofs.Trees.{is-tree}
 
 -- alike books have the same known words, and stay alike with a word put in both
@@ -33,11 +33,15 @@ pub record Alike (R : List ℕ → List ℕ → Type 0) (Known : ℕ → Type 0)
 abbrev pub KnownRider : (ℕ → Type 0) → Counts → ℕ → Type 0
 KnownRider Known counts rider = (a : ℕ) → a < counts .areas → Known (pairPlace rider a) × Known (pairPlace rider a + 1)
 
+-- a bicycle's two words are known
+abbrev pub KnownBicycle : (ℕ → Type 0) → ℕ → Type 0
+KnownBicycle Known bicycle = Known (coverPlace bicycle) × Known (paidPlace bicycle)
+
 -- the words that a ride touches are known: those of each rider and of each bicycle that it carries
 pub record Touches (Known : ℕ → Type 0) (counts : Counts) (ride : Ride) : Type 0 where
   pub adults : (i : ℕ) → i < 1 + ride .party .adults → KnownRider Known counts (0 + i)
   pub children : (i : ℕ) → i < ride .party .children → KnownRider Known counts (firstChild + i)
-  pub bicycles : (i : ℕ) → i < ride .party .bicycles → Known (coverPlace i)
+  pub bicycles : (i : ℕ) → i < ride .party .bicycles → KnownBicycle Known i
 
 module _ {R : List ℕ → List ℕ → Type 0} {Known : ℕ → Type 0} (alike : Alike R Known) {tariff : List ℕ} {counts : Counts}
     (t : FaultlessTariff tariff counts) (ride : Ride) (there : ride .area < counts .areas) where
@@ -58,12 +62,17 @@ module _ {R : List ℕ → List ℕ → Type 0} {Known : ℕ → Type 0} (alike 
       )
 
   bicycles-alike :
-      (w w′ : List ℕ) → R w w′ → (count : ℕ) → ((i : ℕ) → i < count → Known (coverPlace i))
+      (w w′ : List ℕ) → R w w′ → (count : ℕ) → ((i : ℕ) → i < count → KnownBicycle Known i)
       → bicycleCharges tariff counts w′ ride count ≡ bicycleCharges tariff counts w ride count
   unfolding bicycleCharges
   bicycles-alike w w′ r zero known = refl
   bicycles-alike w w′ r (suc count) known =
-      rw (bicycles-alike w w′ r count (λ i h. known i (omega arith)), alike .same w w′ r (coverPlace count) (known count (omega arith)))
+      let own = known count (omega arith) in
+      rw (
+        bicycles-alike w w′ r count (λ i h. known i (omega arith)),
+        alike .same w w′ r (coverPlace count) (own .0),
+        alike .same w w′ r (paidPlace count) (own .1),
+      )
 
   -- A ride's charges go by the words that it touches.
   pub charges-alike : Touches Known counts ride → (w w′ : List ℕ) → R w w′ → chargesOf tariff counts w′ ride ≡ chargesOf tariff counts w ride
@@ -134,8 +143,14 @@ module _ {R : List ℕ → List ℕ → Type 0} {Known : ℕ → Type 0} (alike 
       (levelOf tariff counts (ride .area)) (ride .area) there _ _
       (list-alike first count charges from b b′ r (λ i h. known i (omega arith)))
 
+  -- one bicycle's new covering area and its payments
+  abbrev bicycleIn : ℕ → List ℕ → List ℕ
+  bicycleIn k c =
+      let new = newCover tariff counts (ride .area) (coverWord c k) in
+      putWord (putWord c (coverPlace k) (1 + new)) (paidPlace k) (paidWith tariff counts new (paidWord c k))
+
   cover-alike :
-      (count : ℕ) (b b′ : List ℕ) → R b b′ → ((i : ℕ) → i < count → Known (coverPlace i))
+      (count : ℕ) (b b′ : List ℕ) → R b b′ → ((i : ℕ) → i < count → KnownBicycle Known i)
       → R (coverBicycles tariff counts ride count b) (coverBicycles tariff counts ride count b′)
   unfolding coverBicycles
   cover-alike zero b b′ r known = r
@@ -143,11 +158,12 @@ module _ {R : List ℕ → List ℕ → Type 0} {Known : ℕ → Type 0} (alike 
     where
       behind :
           (c c′ : List ℕ) → R c c′
-          → R (putWord c (coverPlace count) (1 + newCover tariff counts (ride .area) (coverWord c count)))
-          (putWord c′ (coverPlace count) (1 + newCover tariff counts (ride .area) (coverWord c′ count)))
+          → R (bicycleIn count c) (bicycleIn count c′)
       behind c c′ s =
-          rw (alike .same c c′ s (coverPlace count) (known count (omega arith)))
-          (alike .put c c′ s (coverPlace count) (1 + newCover tariff counts (ride .area) (coverWord c count)))
+          let own = known count (omega arith) in
+          let new = newCover tariff counts (ride .area) (coverWord c count) in
+          rw (alike .same c c′ s (coverPlace count) (own .0), alike .same c c′ s (paidPlace count) (own .1))
+          (alike .put _ _ (alike .put c c′ s (coverPlace count) (1 + new)) (paidPlace count) (paidWith tariff counts new (paidWord c count)))
 
   -- The same charges on alike books give alike books.
   pub with-alike :

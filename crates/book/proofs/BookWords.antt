@@ -15,21 +15,22 @@ use Rattle.tariff.specs.declared.Counts.{Counts}
 use Rattle.tariff.specs.Areas.{FaultlessTariff}
 use Rattle.fare.specs.declared.Ride.{Ride}
 use Rattle.book.specs.declared.Window.{Window}
-use Rattle.book.specs.Words.{bookSize, bookWords, word, putWord, pairPlace, coverPlace}
+use Rattle.book.specs.Words.{bookSize, bookWords, word, putWord, pairPlace, coverPlace, paidPlace}
 use Rattle.book.specs.Windows.{inWindow}
 use Rattle.book.specs.Posting.{opened, posted}
 use Rattle.book.proofs.AlikeBooks.{Alike, Touches, posted-alike}
 
 -- ---- The words there are.
 
--- Each word is the trips, the opening, the last check-out, one of a rider's two sums in an area, or a bicycle's.
+-- Each word is the trips, the opening, the last check-out, one of a rider's two sums in an area, or a bicycle's covering area
+-- or payments.
 pub each-word :
     (P : ℕ → Type 0) → P 0 → P 1 → P 2 → ((rider area : ℕ) → rider < 21 → area < 32 → P (pairPlace rider area) × P (pairPlace rider area + 1))
-    → ((k : ℕ) → k < 10 → P (coverPlace k)) → (i : ℕ) → i < bookWords → P i
-each-word P trips opening last sums covers zero h = trips
-each-word P trips opening last sums covers (suc zero) h = opening
-each-word P trips opening last sums covers (suc (suc zero)) h = last
-each-word P trips opening last sums covers (suc (suc (suc n))) h =
+    → ((k : ℕ) → k < 10 → P (coverPlace k)) → ((k : ℕ) → k < 10 → P (paidPlace k)) → (i : ℕ) → i < bookWords → P i
+each-word P trips opening last sums covers payments zero h = trips
+each-word P trips opening last sums covers payments (suc zero) h = opening
+each-word P trips opening last sums covers payments (suc (suc zero)) h = last
+each-word P trips opening last sums covers payments (suc (suc (suc n))) h =
     elim (decLt n 1344) [
       | yes sum ↦
           let pair = sums (n / 64) (n % 64 / 2) (omega arith) (omega arith) in
@@ -37,7 +38,11 @@ each-word P trips opening last sums covers (suc (suc (suc n))) h =
             | yes even ↦ let e : pairPlace (n / 64) (n % 64 / 2) ≡ suc (suc (suc n)) = omega arith in subst P e (pair .0)
             | no odd ↦ let e : pairPlace (n / 64) (n % 64 / 2) + 1 ≡ suc (suc (suc n)) = omega arith in subst P e (pair .1)
           ]
-      | no past ↦ let e : coverPlace (n - 1344) ≡ suc (suc (suc n)) = omega arith in subst P e (covers (n - 1344) (omega arith))
+      | no past ↦
+          elim (decLt n 1354) [
+            | yes cover ↦ let e : coverPlace (n - 1344) ≡ suc (suc (suc n)) = omega arith in subst P e (covers (n - 1344) (omega arith))
+            | no behind ↦ let e : paidPlace (n - 1354) ≡ suc (suc (suc n)) = omega arith in subst P e (payments (n - 1354) (omega arith))
+          ]
     ]
 
 -- numbers of bytes that are the same have the same bytes
@@ -94,7 +99,7 @@ pub posted-bytes :
     (checkout : ℕ) → Bytes (inWindow (window .current) book) → Bytes (posted tariff counts book window checkout ride)
 posted-bytes t ride there book window checkout bytes =
     let touches : Touches (λ i. Unit) _ ride =
-    record { adults = λ i h a h′. (tt, tt); children = λ i h a h′. (tt, tt); bicycles = λ i h. tt }
+    record { adults = λ i h a h′. (tt, tt); children = λ i h a h′. (tt, tt); bicycles = λ i h. (tt, tt) }
     in
     posted-alike twice-alike t ride there touches window window checkout checkout book book (refl, bytes)
     (refl, opened-bytes window checkout (inWindow (window .current) book) bytes) .1

@@ -1,7 +1,7 @@
 -- That a chain of three areas gives a charge, what it is at most, and where each of a party stands among the charges.
 -- Assumes nothing.
-use Prim.Native.Nat.{ℕ, zero, suc, _+_, _-_, _≤_, _<_}
-use native.Mathlib.Nat.{not-suc-le-zero, le-trans, add-assoc, zero-add, sub-zero}
+use Prim.Native.Nat.{ℕ, zero, suc, _+_, _-_, _≤_, _<_, min}
+use native.Mathlib.Nat.{not-suc-le-zero, le-trans, add-assoc, zero-add}
 use native.Mathlib.Omega.{arith}
 use native.Mathlib.Numerals.{add-one}
 use native.Mathlib.Decide.{ℕ-discrete, decLt}
@@ -10,7 +10,6 @@ use mathlib.Core.Bool.{Bool, true, false, cond}
 use mathlib.Core.List.{List, [], _∷_, _++_, append-assoc}
 use lib.ListN.{length, getD, set, length-append, List·getD-append, List·getD-eq-default}
 use lib.Seq.{set-comm, sets, length-sets, getD-append-add, getD-at, getD-take}
-use lib.Dec.{eqb}
 use borrow.Author.Tests.{eq-eqb, ne-eqb}
 use Rattle.wire.proofs.Number.{sets-more}
 use Rattle.caps.specs.Tree.{foldUp, chargeIn}
@@ -19,23 +18,26 @@ use Rattle.caps.specs.Contracts.{nameOf as finalName}
 use Rattle.caps.proofs.Charge.{charge-smallest}
 use Rattle.caps.proofs.Named.{amount-past, name-past}
 use Rattle.tariff.specs.declared.Counts.{Counts}
-use Rattle.tariff.specs.Areas.{areaAt, Read, Smallest, FaultlessTariff}
+use Rattle.tariff.specs.Rules.{mostMoney, flatOf}
+use Rattle.tariff.specs.Areas.{areaAt, Read, Smallest, isAachen, bicyclePriceOf, FaultlessTariff}
 use Rattle.tariff.specs.Contracts.{FlatOf}
 use Rattle.tariff.proofs.Faultless.{faultless}
-use Rattle.tariff.proofs.Within.{area-flat, above-of, parent-there, parent-top, flat-within, smallest}
+use Rattle.tariff.proofs.Within.{area-flat, common-kind, flat-within, smallest}
 use Rattle.fare.specs.declared.Ride.{Ride}
 use Rattle.fare.specs.Prices.{mostPrice}
 use Rattle.fare.specs.Contracts.{Priceable}
 use Rattle.fare.proofs.Steps.{price-most}
 use Rattle.book.specs.declared.Earlier.{Earlier}
 use Rattle.book.specs.declared.Riders.{Riders}
-use Rattle.book.specs.Words.{secondSum, allSum, firstChild, coverPlace, coverWord}
+use Rattle.book.specs.Words.{secondSum, allSum, firstChild, coverPlace, coverWord, paidPlace, paidWord}
+use Rattle.book.specs.Sound.{mostPaid}
 use Rattle.book.specs.Windows.{inWindow}
 use Rattle.book.specs.Caps.{treeOf}
-use Rattle.book.specs.Charging.{riderCharge, riderCharges, newCover, bicycleCharge, bicycleCharges, chargesOf}
+use Rattle.book.specs.Charging.{riderCharge, riderCharges, newCover, payment, flatBefore, bicycleCharge, bicycleCharges, chargesOf}
+use Rattle.book.specs.Posting.{paidWith}
 use Rattle.book.specs.declared.Cut.{Cut}
 use Rattle.book.specs.Cuts.{riderCut, riderCuts, cutsOf}
-use Rattle.book.specs.Contracts.{Rideable, pendingIn, chainOf, restBy, nameOf, reductionsOf, namesOf, NewCover, BicycleCharge, PartyAmounts}
+use Rattle.book.specs.Contracts.{Rideable, pendingIn, chainOf, restBy, nameOf, reductionsOf, namesOf, NewCover, Payment, PaidWith, BicycleCharge, PartyAmounts}
 use Rattle.book.proofs.Trees.{is-tree}
 use Rattle.book.proofs.Groups.{groupOf, afterGroups, storing}
 use Rattle.book.proofs.WordLaws.{word-fresh}
@@ -73,6 +75,24 @@ cover-there f a old here known =
       | no used ↦ rw (ne-eqb old 0 used) (smallest f a (old - 1) here (omega arith) .there)
     ]
 
+-- What the old covering area's flat counts for: nothing if the bicycle is unused, nor where the area is of kind 8.
+module _ (t : List ℕ) (counts : Counts) (old : ℕ) where
+  pub before-none : old ≡ 0 → flatBefore t counts old ≡ 0
+  unfolding flatBefore
+  before-none none = rw (eq-eqb old 0 none)
+
+  before-used : (inner : ℕ) → old ≡ 1 + inner → flatBefore t counts old ≡ cond (isAachen t counts inner) 0 (flatOf t counts inner)
+  unfolding flatBefore
+  before-used inner is =
+      let same : old - 1 ≡ inner = omega arith in
+      rw (ne-eqb old 0 (λ none. omega arith), same)
+
+  pub before-paid : (inner : ℕ) → old ≡ 1 + inner → isAachen t counts inner ≡ true → flatBefore t counts old ≡ 0
+  before-paid inner is aachen = before-used inner is ∙ rw aachen
+
+  pub before-flat : (inner : ℕ) → old ≡ 1 + inner → isAachen t counts inner ≡ false → flatBefore t counts old ≡ flatOf t counts inner
+  before-flat inner is common = before-used inner is ∙ rw common
+
 -- A bicycle in a ride of area a: its new covering area and its charge.
 module _ (t : List ℕ) (counts : Counts) (a : ℕ) (read : Read t counts) (here : a < counts .areas) where
   pub cover-first : (old : ℕ) → old ≡ 0 → NewCover t counts a old a
@@ -84,39 +104,75 @@ module _ (t : List ℕ) (counts : Counts) (a : ℕ) (read : Read t counts) (here
   unfolding newCover
   cover-more old r used s = record { value = rw (ne-eqb old 0 used, s .value); there = s .there }
 
-  -- the new covering area contains the old one, so its flat is at least what is paid
-  pub paid-most :
-      {old new r paid : ℕ} → 0 < old → old ≤ counts .areas → NewCover t counts a old new → FlatOf t counts new r
-      → FlatOf t counts (old - 1) paid → paid ≤ r
-  unfolding newCover
-  paid-most {old} {new} {r} {paid} used known cover flat before =
-      let f = faultless t counts read in
-      let there : old - 1 < counts .areas = omega arith in
-      let least = flat-within f (old - 1) _ there (smallest f a (old - 1) here there .other) in
-      rw (before .value, flat .value, cover .value, ne-eqb old 0 (λ none. omega arith)) least
+  -- the new covering area contains the old one: so where both are of kind 1, its flat is at least the old one's
+  pub flat-before-most :
+      {old new : ℕ} → old ≤ counts .areas → NewCover t counts a old new → isAachen t counts new ≡ false → flatBefore t counts old ≤ flatOf t counts new
+  unfolding newCover flatBefore
+  flat-before-most {old} {new} known cover common =
+      elim (ℕ-discrete old 0) [
+        | yes none ↦ rw (eq-eqb old 0 none) (omega arith)
+        | no used ↦ rw (ne-eqb old 0 used) (go used (isAachen t counts (old - 1)) refl)
+      ]
+    where
+      go : (old ≡ 0 → ⊥) → (kind : Bool) → isAachen t counts (old - 1) ≡ kind → cond kind 0 (flatOf t counts (old - 1)) ≤ flatOf t counts new
+      go used true is = omega arith
+      go used false is =
+          let f = faultless t counts read in
+          let there : old - 1 < counts .areas = omega arith in
+          let inside = rw (ne-eqb old 0 used) at (cover .value) in
+          flat-within f (old - 1) new there (common-kind f new (cover .there) common ∙ sym (common-kind f (old - 1) there is))
+          (rw inside (smallest f a (old - 1) here there .other))
 
-  -- the contract of `charge_bicycle`, from the flats of the two covering areas
-  pub bicycle-first : {old new r : ℕ} → old ≤ 0 → NewCover t counts a old new → FlatOf t counts new r → BicycleCharge t counts a old r
+  -- the contract of `charge_bicycle`: by the payment in kind 8, by the flats elsewhere
+  pub bicycle-pays :
+      {old paid new r : ℕ} → NewCover t counts a old new → isAachen t counts new ≡ true → Payment t counts new paid r → BicycleCharge t counts a old paid r
   unfolding bicycleCharge
-  bicycle-first {old} {new} {r} none cover flat =
-      record { value = rw (eq-eqb old 0 (omega arith), ← cover .value, sub-zero) (flat .value); range = flat .range }
+  bicycle-pays cover aachen pays = record { value = rw (← cover .value, aachen) (pays .value); range = pays .range }
 
-  pub bicycle-more :
-      {old new r paid : ℕ} → 0 < old → NewCover t counts a old new → FlatOf t counts new r → FlatOf t counts (old - 1) paid
-      → BicycleCharge t counts a old (r - paid)
+  pub bicycle-flat :
+      {old paid new r before : ℕ} → NewCover t counts a old new → isAachen t counts new ≡ false → FlatOf t counts new r → before ≡ flatBefore t counts old
+      → BicycleCharge t counts a old paid (r - before)
   unfolding bicycleCharge
-  bicycle-more {old} {new} {r} {paid} used cover flat before =
-      record {
-        value = rw (ne-eqb old 0 (λ none. omega arith), ← cover .value, flat .value, before .value);
-        range = omega (arith, flat .range);
-      }
+  bicycle-flat cover common flat is =
+      record { value = rw (← cover .value, common, flat .value, is); range = omega (arith, flat .range) }
 
-  pub bicycle-most : (old : ℕ) → old ≤ counts .areas → bicycleCharge t counts a old ≤ 60000
-  unfolding bicycleCharge
-  bicycle-most old known =
+  pub bicycle-most : (old paid : ℕ) → old ≤ counts .areas → bicycleCharge t counts a old paid ≤ mostMoney
+  unfolding bicycleCharge payment
+  bicycle-most old paid known =
       let f = faultless t counts read in
       let new = newCover t counts a old in
-      omega (arith, f .area new (cover-there f a old here known) .bicycle-flat, area-flat t counts new)
+      let flat : flatOf t counts new ≤ mostMoney = omega (arith, f .area new (cover-there f a old here known) .bicycle-flat, area-flat t counts new) in
+      go new (isAachen t counts new) flat
+    where
+      go :
+          (new : ℕ) (kind : Bool) → flatOf t counts new ≤ mostMoney
+          → cond kind (min (bicyclePriceOf t counts new) (flatOf t counts new - paid)) (flatOf t counts new - flatBefore t counts old) ≤ mostMoney
+      go new true flat = omega arith
+      go new false flat = omega arith
+
+-- The payments with one more are no more than the cap, or than they were: so they stay in their range.
+module _ {t : List ℕ} {counts : Counts} (f : FaultlessTariff t counts) (cover : ℕ) (there : cover < counts .areas) where
+  pub payment-most : (paid : ℕ) → paid ≤ mostPaid → paid + payment t counts cover paid ≤ mostPaid
+  unfolding payment
+  payment-most paid small = omega (arith, f .area cover there .bicycle-flat, area-flat t counts cover)
+
+  pub paid-with-most : (paid : ℕ) → paid ≤ mostPaid → paidWith t counts cover paid ≤ mostPaid
+  unfolding paidWith
+  paid-with-most paid small = go (isAachen t counts cover)
+    where
+      go : (kind : Bool) → cond kind (paid + payment t counts cover paid) paid ≤ mostPaid
+      go true = payment-most paid small
+      go false = small
+
+  pub paid-more :
+      {paid more : ℕ} → paid ≤ mostPaid → isAachen t counts cover ≡ true → Payment t counts cover paid more → PaidWith t counts cover paid (paid + more)
+  unfolding paidWith
+  paid-more {paid} small aachen pays =
+      record { value = rw (aachen, pays .value); range = rw (pays .value) (payment-most paid small) }
+
+  pub paid-same : {paid : ℕ} → paid ≤ mostPaid → isAachen t counts cover ≡ false → PaidWith t counts cover paid paid
+  unfolding paidWith
+  paid-same small common = record { value = rw common; range = small }
 
 -- A list made one value after another.
 unfoldable pub listed : {A : Type 0} → (ℕ → A) → ℕ → List A
@@ -191,7 +247,7 @@ module _ (t : List ℕ) (counts : Counts) (w : List ℕ) (ride : Ride) where
   riders-listed child first zero = refl
   riders-listed child first (suc n) = rw (riders-listed child first n)
 
-  pub bicycles-listed : (n : ℕ) → listed (λ i. bicycleCharge t counts (ride .area) (coverWord w i)) n ≡ bicycleCharges t counts w ride n
+  pub bicycles-listed : (n : ℕ) → listed (λ i. bicycleCharge t counts (ride .area) (coverWord w i) (paidWord w i)) n ≡ bicycleCharges t counts w ride n
   unfolding listed bicycleCharges
   bicycles-listed zero = refl
   bicycles-listed (suc n) = rw (bicycles-listed n)
@@ -240,6 +296,12 @@ pub cover-known :
 cover-known true s k few = s .covers k few
 cover-known false s k few = omega (arith, word-fresh (coverPlace k))
 
+-- So its payments are in their range, and in a new window it has none.
+pub paid-known :
+    {b : List ℕ} {areas : ℕ} (current : Bool) → SoundBook b areas → (k : ℕ) → k < 10 → paidWord (inWindow current b) k ≤ mostPaid
+paid-known true s k few = s .payments k few
+paid-known false s k few = omega (arith, word-fresh (paidPlace k))
+
 -- Among the charges of riders each stands at its place.
 module _ (t : List ℕ) (counts : Counts) (w : List ℕ) (ride : Ride) (child : Bool) (first count : ℕ) where
   pub riders-length : length (riderCharges t counts w ride child first count) ≡ count
@@ -253,7 +315,7 @@ module _ (t : List ℕ) (counts : Counts) (w : List ℕ) (ride : Ride) (count : 
   pub bicycles-length : length (bicycleCharges t counts w ride count) ≡ count
   bicycles-length = rw (← bicycles-listed t counts w ride count) (listed-length _ count)
 
-  pub bicycle-at : (i : ℕ) → i < count → getD (bicycleCharges t counts w ride count) i 0 ≡ bicycleCharge t counts (ride .area) (coverWord w i)
+  pub bicycle-at : (i : ℕ) → i < count → getD (bicycleCharges t counts w ride count) i 0 ≡ bicycleCharge t counts (ride .area) (coverWord w i) (paidWord w i)
   bicycle-at i h = rw (← bicycles-listed t counts w ride count) (listed-at _ 0 count i h)
 
 -- what is stored at places behind others may be stored before them
@@ -334,7 +396,7 @@ module _ (t : List ℕ) (counts : Counts) (w : List ℕ) (ride : Ride) where
 
   pub bicycle-stands :
       (i : ℕ) → i < ride .party .bicycles
-      → getD (chargesOf t counts w ride) (1 + ride .party .adults + ride .party .children + i) 0 ≡ bicycleCharge t counts (ride .area) (coverWord w i)
+      → getD (chargesOf t counts w ride) (1 + ride .party .adults + ride .party .children + i) 0 ≡ bicycleCharge t counts (ride .area) (coverWord w i) (paidWord w i)
   unfolding chargesOf
   bicycle-stands i h =
       at-third older children bicycles _ _ (riders-length t counts w ride false 0 _) (riders-length t counts w ride true firstChild _) i
@@ -428,7 +490,7 @@ module _ {t : List ℕ} {counts : Counts} {b : List ℕ} {ride : Ride} (r : Ride
       (listed-most _ _ mostPrice
       (λ i h.
       let known = cover-known current (sound-has b (counts .areas) (r .sound-book)) i (omega (arith, r .bicycles)) in
-      omega (arith, bicycle-most t counts (ride .area) (r .read) (r .area) (coverWord w i) known)))))
+      omega (arith, bicycle-most t counts (ride .area) (r .read) (r .area) (coverWord w i) (paidWord w i) known)))))
 
 -- The amounts that start with a party's charges are those charges.
 pub amount-at :

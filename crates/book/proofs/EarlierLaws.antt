@@ -28,13 +28,13 @@ use Rattle.book.specs.declared.Riders.{Riders}
 use Rattle.book.specs.declared.Window.{Window}
 use Rattle.book.specs.declared.limits.Link.{Link}
 use Rattle.book.specs.declared.limits.Chain.{Chain}
-use Rattle.book.specs.Words.{word, tripsOf, pairPlace, secondSum, allSum, firstChild, coverPlace, coverWord}
+use Rattle.book.specs.Words.{word, tripsOf, pairPlace, secondSum, allSum, firstChild, coverPlace, coverWord, paidPlace, paidWord}
 use Rattle.book.specs.Windows.{inWindow}
 use Rattle.book.specs.Charging.{carries, placeOf, riderCharge, riderCharges, newCover, chargesOf}
 use Rattle.book.specs.declared.Cut.{Cut}
 use Rattle.book.specs.Caps.{treeOf}
 use Rattle.book.specs.Cuts.{riderCut, riderCuts, cutsOf}
-use Rattle.book.specs.Posting.{opened, posted, withRide, wordsAfter}
+use Rattle.book.specs.Posting.{paidWith, opened, posted, withRide, wordsAfter}
 use Rattle.book.specs.Contracts.{
   Rideable,
   PartyAmounts,
@@ -58,6 +58,7 @@ use Rattle.book.specs.Contracts.{
   namesOf,
   Chargeable,
   coverAfter,
+  paidAfter,
   Postable,
 }
 use Rattle.book.proofs.WordLaws.{word-fresh, size-put, put-same}
@@ -79,7 +80,7 @@ use Rattle.book.proofs.ChargeLaws.{
   amount-at,
 }
 use Rattle.book.proofs.AlikeBooks.{Alike, Touches, charges-alike, cuts-alike, with-alike}
-use Rattle.book.proofs.PostedLaws.{opened-size, opened-other, added, ownCharge, place-there, posted-trips, posted-sum, posted-cover}
+use Rattle.book.proofs.PostedLaws.{opened-size, opened-other, added, ownCharge, place-there, posted-trips, posted-sum, posted-cover, posted-paid}
 use Rattle.book.proofs.SoundAgain.{WindowRight, window-room, added-most, posted-sound}
 
 -- ---- In the book or beside it.
@@ -105,7 +106,7 @@ touches counts ride =
     record {
       adults = λ i h a ha. (omega arith, omega arith);
       children = λ i h a ha. (omega arith, omega arith);
-      bicycles = λ i h. omega arith;
+      bicycles = λ i h. (omega arith, omega arith);
     }
 
 opened-same : (window : Window) (checkout : ℕ) (b : List ℕ) → SameSums (opened window checkout b) b
@@ -137,7 +138,7 @@ module _ {tariff : List ℕ} {counts : Counts} {book : List ℕ} {ride : Ride} (
   cut-behind next there window checkout =
       sym (cuts-alike sums-alike (faultless tariff counts (ok .read)) next there (touches counts next) _ _ (posted-words window checkout))
 
-  -- ---- The words after a ride: each rider's sums with the rider's charge, and each bicycle's new covering area.
+  -- ---- The words after a ride: each rider's sums with the rider's charge, and each bicycle's new covering area and payments.
 
   module _ (current : Bool) (room : current ≡ true → tripsOf book ≤ 255) where
     -- any window with these words
@@ -157,6 +158,12 @@ module _ {tariff : List ℕ} {counts : Counts} {book : List ℕ} {ride : Ride} (
         (k : ℕ) → k < ride .party .bicycles
         → coverWord (withRide tariff counts (inWindow current book) ride) k ≡ 1 + newCover tariff counts (ride .area) (coverWord (inWindow current book) k)
     with-cover k h = posted-words anyWindow 0 .words (coverPlace k) (omega arith) ∙ posted-cover ok anyWindow 0 room k h
+
+    pub with-paid :
+        (k : ℕ) → k < ride .party .bicycles
+        → paidWord (withRide tariff counts (inWindow current book) ride) k
+        ≡ paidWith tariff counts (newCover tariff counts (ride .area) (coverWord (inWindow current book) k)) (paidWord (inWindow current book) k)
+    with-paid k h = posted-words anyWindow 0 .words (paidPlace k) (omega arith) ∙ posted-paid ok anyWindow 0 room k h
 
 -- ---- Pending charges.
 
@@ -193,6 +200,13 @@ module _ (tariff : List ℕ) (counts : Counts) (book : List ℕ) (current : Bool
   unfolding coverAfter
   cover-by Nothing right k h = refl
   cover-by (Part before) right k h = sym (with-cover (right .rideable) current (right .room) k (rw (right .party) h))
+
+  paid-by :
+      (earlier : Earlier) → EarlierRight tariff counts book current ride earlier → (k : ℕ) → k < ride .party .bicycles
+      → paidAfter tariff counts earlier (coverWord counting k) (paidWord counting k) ≡ paidWord (wordsAfter tariff counts counting earlier) k
+  unfolding paidAfter
+  paid-by Nothing right k h = refl
+  paid-by (Part before) right k h = sym (with-paid (right .rideable) current (right .room) k (rw (right .party) h))
 
   module _ (paid : List ℕ) (rider : ℕ) (on : carries (ride .party) rider ≡ true) where
     abbrev amount : ℕ
@@ -254,6 +268,13 @@ module _ {tariff : List ℕ} {counts : Counts} {book : List ℕ} {current : Bool
       (k : ℕ) → k < ride .party .bicycles
       → coverAfter tariff counts earlier (coverWord (inWindow current book) k) ≡ coverWord (wordsAfter tariff counts (inWindow current book) earlier) k
   cover-after = cover-by tariff counts book current ride earlier (r .before)
+
+  -- So are its payments.
+  pub paid-after :
+      (k : ℕ) → k < ride .party .bicycles
+      → paidAfter tariff counts earlier (coverWord (inWindow current book) k) (paidWord (inWindow current book) k)
+      ≡ paidWord (wordsAfter tariff counts (inWindow current book) earlier) k
+  paid-after = paid-by tariff counts book current ride earlier (r .before)
 
 -- a cut goes by the price, the charge and the name
 cut-same :

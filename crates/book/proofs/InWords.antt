@@ -1,7 +1,7 @@
 -- The charge and a bicycle's new covering area in the rules' words: what settling computes is what the words say, whatever the sums are;
 -- and the words say one charge and one area alone.
 -- Assumes nothing.
-use Prim.Native.Nat.{ℕ, _-_, _≤_, _<_}
+use Prim.Native.Nat.{ℕ, _+_, _-_, _≤_, _<_}
 use native.Mathlib.Nat.{le-antisymm}
 use native.Mathlib.Omega.{arith}
 use native.Mathlib.Decide.{ℕ-discrete, decLt}
@@ -21,14 +21,15 @@ use Rattle.caps.specs.Tree.{foldUp, SmallestLeft}
 use Rattle.caps.proofs.Charge.{charge-smallest, charge-past}
 use Rattle.tariff.specs.declared.Counts.{Counts}
 use Rattle.tariff.specs.Rules.{flatOf}
-use Rattle.tariff.specs.Areas.{areaAt, parentOf, liesWithin, smallestOf, FaultlessTariff}
-use Rattle.tariff.proofs.Within.{within-self, within-parent, within-top, within-antisym, within-refl, flat-within, smallest}
+use Rattle.tariff.specs.Areas.{areaAt, parentOf, liesWithin, smallestOf, isAachen, bicyclePriceOf, FaultlessTariff}
+use Rattle.tariff.proofs.Within.{within-self, within-parent, within-top, within-antisym, within-refl, common-kind, flat-within, smallest}
 use Rattle.fare.specs.declared.Ride.{Ride}
 use Rattle.book.specs.Words.{secondSum, allSum}
 use Rattle.book.specs.Caps.{capsHere, treeOf}
-use Rattle.book.specs.Charging.{isChild, riderCharge, newCover, bicycleCharge}
-use Rattle.book.specs.InWords.{priceFor, LeftByCap, second-class, all-classes, ChargeSays, CoverSays, BicycleSays}
+use Rattle.book.specs.Charging.{isChild, riderCharge, newCover, payment, bicycleCharge}
+use Rattle.book.specs.InWords.{priceFor, LeftByCap, second-class, all-classes, ChargeSays, CoverSays, PerTrip, BicycleSays}
 use Rattle.book.proofs.Trees.{is-tree, lies-within}
+use Rattle.book.proofs.ChargeLaws.{before-none, before-paid, before-flat}
 
 -- ---- What one area's caps leave of an amount.
 
@@ -143,6 +144,30 @@ charge-one {tariff} {counts} {w} {ride} {rider} c c′ = le-antisymm (less c c�
 
 -- ---- Bicycles.
 
+-- The smaller of the price per trip and what the cap has left is such a payment, and there is no other.
+pub per-trip-says : (tariff : List ℕ) (counts : Counts) (cover paid : ℕ) → PerTrip tariff counts cover paid (payment tariff counts cover paid)
+unfolding payment
+per-trip-says tariff counts cover paid =
+    record {
+      at-most-price = omega arith;
+      within-cap = λ h. omega arith;
+      full = λ h less. omega arith;
+      passed = λ h. omega arith;
+    }
+
+pub per-trip-one :
+    {tariff : List ℕ} {counts : Counts} {cover paid charge : ℕ} → PerTrip tariff counts cover paid charge → charge ≡ payment tariff counts cover paid
+unfolding payment
+per-trip-one {tariff} {counts} {cover} {paid} {charge} s =
+    elim (decLt (flatOf tariff counts cover) paid) [
+      | yes past ↦ omega (arith, s .passed past)
+      | no under ↦
+          elim (decLt charge (bicyclePriceOf tariff counts cover)) [
+            | yes less ↦ omega (arith, s .full (omega arith) less)
+            | no whole ↦ omega (arith, s .at-most-price, s .within-cap (omega arith))
+          ]
+    ]
+
 module _ {tariff : List ℕ} {counts : Counts} (t : FaultlessTariff tariff counts) where
   -- A bicycle's new covering area is the smallest containing the trip's area and its old covering area, if any.
   pub cover-says : (area old : ℕ) → area < counts .areas → old ≤ counts .areas → CoverSays tariff counts area old (newCover tariff counts area old)
@@ -176,20 +201,31 @@ module _ {tariff : List ℕ} {counts : Counts} (t : FaultlessTariff tariff count
   cover-one {new = new} {new′ = new′} s s′ =
       within-antisym t new new′ (s .there) (s′ .there) (s .least new′ (s′ .contains)) (s′ .least new (s .contains))
 
-  -- what was paid before is at most the new covering area's flat, which contains the old one
-  paid-before :
-      (area old new : ℕ) → old ≤ counts .areas → CoverSays tariff counts area old new
-      → cond (eqb old 0) 0 (flatOf tariff counts (old - 1)) ≤ flatOf tariff counts new
-  paid-before area old new known s =
-      elim (ℕ-discrete old 0) [
-        | yes none ↦ rw (eq-eqb old 0 none) (omega arith)
-        | no used ↦ rw (ne-eqb old 0 used) (flat-within t (old - 1) new (omega arith) (s .contains .olds (old - 1) (omega arith)))
-      ]
+  -- the new covering area contains the old one: so where both are of kind 1, its flat is at least the old one's
+  old-flat :
+      (area old new inner : ℕ) → old ≤ counts .areas → CoverSays tariff counts area old new → isAachen tariff counts new ≡ false → old ≡ 1 + inner
+      → isAachen tariff counts inner ≡ false → flatOf tariff counts inner ≤ flatOf tariff counts new
+  old-flat area old new inner known s common is common′ =
+      let there : inner < counts .areas = omega arith in
+      flat-within t inner new there (common-kind t new (s .there) common ∙ sym (common-kind t inner there common′)) (s .contains .olds inner is)
 
-  -- A bicycle's charge is its new covering area's flat less the old one's.
-  pub bicycle-says : (area old : ℕ) → area < counts .areas → old ≤ counts .areas → BicycleSays tariff counts area old (bicycleCharge tariff counts area old)
+  -- A bicycle's charge is what its new covering area says by its kind.
+  pub bicycle-says :
+      (area old paid : ℕ) → area < counts .areas → old ≤ counts .areas → BicycleSays tariff counts area old paid (bicycleCharge tariff counts area old paid)
   unfolding bicycleCharge
-  bicycle-says area old here known =
+  bicycle-says area old paid here known =
       let new = newCover tariff counts area old in
       let covers = cover-says area old here known in
-      record { new = new; covers = covers; flat = omega (arith, paid-before area old new known covers) }
+      record {
+        new = new;
+        covers = covers;
+        per-trip = λ aachen. rw aachen (per-trip-says tariff counts new paid);
+        by-flats = λ common.
+            rw common
+            (record {
+              unused = λ none. rw (before-none tariff counts old none) (omega arith);
+              per-trip-before = λ inner is aachen. rw (before-paid tariff counts old inner is aachen) (omega arith);
+              flat-before = λ inner is other.
+                  rw (before-flat tariff counts old inner is other) (omega (arith, old-flat area old new inner known covers common is other));
+            });
+      }

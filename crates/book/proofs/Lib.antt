@@ -13,6 +13,7 @@ pub mod PostTurns
 pub mod AlikeBooks
 pub mod GoodRides
 pub mod InWords
+pub mod Paying
 pub mod BookWords
 pub mod EarlierLaws
 pub mod CutLaws

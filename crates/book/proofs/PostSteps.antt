@@ -1,5 +1,5 @@
--- What each step of posting finds: the riders have room, the amounts are the party's charges, and the bicycles' covering areas are the
--- tariff's.
+-- What each step of posting finds: the riders have room, the amounts are the party's charges, the bicycles' covering areas are the
+-- tariff's, and their payments in range.
 -- Assumes nothing.
 use Prim.Native.Nat.{ℕ, zero, suc, _+_, _*_, _≤_, _<_}
 use native.Mathlib.Omega.{arith}
@@ -15,7 +15,7 @@ use Rattle.fare.specs.declared.Ride.{Ride}
 use Rattle.fare.specs.Prices.{mostPrice}
 use Rattle.book.specs.declared.Window.{Window}
 use Rattle.book.specs.declared.Riders.{Riders}
-use Rattle.book.specs.Words.{bookSize, word, tripsOf, firstChild, coverPlace}
+use Rattle.book.specs.Words.{bookSize, word, tripsOf, firstChild, coverPlace, paidPlace}
 use Rattle.book.specs.Posting.{addList, coverBicycles, opened, posted}
 use Rattle.book.specs.Contracts.{Room, Adding, addRiders, Covering, Postable}
 use Rattle.book.proofs.SoundLaws.{sound-has}
@@ -132,6 +132,7 @@ module _ {t : List ℕ} {counts : Counts} {b : List ℕ} {window : Window} {ride
               area = p .rideable .area;
               few = p .rideable .bicycles;
               covers = λ i h. rw (word₃ (coverPlace i) (omega arith)) (window-words .covers i (omega (arith, p .rideable .bicycles)));
+              payments = λ i h. rw (word₃ (paidPlace i) (omega arith)) (window-words .payments i (omega (arith, p .rideable .bicycles)));
             }
 
         -- After the last: the book is what the ride leaves.

@@ -21,11 +21,12 @@ use Rattle.tariff.proofs.Within.{parent-there}
 use Rattle.fare.specs.declared.Ride.{Ride}
 use Rattle.fare.specs.Prices.{mostPrice}
 use Rattle.book.specs.declared.Window.{Window}
-use Rattle.book.specs.Words.{bookSize, freshBook, word, putWord, tripsOf, pairPlace, secondSum, allSum, coverPlace, coverWord}
+use Rattle.book.specs.Words.{bookSize, freshBook, word, putWord, tripsOf, pairPlace, secondSum, allSum, coverPlace, coverWord, paidPlace, paidWord}
+use Rattle.book.specs.Sound.{mostPaid}
 use Rattle.book.specs.Windows.{inWindow}
 use Rattle.book.specs.Charging.{newCover}
 use Rattle.book.specs.Caps.{treeOf}
-use Rattle.book.specs.Posting.{addHere, addUp, addList, coverBicycles, opened}
+use Rattle.book.specs.Posting.{addHere, addUp, addList, paidWith, coverBicycles, opened}
 use Rattle.book.specs.Contracts.{FreshOrUsed, RoomHere, Room}
 use Rattle.book.proofs.WordLaws.{fresh-size, size-put, word-put-other}
 use Rattle.book.proofs.Trees.{is-tree}
@@ -214,33 +215,50 @@ riders-end {t} {counts} {b₀} {amounts = amounts} ride {first} {count} {from} {
     let e : i ≡ count = omega (arith, s .within) in
     s .done ride refl refl ∙ ap (λ (n : ℕ). addList t counts ride first n amounts from b₀) e
 
--- After the first i bicycles: their covering areas are written, and those to come are as they were.
+-- After the first i bicycles: their covering areas and payments are written, and those to come are as they were.
 pub record BicyclesCovered (t : List ℕ) (counts : Counts) (b₀ b : List ℕ) (count at i : ℕ) : Type 0 where
   pub size : length b ≡ bookSize
   pub within : i ≤ count
+  pub few : count ≤ 10
   pub covers : (k : ℕ) → i ≤ k → k < count → coverWord b k ≤ counts .areas
+  pub payments : (k : ℕ) → i ≤ k → k < count → paidWord b k ≤ mostPaid
   pub done : (ride : Ride) → ride .area ≡ at → b ≡ coverBicycles t counts ride i b₀
 
 pub bicycles-start :
-    {t : List ℕ} {counts : Counts} {b : List ℕ} {count at : ℕ} → length b ≡ bookSize → ((k : ℕ) → k < count → coverWord b k ≤ counts .areas)
+    {t : List ℕ} {counts : Counts} {b : List ℕ} {count at : ℕ} → length b ≡ bookSize → count ≤ 10
+    → ((k : ℕ) → k < count → coverWord b k ≤ counts .areas) → ((k : ℕ) → k < count → paidWord b k ≤ mostPaid)
     → BicyclesCovered t counts b b count at 0
 unfolding coverBicycles
-bicycles-start size covers =
-    record { size = size; within = omega arith; covers = λ k low high. covers k high; done = λ ride e. refl }
+bicycles-start size few covers payments =
+    record {
+      size = size;
+      within = omega arith;
+      few = few;
+      covers = λ k low high. covers k high;
+      payments = λ k low high. payments k high;
+      done = λ ride e. refl;
+    }
 
 pub bicycles-turn :
-    {t : List ℕ} {counts : Counts} {b₀ b b′ : List ℕ} {count at i place old new : ℕ} → BicyclesCovered t counts b₀ b count at i → i < count
-    → place ≡ coverPlace i → old ≡ word b place → new ≡ newCover t counts at old → b′ ≡ putWord b place (1 + new)
-    → BicyclesCovered t counts b₀ b′ count at (i + 1)
+    {t : List ℕ} {counts : Counts} {b₀ b b′ b″ : List ℕ} {count at i place old paying before new paid : ℕ} → BicyclesCovered t counts b₀ b count at i
+    → i < count → place ≡ coverPlace i → old ≡ word b place → paying ≡ paidPlace i → before ≡ word b paying → new ≡ newCover t counts at old
+    → paid ≡ paidWith t counts new before → b′ ≡ putWord b place (1 + new) → b″ ≡ putWord b′ paying paid
+    → BicyclesCovered t counts b₀ b″ count at (i + 1)
 unfolding coverBicycles
-bicycles-turn {b = b} {i = i} {place} {new = new} s more is read cover put =
+bicycles-turn {b = b} {b′ = b′} {b″ = b″} {count = count} {i = i} {place} {paying = paying} {new = new} {paid} s more is read is′ read′ cover pays put put′ =
     record {
-      size = ap length put ∙ size-put b place (1 + new) ∙ s .size;
+      size = ap length put′ ∙ size-put b′ paying paid ∙ ap length put ∙ size-put b place (1 + new) ∙ s .size;
       within = omega arith;
+      few = s .few;
       covers = λ k low high.
-          rw (put, word-put-other b place (coverPlace k) (1 + new) (λ e. omega arith)) (s .covers k (omega arith) high);
-      done = λ ride e. put ∙ rw (cover, read, is, add-one i, ← s .done ride e, e);
+          rw (other (coverPlace k) (λ e. omega (arith, s .few)) (λ e. omega (arith, s .few))) (s .covers k (omega arith) high);
+      payments = λ k low high.
+          rw (other (paidPlace k) (λ e. omega (arith, s .few)) (λ e. omega (arith, s .few))) (s .payments k (omega arith) high);
+      done = λ ride e. put′ ∙ rw (put, pays, cover, read, read′, is, is′, add-one i, ← s .done ride e, e);
     }
+  where
+    other : (j : ℕ) → (place ≡ j → ⊥) → (paying ≡ j → ⊥) → word b″ j ≡ word b j
+    other j ne ne′ = rw (put′, word-put-other b′ paying j paid ne′, put, word-put-other b place j (1 + new) ne)
 
 pub bicycles-end :
     {t : List ℕ} {counts : Counts} {b₀ b : List ℕ} (ride : Ride) {count i : ℕ} → BicyclesCovered t counts b₀ b count (ride .area) i → count ≤ i

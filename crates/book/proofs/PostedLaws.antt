@@ -1,5 +1,5 @@
 -- What a ride leaves in the book, word by word: the window's three words, the riders' sums with their charges, the bicycles' covering
--- areas, and every other word as it was.
+-- areas and payments, and every other word as it was.
 -- Assumes nothing.
 use Prim.Native.Nat.{ℕ, zero, suc, _+_, _-_, _*_, _^_, _≤_, _<_}
 use native.Mathlib.Nat.{add-zero, zero-add, mul-le-mul-right}
@@ -20,16 +20,17 @@ use Rattle.tariff.proofs.Faultless.{faultless}
 use Rattle.fare.specs.declared.Ride.{Ride}
 use Rattle.fare.specs.Prices.{mostPrice}
 use Rattle.book.specs.declared.Window.{Window}
-use Rattle.book.specs.Words.{bookSize, freshBook, word, putWord, tripsOf, openingOf, lastOutOf, pairPlace, secondSum, allSum, pairAt, firstChild, coverPlace, coverWord}
+use Rattle.book.specs.Words.{bookSize, freshBook, word, putWord, tripsOf, openingOf, lastOutOf, pairPlace, secondSum, allSum, pairAt, firstChild, coverPlace, coverWord, paidPlace, paidWord}
+use Rattle.book.specs.Sound.{mostPaid}
 use Rattle.book.specs.Windows.{inWindow}
 use Rattle.book.specs.Caps.{treeOf}
 use Rattle.book.specs.Charging.{isChild, carries, placeOf, riderCharge, chargesOf, newCover}
 use Rattle.book.specs.Contracts.{Rideable}
-use Rattle.book.specs.Posting.{addList, coverBicycles, opened, posted}
+use Rattle.book.specs.Posting.{addList, paidWith, coverBicycles, opened, posted}
 use Rattle.book.proofs.Trees.{is-tree}
 use Rattle.book.proofs.WordLaws.{word-put-same, word-put-other, size-put, word-fresh, fresh-size}
 use Rattle.book.proofs.SoundLaws.{PairSound, SoundBook, sound-has}
-use Rattle.book.proofs.ChargeLaws.{adult-stands, child-stands, charges-most, cover-there, cover-known}
+use Rattle.book.proofs.ChargeLaws.{adult-stands, child-stands, charges-most, cover-there, paid-with-most, cover-known, paid-known}
 use Rattle.book.proofs.SumLaws.{sumOf, counted, Fits, sum-by-words, list-size, list-other, list-riders, list-sum}
 
 -- ---- The bicycles.
@@ -39,17 +40,26 @@ module _ (tariff : List ℕ) (counts : Counts) (ride : Ride) where
   pub cover-size : (n : ℕ) (b : List ℕ) → length (coverBicycles tariff counts ride n b) ≡ length b
   unfolding coverBicycles
   cover-size zero b = refl
-  cover-size (suc n) b = size-put _ _ _ ∙ cover-size n b
+  cover-size (suc n) b = size-put _ _ _ ∙ size-put _ _ _ ∙ cover-size n b
 
   -- Every word but those bicycles' stays.
-  pub cover-other : (n : ℕ) (b : List ℕ) (j : ℕ) → (j < coverPlace 0) ⊎ (coverPlace n ≤ j) → word (coverBicycles tariff counts ride n b) j ≡ word b j
+  pub cover-other :
+      (n : ℕ) (b : List ℕ) (j : ℕ) → ((i : ℕ) → i < n → (coverPlace i ≡ j → ⊥) × (paidPlace i ≡ j → ⊥))
+      → word (coverBicycles tariff counts ride n b) j ≡ word b j
   unfolding coverBicycles
   cover-other zero b j out = refl
   cover-other (suc n) b j out =
-      word-put-other _ _ _ _ (λ e. ⊎-elim (λ h. omega arith) (λ h. omega arith) out)
-      ∙ cover-other n b j (⊎-elim inl (λ h. inr (omega arith)) out)
+      word-put-other _ _ _ _ (out n (omega arith) .1) ∙ word-put-other _ _ _ _ (out n (omega arith) .0)
+      ∙ cover-other n b j (λ i h. out i (omega arith))
 
 module _ {tariff : List ℕ} {counts : Counts} (t : FaultlessTariff tariff counts) (ride : Ride) (there : ride .area < counts .areas) where
+  -- the words of the next bicycle are as they were
+  cover-kept : (n : ℕ) (b : List ℕ) → suc n ≤ 10 → coverWord (coverBicycles tariff counts ride n b) n ≡ coverWord b n
+  cover-kept n b few = cover-other tariff counts ride n b (coverPlace n) (λ i h. (λ e. omega arith, λ e. omega arith))
+
+  paid-kept : (n : ℕ) (b : List ℕ) → suc n ≤ 10 → paidWord (coverBicycles tariff counts ride n b) n ≡ paidWord b n
+  paid-kept n b few = cover-other tariff counts ride n b (paidPlace n) (λ i h. (λ e. omega arith, λ e. omega arith))
+
   -- Each of the bicycles has its new covering area.
   pub cover-new :
       (n : ℕ) (b : List ℕ) → length b ≡ bookSize → n ≤ 10 → ((i : ℕ) → i < n → coverWord b i ≤ counts .areas) → (k : ℕ) → k < n
@@ -59,17 +69,42 @@ module _ {tariff : List ℕ} {counts : Counts} (t : FaultlessTariff tariff count
   cover-new (suc n) b size few covers k h =
       let before = coverBicycles tariff counts ride n b in
       let some = t .few-areas in
-      let kept : coverWord before n ≡ coverWord b n = cover-other tariff counts ride n b (coverPlace n) (inr (omega arith)) in
+      let kept : coverWord before n ≡ coverWord b n = cover-kept n b few in
       let one = cover-there t (ride .area) (coverWord before n) there (omega (arith, covers n (omega arith))) in
       elim (ℕ-discrete k n) [
         | yes is ↦
             rw is
-            (word-put-same before (coverPlace n) (1 + newCover tariff counts (ride .area) (coverWord before n)) (cover-size tariff counts ride n b ∙ size)
+            (word-put-other _ _ _ _ (λ e. omega arith)
+            ∙ word-put-same before (coverPlace n) (1 + newCover tariff counts (ride .area) (coverWord before n)) (cover-size tariff counts ride n b ∙ size)
             (omega arith) (omega arith)
             ∙ ap (λ (old : ℕ). 1 + newCover tariff counts (ride .area) old) kept)
         | no ne ↦
-            word-put-other _ _ _ _ (λ e. ne (omega arith))
+            word-put-other _ _ _ _ (λ e. omega arith) ∙ word-put-other _ _ _ _ (λ e. ne (omega arith))
             ∙ cover-new n b size (omega arith) (λ i hi. covers i (omega arith)) k (omega arith)
+      ]
+
+  -- Each of them has its payments with those of the ride.
+  pub paid-new :
+      (n : ℕ) (b : List ℕ) → length b ≡ bookSize → n ≤ 10 → ((i : ℕ) → i < n → coverWord b i ≤ counts .areas)
+      → ((i : ℕ) → i < n → paidWord b i ≤ mostPaid) → (k : ℕ) → k < n
+      → paidWord (coverBicycles tariff counts ride n b) k
+      ≡ paidWith tariff counts (newCover tariff counts (ride .area) (coverWord b k)) (paidWord b k)
+  unfolding coverBicycles
+  paid-new zero b size few covers paids k h = absurd (omega arith)
+  paid-new (suc n) b size few covers paids k h =
+      let before = coverBicycles tariff counts ride n b in
+      let new = newCover tariff counts (ride .area) (coverWord b n) in
+      let most =
+      paid-with-most t new (cover-there t (ride .area) (coverWord b n) there (covers n (omega arith))) (paidWord b n) (paids n (omega arith))
+      in
+      elim (ℕ-discrete k n) [
+        | yes is ↦
+            rw (is, cover-kept n b few, paid-kept n b few)
+            (word-put-same (putWord before (coverPlace n) (1 + new)) (paidPlace n) (paidWith tariff counts new (paidWord b n))
+            (size-put before (coverPlace n) (1 + new) ∙ cover-size tariff counts ride n b ∙ size) (omega arith) (omega arith))
+        | no ne ↦
+            word-put-other _ _ _ _ (λ e. ne (omega arith)) ∙ word-put-other _ _ _ _ (λ e. omega arith)
+            ∙ paid-new n b size (omega arith) (λ i hi. covers i (omega arith)) (λ i hi. paids i (omega arith)) k (omega arith)
       ]
 
 -- ---- The window's words.
@@ -132,18 +167,20 @@ pub record Counting (w : List ℕ) (areas before : ℕ) : Type 0 where
   pub few : before ≤ 255
   pub pairs : (rider area : ℕ) → rider < 21 → area < 32 → PairSound w (before * mostPrice) rider area
   pub covers : (k : ℕ) → k < 10 → coverWord w k ≤ areas
+  pub payments : (k : ℕ) → k < 10 → paidWord w k ≤ mostPaid
 
 -- The open window has the trips of a sound book, and the next window none.
 pub counting :
     (current : Bool) {book : List ℕ} {areas : ℕ} → SoundBook book areas → (current ≡ true → tripsOf book ≤ 255)
     → Counting (inWindow current book) areas (cond current (tripsOf book) 0)
-counting true s room = record { size = s .size; few = room refl; pairs = s .pairs; covers = s .covers }
+counting true s room = record { size = s .size; few = room refl; pairs = s .pairs; covers = s .covers; payments = s .payments }
 counting false {book} {areas} s room =
     record {
       size = fresh-size;
       few = omega arith;
       pairs = λ rider area hr ha. (none rider area, all rider area);
       covers = cover-known false s;
+      payments = paid-known false s;
     }
   where
     none : (rider area : ℕ) → secondSum freshBook rider area ≤ allSum freshBook rider area
@@ -317,7 +354,8 @@ module _ {tariff : List ℕ} {counts : Counts} {book : List ℕ} {ride : Ride} (
       (j : ℕ) → j < 3 → word (posted tariff counts book window checkout ride) j ≡ word (opened window checkout (wordsIn window book)) j
   head-word j h =
       rw posted-is
-      (cover-other tariff counts ride (ride .party .bicycles) (ridersIn tariff counts book window checkout ride) j (inl (omega arith))
+      (cover-other tariff counts ride (ride .party .bicycles) (ridersIn tariff counts book window checkout ride) j
+      (λ i hi. (λ e. omega arith, λ e. omega arith))
       ∙ riders-other j (inl h))
 
   -- Word 0 is the window's trips with this one, word 1 its opening, word 2 the check-out.
@@ -334,6 +372,17 @@ module _ {tariff : List ℕ} {counts : Counts} {book : List ℕ} {ride : Ride} (
   riders-cover k =
       riders-other (coverPlace k) (inr (omega arith)) ∙ opened-other window checkout (wordsIn window book) (coverPlace k) (omega arith)
 
+  riders-paid : (k : ℕ) → paidWord (ridersIn tariff counts book window checkout ride) k ≡ paidWord (wordsIn window book) k
+  riders-paid k =
+      riders-other (paidPlace k) (inr (omega arith)) ∙ opened-other window checkout (wordsIn window book) (paidPlace k) (omega arith)
+
+  -- the bicycles' words before they are covered are in their ranges
+  riders-covers : (i : ℕ) → i < ride .party .bicycles → coverWord (ridersIn tariff counts book window checkout ride) i ≤ counts .areas
+  riders-covers i h = rw (riders-cover i) (c .covers i (omega (arith, ok .bicycles)))
+
+  riders-payments : (i : ℕ) → i < ride .party .bicycles → paidWord (ridersIn tariff counts book window checkout ride) i ≤ mostPaid
+  riders-payments i h = rw (riders-paid i) (c .payments i (omega (arith, ok .bicycles)))
+
   -- Each bicycle carried has its new covering area, and the others keep theirs.
   pub posted-cover :
       (k : ℕ) → k < ride .party .bicycles
@@ -341,15 +390,35 @@ module _ {tariff : List ℕ} {counts : Counts} {book : List ℕ} {ride : Ride} (
   posted-cover k h =
       rw posted-is
       (cover-new t ride (ok .area) (ride .party .bicycles) (ridersIn tariff counts book window checkout ride) riders-size (ok .bicycles)
-      (λ i hi. rw (riders-cover i) (c .covers i (omega (arith, ok .bicycles)))) k h
+      riders-covers k h
       ∙ ap (λ (old : ℕ). 1 + newCover tariff counts (ride .area) old) (riders-cover k))
 
   pub posted-uncovered :
-      (k : ℕ) → ride .party .bicycles ≤ k → coverWord (posted tariff counts book window checkout ride) k ≡ coverWord (wordsIn window book) k
-  posted-uncovered k h =
+      (k : ℕ) → ride .party .bicycles ≤ k → k < 10 → coverWord (posted tariff counts book window checkout ride) k ≡ coverWord (wordsIn window book) k
+  posted-uncovered k h few =
       rw posted-is
-      (cover-other tariff counts ride (ride .party .bicycles) (ridersIn tariff counts book window checkout ride) (coverPlace k) (inr (omega arith))
+      (cover-other tariff counts ride (ride .party .bicycles) (ridersIn tariff counts book window checkout ride) (coverPlace k)
+      (λ i hi. (λ e. omega arith, λ e. omega arith))
       ∙ riders-cover k)
+
+  -- It has its payments with what it pays per trip, and the others keep theirs.
+  pub posted-paid :
+      (k : ℕ) → k < ride .party .bicycles
+      → paidWord (posted tariff counts book window checkout ride) k
+      ≡ paidWith tariff counts (newCover tariff counts (ride .area) (coverWord (wordsIn window book) k)) (paidWord (wordsIn window book) k)
+  posted-paid k h =
+      rw posted-is
+      (paid-new t ride (ok .area) (ride .party .bicycles) (ridersIn tariff counts book window checkout ride) riders-size (ok .bicycles)
+      riders-covers riders-payments k h
+      ∙ rw (riders-cover k, riders-paid k))
+
+  pub posted-unpaid :
+      (k : ℕ) → ride .party .bicycles ≤ k → paidWord (posted tariff counts book window checkout ride) k ≡ paidWord (wordsIn window book) k
+  posted-unpaid k h =
+      rw posted-is
+      (cover-other tariff counts ride (ride .party .bicycles) (ridersIn tariff counts book window checkout ride) (paidPlace k)
+      (λ i hi. (λ e. omega (arith, ok .bicycles), λ e. omega arith))
+      ∙ riders-paid k)
 
   -- So each bicycle's covering area is one of the tariff's.
   pub posted-covers : (k : ℕ) → k < 10 → coverWord (posted tariff counts book window checkout ride) k ≤ counts .areas
@@ -357,7 +426,17 @@ module _ {tariff : List ℕ} {counts : Counts} {book : List ℕ} {ride : Ride} (
       elim (decLt k (ride .party .bicycles)) [
         | yes on ↦
             omega (arith, posted-cover k on, cover-there t (ride .area) (coverWord (wordsIn window book) k) (ok .area) (c .covers k h))
-        | no off ↦ omega (arith, posted-uncovered k (omega arith), c .covers k h)
+        | no off ↦ omega (arith, posted-uncovered k (omega arith) h, c .covers k h)
+      ]
+
+  -- and each bicycle's payments are in their range
+  pub posted-payments : (k : ℕ) → k < 10 → paidWord (posted tariff counts book window checkout ride) k ≤ mostPaid
+  posted-payments k h =
+      elim (decLt k (ride .party .bicycles)) [
+        | yes on ↦
+            rw (posted-paid k on)
+            (paid-with-most t _ (cover-there t (ride .area) (coverWord (wordsIn window book) k) (ok .area) (c .covers k h)) _ (c .payments k h))
+        | no off ↦ omega (arith, posted-unpaid k (omega arith), c .payments k h)
       ]
 
   -- the bicycles change no sum
@@ -367,7 +446,8 @@ module _ {tariff : List ℕ} {counts : Counts} {book : List ℕ} {ride : Ride} (
   posted-riders which rider x hr hx =
       rw posted-is
       (sum-by-words which _ _ rider x
-      (λ j low high. cover-other tariff counts ride (ride .party .bicycles) (ridersIn tariff counts book window checkout ride) j (inl (omega arith))) hx)
+      (λ j low high. cover-other tariff counts ride (ride .party .bicycles) (ridersIn tariff counts book window checkout ride) j
+      (λ i hi. (λ e. omega arith, λ e. omega arith))) hx)
 
   -- the children's charges change no other rider's
   riders-adults :

@@ -1,5 +1,6 @@
 -- A sound book with room for the trip is sound again after the ride, under the same tariff: the window takes its trip, every sum grows by
--- one charge of at most 3,790,000, second class never more than all classes, and each covering area is one of the tariff's.
+-- one charge of at most 3,790,000, second class never more than all classes, each covering area is one of the tariff's, and
+-- a bicycle's payments pass no cap that they have not passed.
 -- Assumes nothing.
 use Prim.Native.Nat.{ℕ, _+_, _*_, _≤_, _<_}
 use native.Mathlib.Nat.{eq-zero-or-pos, le-refl}
@@ -25,7 +26,7 @@ use Rattle.book.specs.Caps.{treeOf}
 use Rattle.book.specs.Contracts.{Rideable}
 use Rattle.book.specs.Posting.{posted}
 use Rattle.book.proofs.SoundLaws.{HeadRight, PairSound, SoundBook, head-back, sound-has, sound-back}
-use Rattle.book.proofs.PostedLaws.{counting, chargesIn, ownCharge, posted-size, posted-trips, posted-opening, posted-out, posted-covers, posted-sum, own-range}
+use Rattle.book.proofs.PostedLaws.{counting, chargesIn, ownCharge, posted-size, posted-trips, posted-opening, posted-out, posted-covers, posted-payments, posted-sum, own-range}
 
 -- what the window of a trip has: the trips of the words that count, and with one more a head, whose opening that is right for the check-out
 pub record WindowRight (book : List ℕ) (window : Window) (checkout : ℕ) : Type 0 where
@@ -126,6 +127,7 @@ module _ {tariff : List ℕ} {counts : Counts} {book : List ℕ} {ride : Ride} (
       sound-back (posted tariff counts book window checkout ride) (counts .areas) (posted-size ok window checkout room)
       (rw (trips, opening, out) (head-back _ _ _ head))
       (λ rider area hr ha. rw trips (posted-pair rider area hr ha)) (posted-covers ok window checkout room)
+      (posted-payments ok window checkout room)
 
 -- A sound book with room for the trip is sound again after the ride, under the same tariff.
 pub sound-again :

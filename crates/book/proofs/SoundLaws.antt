@@ -17,8 +17,8 @@ use Rattle.wire.proofs.Each.{each-more, each-at, each-all}
 use Rattle.wire.proofs.Tests.{both-left, both-right, told}
 use Rattle.calendar.specs.Stamps.{lastMinute}
 use Rattle.fare.specs.Prices.{mostPrice}
-use Rattle.book.specs.Words.{bookSize, bookWords, freshBook, word, tripsOf, openingOf, lastOutOf, pairPlace, pairs, pairAt, secondSum, allSum, coverPlace, coverWord}
-use Rattle.book.specs.Sound.{allZero, headSound, pairsSound, coversSound, sound}
+use Rattle.book.specs.Words.{bookSize, bookWords, freshBook, word, tripsOf, openingOf, lastOutOf, pairPlace, pairs, pairAt, secondSum, allSum, coverPlace, coverWord, paidPlace, paidWord}
+use Rattle.book.specs.Sound.{allZero, headSound, pairsSound, coversSound, mostPaid, paymentsSound, sound}
 use Rattle.book.proofs.WordLaws.{word-fresh, fresh-size, zeros-fresh}
 
 -- a window in use: its trips, its opening and its last check-out
@@ -38,6 +38,7 @@ pub record SoundBook (b : List ℕ) (areas : ℕ) : Type 0 where
   pub trips : tripsOf b ≤ 256
   pub pairs : (rider area : ℕ) → rider < 21 → area < 32 → PairSound b (tripsOf b * mostPrice) rider area
   pub covers : (k : ℕ) → k < 10 → coverWord b k ≤ areas
+  pub payments : (k : ℕ) → k < 10 → paidWord b k ≤ mostPaid
   pub opened : 0 < tripsOf b → HeadRight (tripsOf b) (openingOf b) (lastOutOf b)
   pub fresh : tripsOf b ≡ 0 → (i : ℕ) → i < bookWords → word b i ≡ 0
 
@@ -73,7 +74,7 @@ or-zero a b =
           rw (ne-eqb a 0 some, ne-eqb (bitOr a b) 0 (λ none. some (omega (arith, or-add-and a b, and-le-r a b))))
     ]
 
--- the tests at one word, at one pair, and at one bicycle
+-- the tests at one word, at one pair, and at one bicycle's covering area and payments
 abbrev pub zeroRight : List ℕ → ℕ → Bool
 zeroRight b i = eqb (word b i) 0
 
@@ -82,6 +83,9 @@ pairRight b most i = leb (word b (pairAt i)) (word b (pairAt i + 1)) && leb (wor
 
 abbrev pub coverRight : List ℕ → ℕ → ℕ → Bool
 coverRight b areas k = leb (coverWord b k) areas
+
+abbrev pub paidRight : List ℕ → ℕ → Bool
+paidRight b k = leb (paidWord b k) mostPaid
 
 -- a rider's pair in an area is number 32 × rider + area of the 672
 pair-at : (b : List ℕ) (most rider area : ℕ) → pairRight b most (32 * rider + area) ≡ true → PairSound b most rider area
@@ -124,6 +128,14 @@ pub covers-back : (b : List ℕ) (areas : ℕ) → ((k : ℕ) → k < 10 → cov
 unfolding coversSound
 covers-back b areas right = each-all 10 (coverRight b areas) (λ k h. le-leb _ _ (right k h))
 
+pub payments-have : (b : List ℕ) → paymentsSound b ≡ true → (k : ℕ) → k < 10 → paidWord b k ≤ mostPaid
+unfolding paymentsSound
+payments-have b e k h = leb-true _ _ (each-at 10 (paidRight b) e k h)
+
+pub payments-back : (b : List ℕ) → ((k : ℕ) → k < 10 → paidWord b k ≤ mostPaid) → paymentsSound b ≡ true
+unfolding paymentsSound
+payments-back b right = each-all 10 (paidRight b) (λ k h. le-leb _ _ (right k h))
+
 zeros-have : (b : List ℕ) → allZero b ≡ true → (i : ℕ) → i < bookWords → word b i ≡ 0
 unfolding allZero
 zeros-have b e i h = eqb-true _ _ (each-at bookWords (zeroRight b) e i h)
@@ -146,7 +158,7 @@ pub record InUse (b : List ℕ) (t opening out : ℕ) : Type 0 where
   pub last : out ≡ lastOutOf b
 
 pub told-used : (b : List ℕ) (areas : ℕ) {t opening out : ℕ} → InUse b t opening out
-    → sound b areas ≡ headSound t opening out && (pairsSound b (t * mostPrice) && coversSound b areas)
+    → sound b areas ≡ headSound t opening out && (pairsSound b (t * mostPrice) && (coversSound b areas && paymentsSound b))
 unfolding sound
 told-used b areas u =
     rw (u .trips, u .opened, u .last, eq-eqb (length b) bookSize (u .size), ne-eqb (tripsOf b) 0 (λ none. u .some (u .trips ∙ none)))
@@ -156,7 +168,7 @@ pub told-wrong : (b : List ℕ) (areas : ℕ) {t opening out : ℕ} → InUse b 
 told-wrong b areas u head = told-used b areas u ∙ rw head
 
 pub told-right : (b : List ℕ) (areas : ℕ) {t opening out : ℕ} → InUse b t opening out → HeadRight t opening out
-    → sound b areas ≡ pairsSound b (t * mostPrice) && coversSound b areas
+    → sound b areas ≡ pairsSound b (t * mostPrice) && (coversSound b areas && paymentsSound b)
 told-right b areas u head = told-used b areas u ∙ rw (head-back _ _ _ head)
 
 sized : (b : List ℕ) (areas : ℕ) → sound b areas ≡ true → length b ≡ bookSize
@@ -179,6 +191,7 @@ sound-has b areas e =
                   omega (arith, zeros (pairPlace r a + 1) (omega arith)),
                 );
             covers = λ k h. omega (arith, zeros (coverPlace k) (omega arith));
+            payments = λ k h. omega (arith, zeros (paidPlace k) (omega arith));
             opened = λ some. absurd (omega arith);
             fresh = λ _. zeros;
           }
@@ -188,11 +201,13 @@ sound-has b areas e =
           in
           let head = head-has _ _ _ (both-left (headSound (tripsOf b) (openingOf b) (lastOutOf b)) _ all) in
           let rest = both-right (headSound (tripsOf b) (openingOf b) (lastOutOf b)) _ all in
+          let bicycles = both-right (pairsSound b (tripsOf b * mostPrice)) _ rest in
           record {
             size = size;
             trips = head .few;
             pairs = pairs-have b (tripsOf b * mostPrice) (both-left _ _ rest);
-            covers = covers-have b areas (both-right (pairsSound b (tripsOf b * mostPrice)) _ rest);
+            covers = covers-have b areas (both-left _ _ bicycles);
+            payments = payments-have b (both-right (coversSound b areas) _ bicycles);
             opened = λ _. head;
             fresh = λ none. absurd (some none);
           }
@@ -216,11 +231,12 @@ pub sound-back : (b : List ℕ) (areas : ℕ) → length b ≡ bookSize
     → headSound (tripsOf b) (openingOf b) (lastOutOf b) ≡ true
     → ((rider area : ℕ) → rider < 21 → area < 32 → PairSound b (tripsOf b * mostPrice) rider area)
     → ((k : ℕ) → k < 10 → coverWord b k ≤ areas)
+    → ((k : ℕ) → k < 10 → paidWord b k ≤ mostPaid)
     → sound b areas ≡ true
-sound-back b areas size head pairs covers =
+sound-back b areas size head pairs covers payments =
     let right = head-has (tripsOf b) (openingOf b) (lastOutOf b) head in
     told-right b areas (record { size = size; some = λ none. omega arith; trips = refl; opened = refl; last = refl }) right
-    ∙ rw (pairs-back b (tripsOf b * mostPrice) pairs, covers-back b areas covers)
+    ∙ rw (pairs-back b (tripsOf b * mostPrice) pairs, covers-back b areas covers, payments-back b payments)
 
 -- A fresh book is sound under every tariff.
 pub fresh-sound : (areas : ℕ) → sound freshBook areas ≡ true

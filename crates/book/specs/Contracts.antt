@@ -9,6 +9,7 @@ use Rattle.units.specs.Day.{dayMinutes}
 use Rattle.caps.specs.declared.Rest.{Rest}
 use Rattle.caps.specs.Contracts.{restHere, uncappedAt, nameOf as finalName}
 use Rattle.tariff.specs.declared.Counts.{Counts}
+use Rattle.tariff.specs.Rules.{mostMoney}
 use Rattle.tariff.specs.Areas.{Read, areaAt, parentOf, liesWithin}
 use Rattle.fare.specs.declared.Ride.{Ride}
 use Rattle.fare.specs.Distance.{mostKm}
@@ -20,13 +21,13 @@ use Rattle.book.specs.declared.Earlier.the-variants.{Nothing, Part}
 use Rattle.book.specs.declared.Cut.{Cut}
 use Rattle.book.specs.declared.limits.Link.{Link}
 use Rattle.book.specs.declared.limits.Chain.{Chain}
-use Rattle.book.specs.Words.{bookSize, freshBook, word, tripsOf, secondSum, allSum, coverWord}
-use Rattle.book.specs.Sound.{sound}
+use Rattle.book.specs.Words.{bookSize, freshBook, word, tripsOf, secondSum, allSum, coverWord, paidWord}
+use Rattle.book.specs.Sound.{sound, mostPaid}
 use Rattle.book.specs.Windows.{inWindow}
 use Rattle.book.specs.Caps.{capsHere}
-use Rattle.book.specs.Charging.{carries, placeOf, riderCharges, newCover, bicycleCharge, bicycleCharges, chargesOf}
+use Rattle.book.specs.Charging.{carries, placeOf, riderCharges, newCover, payment, bicycleCharge, bicycleCharges, chargesOf}
 use Rattle.book.specs.Cuts.{riderCuts, cutsOf}
-use Rattle.book.specs.Posting.{addList}
+use Rattle.book.specs.Posting.{addList, paidWith}
 
 -- a word of the book
 pub record Word (book : List ℕ) (place r : ℕ) : Type 0 where
@@ -89,9 +90,11 @@ pendingIn tariff counts Nothing area = false
 pendingIn tariff counts (Part before) area = liesWithin tariff counts (before .area) area
 
 -- an area of a chain, with its caps
+abbrev pub linkWith : List ℕ → Counts → ℕ → Bool → Bool → Link
+linkWith tariff counts area child pending = record { area = area; caps = capsHere (areaAt tariff counts area) child; pending = pending }
+
 abbrev pub linkOf : List ℕ → Counts → ℕ → Bool → Earlier → Link
-linkOf tariff counts area child earlier =
-    record { area = area; caps = capsHere (areaAt tariff counts area) child; pending = pendingIn tariff counts earlier area }
+linkOf tariff counts area child earlier = linkWith tariff counts area child (pendingIn tariff counts earlier area)
 
 -- an area, the one above it and the one above that; the state is its own parent
 abbrev pub chainOf : List ℕ → Counts → ℕ → Bool → Earlier → Chain
@@ -210,13 +213,30 @@ pub record CoverAfter (tariff : List ℕ) (counts : Counts) (earlier : Earlier) 
   pub value : r ≡ coverAfter tariff counts earlier old
   pub known : r ≤ counts .areas
 
+-- its payments after an earlier part, by its words before
+unfoldable pub paidAfter : List ℕ → Counts → Earlier → ℕ → ℕ → ℕ
+paidAfter tariff counts Nothing old paid = paid
+paidAfter tariff counts (Part before) old paid = paidWith tariff counts (newCover tariff counts (before .area) old) paid
+
+pub record PaidAfter (tariff : List ℕ) (counts : Counts) (earlier : Earlier) (old paid r : ℕ) : Type 0 where
+  pub value : r ≡ paidAfter tariff counts earlier old paid
+  pub range : r ≤ mostPaid
+
 pub record NewCover (tariff : List ℕ) (counts : Counts) (area old r : ℕ) : Type 0 where
   pub value : r ≡ newCover tariff counts area old
   pub there : r < counts .areas
 
-pub record BicycleCharge (tariff : List ℕ) (counts : Counts) (area old r : ℕ) : Type 0 where
-  pub value : r ≡ bicycleCharge tariff counts area old
-  pub range : r ≤ 60000
+pub record Payment (tariff : List ℕ) (counts : Counts) (cover paid r : ℕ) : Type 0 where
+  pub value : r ≡ payment tariff counts cover paid
+  pub range : r ≤ mostMoney
+
+pub record PaidWith (tariff : List ℕ) (counts : Counts) (cover paid r : ℕ) : Type 0 where
+  pub value : r ≡ paidWith tariff counts cover paid
+  pub range : r ≤ mostPaid
+
+pub record BicycleCharge (tariff : List ℕ) (counts : Counts) (area old paid r : ℕ) : Type 0 where
+  pub value : r ≡ bicycleCharge tariff counts area old paid
+  pub range : r ≤ mostMoney
 
 -- ---- Posting.
 
@@ -262,13 +282,14 @@ pub record Adding (tariff : List ℕ) (counts : Counts) (book : List ℕ) (ride 
 abbrev pub addRiders : List ℕ → Counts → Ride → Riders → List ℕ → List ℕ → List ℕ
 addRiders tariff counts ride riders amounts book = addList tariff counts ride (riders .first) (riders .count) amounts (riders .from) book
 
--- what covering bicycles asks: their old covering areas are the tariff's
+-- what covering bicycles asks: their old covering areas are the tariff's, and their payments in range
 pub record Covering (tariff : List ℕ) (counts : Counts) (book : List ℕ) (ride : Ride) (count : ℕ) : Type 0 where
   pub size : length book ≡ bookSize
   pub read : Read tariff counts
   pub area : ride .area < counts .areas
   pub few : count ≤ 10
   pub covers : (i : ℕ) → i < count → coverWord book i ≤ counts .areas
+  pub payments : (i : ℕ) → i < count → paidWord book i ≤ mostPaid
 
 -- what posting asks: a ride that the book has room for, in its window, with the charges that it comes to
 pub record Postable (tariff : List ℕ) (counts : Counts) (book : List ℕ) (window : Window) (ride : Ride) (amounts : List ℕ) : Type 0 where

@@ -6,14 +6,15 @@ use lib.ListN.{getD}
 use lib.Dec.{eqb}
 use Rattle.caps.specs.Tree.{climb}
 use Rattle.tariff.specs.declared.Counts.{Counts}
+use Rattle.tariff.specs.Areas.{isAachen}
 use Rattle.fare.specs.declared.Ride.{Ride}
 use Rattle.book.specs.declared.Window.{Window}
 use Rattle.book.specs.declared.Earlier.{Earlier}
 use Rattle.book.specs.declared.Earlier.the-variants.{Nothing, Part}
-use Rattle.book.specs.Words.{putWord, pairPlace, secondSum, allSum, firstChild, coverPlace, coverWord}
+use Rattle.book.specs.Words.{putWord, pairPlace, secondSum, allSum, firstChild, coverPlace, coverWord, paidPlace, paidWord}
 use Rattle.book.specs.Windows.{inWindow}
 use Rattle.book.specs.Caps.{treeOf}
-use Rattle.book.specs.Charging.{chargesOf, newCover}
+use Rattle.book.specs.Charging.{chargesOf, newCover, payment}
 
 -- the charge added to a rider's sums in one area: to all classes always, to second class only in class 2
 unfoldable pub addHere : List ℕ → ℕ → ℕ → ℕ → ℕ → List ℕ
@@ -33,18 +34,23 @@ addList tariff counts ride first (suc count) charges from book =
     addUp tariff counts (addList tariff counts ride first count charges from book) (first + count)
     (ride .class) (ride .area) (getD charges (from + count) 0)
 
--- the new covering areas of the first `count` bicycles
+-- a bicycle's payments after a ride, by its covering area then: in kind 8 what it pays for the ride is added
+unfoldable pub paidWith : List ℕ → Counts → ℕ → ℕ → ℕ
+paidWith tariff counts cover paid = cond (isAachen tariff counts cover) (paid + payment tariff counts cover paid) paid
+
+-- the new covering areas of the first `count` bicycles, and their payments
 unfoldable pub coverBicycles : List ℕ → Counts → Ride → ℕ → List ℕ → List ℕ
 coverBicycles tariff counts ride zero book = book
 coverBicycles tariff counts ride (suc count) book =
     let before = coverBicycles tariff counts ride count book in
-    putWord before (coverPlace count) (1 + newCover tariff counts (ride .area) (coverWord before count))
+    let new = newCover tariff counts (ride .area) (coverWord before count) in
+    putWord (putWord before (coverPlace count) (1 + new)) (paidPlace count) (paidWith tariff counts new (paidWord before count))
 
 -- the trips in the window with this one, its opening, and the last check-out
 unfoldable pub opened : Window → ℕ → List ℕ → List ℕ
 opened window checkout book = putWord (putWord (putWord book 0 (window .trips + 1)) 1 (window .opening .0)) 2 checkout
 
--- the riders' sums with their charges, and the bicycles' covering areas
+-- the riders' sums with their charges, and the bicycles' covering areas and payments
 abbrev pub withCharges : List ℕ → Counts → Ride → List ℕ → List ℕ → List ℕ
 withCharges tariff counts ride charges w =
     let adults = 1 + ride .party .adults in

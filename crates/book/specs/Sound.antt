@@ -8,7 +8,7 @@ use Rattle.units.specs.Day.{dayMinutes}
 use Rattle.wire.specs.Each.{each}
 use Rattle.calendar.specs.Stamps.{lastMinute}
 use Rattle.fare.specs.Prices.{mostPrice}
-use Rattle.book.specs.Words.{bookSize, bookWords, word, pairs, pairAt, tripsOf, openingOf, lastOutOf, coverWord}
+use Rattle.book.specs.Words.{bookSize, bookWords, word, pairs, pairAt, tripsOf, openingOf, lastOutOf, coverWord, paidWord}
 
 -- word 0 is 0 and all others are 0
 unfoldable pub allZero : List ℕ → Bool
@@ -27,10 +27,17 @@ pairsSound book most = each pairs (λ i. leb (word book (pairAt i)) (word book (
 unfoldable pub coversSound : List ℕ → ℕ → Bool
 coversSound book areas = each 10 (λ i. leb (coverWord book i) areas)
 
+-- each bicycle's payments are at most 15,360,000: 256 trips at the most that a price per trip is
+abbrev pub mostPaid : ℕ
+mostPaid = 15360000
+
+unfoldable pub paymentsSound : List ℕ → Bool
+paymentsSound book = each 10 (λ i. leb (paidWord book i) mostPaid)
+
 -- the book has its length, and either word 0 is 0 and all others are 0, or it is in use: all sums ≤ word 0 × the most that a price is
 unfoldable pub sound : List ℕ → ℕ → Bool
 sound book areas =
     eqb (length book) bookSize
     && cond (eqb (tripsOf book) 0) (allZero book)
     (headSound (tripsOf book) (openingOf book) (lastOutOf book)
-    && (pairsSound book (tripsOf book * mostPrice) && coversSound book areas))
+    && (pairsSound book (tripsOf book * mostPrice) && (coversSound book areas && paymentsSound book)))

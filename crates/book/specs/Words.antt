@@ -1,14 +1,14 @@
--- Rules, section 12: 5,428 bytes, 1,357 little-endian words of 4 bytes.
+-- Rules, section 12: 5,468 bytes, 1,367 little-endian words of 4 bytes.
 use Prim.Native.Nat.{ℕ, _+_, _*_}
 use mathlib.Core.List.{List}
 use lib.ListN.{replicate}
 use Rattle.wire.specs.Number.{getLe, putLe}
 
 abbrev pub bookSize : ℕ
-bookSize = 5428
+bookSize = 5468
 
 abbrev pub bookWords : ℕ
-bookWords = 1357
+bookWords = 1367
 
 -- a fresh book is all zero
 abbrev pub freshBook : List ℕ
@@ -58,3 +58,10 @@ coverPlace bicycle = 1347 + bicycle
 
 abbrev pub coverWord : List ℕ → ℕ → ℕ
 coverWord book bicycle = word book (coverPlace bicycle)
+
+-- words 1,357..1,366: for each bicycle its payments per trip in the window
+abbrev pub paidPlace : ℕ → ℕ
+paidPlace bicycle = 1357 + bicycle
+
+abbrev pub paidWord : List ℕ → ℕ → ℕ
+paidWord book bicycle = word book (paidPlace bicycle)

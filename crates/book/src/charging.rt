@@ -12,6 +12,7 @@ use crate::words::FIRST_CHILD;
 use crate::words::cover;
 use crate::words::get;
 use crate::words::pair;
+use crate::words::payments;
 use caps::Rest;
 use caps::capped_here;
 use caps::name_of;
@@ -20,18 +21,22 @@ use fare::Ride;
 use fare::prices::price;
 use tariff::Counts;
 use tariff::areas::area;
+use tariff::areas::bicycle_price;
 use tariff::areas::flat;
+use tariff::areas::is_aachen;
 use tariff::areas::smallest_containing;
 use units::Cents;
 ghost use mathlib.Core.Path.{_≡_};
 ghost use mathlib.Core.Bool.{true};
 ghost use Prim.Native.Nat.{_+_, _≤_, _<_};
 ghost use lib.ListN.{length};
-ghost use Rattle.tariff.specs.Areas.{Read};
+ghost use Rattle.tariff.specs.Areas.{Read, isAachen};
 ghost use Rattle.book.specs.Words.{bookSize, bookWords};
+ghost use Rattle.book.specs.Sound.{mostPaid};
 ghost use Rattle.book.specs.Windows.{inWindow};
+ghost use Rattle.book.specs.Charging.{flatBefore};
 ghost use Rattle.book.specs.Posting.{wordsAfter};
-ghost use Rattle.book.specs.Contracts.{Word, lackingAt, FitsAt, FitsAlong, restAtLink, ChargeBy, cutBy, nameOf, Ridden, Paid, Chargeable, RidersCharged, withBicycles, AllCharged, AllCut, EarlierThere, CoverAfter, NewCover, BicycleCharge};
+ghost use Rattle.book.specs.Contracts.{Word, lackingAt, FitsAt, FitsAlong, restAtLink, ChargeBy, cutBy, nameOf, Ridden, Paid, Chargeable, RidersCharged, withBicycles, AllCharged, AllCut, EarlierThere, CoverAfter, PaidAfter, NewCover, Payment, PaidWith, BicycleCharge};
 
 // A word of the book, which is 0 in a new window.
 fn get_in(book: &[u8], current: bool, place: usize) -> u32
@@ -167,19 +172,69 @@ pub fn new_cover(tariff: &[u8], counts: Counts, at: usize, old: usize) -> usize
     }
 }
 
-// A bicycle's charge: the new covering area's flat less the old one's.
-pub fn charge_bicycle(tariff: &[u8], counts: Counts, at: usize, old: usize) -> Charge
-    requires { ⌜ Read (now tariff) counts × ((at < counts .areas) × (old ≤ counts .areas)) ⌝ }
-    ensures { λ r. ⌜ BicycleCharge (now (tariff .entry)) counts at old (r .amount .0) ⌝ }
+// What a bicycle pays for a ride where its covering area is of kind 8: the smaller of the area's price per trip and what its cap has left.
+fn payment(tariff: &[u8], counts: Counts, cover: usize, paid: u32) -> Cents
+    requires { ⌜ Read (now tariff) counts × ((cover < counts .areas) × (isAachen (now tariff) counts cover ≡ true)) ⌝ }
+    ensures { λ r. ⌜ Payment (now (tariff .entry)) counts cover paid (r .0) ⌝ }
 {
-    let new = flat(tariff, counts, new_cover(tariff, counts, at, old));
+    let price = bicycle_price(tariff, counts, cover);
+    let cap = flat(tariff, counts, cover);
+    if cap.0 <= paid {
+        Cents(0)
+    } else if price.0 <= cap.0 - paid {
+        price
+    } else {
+        Cents(cap.0 - paid)
+    }
+}
+
+// A bicycle's payments after a ride, by its covering area then: in kind 8 what it pays is added.
+pub fn paid_with(tariff: &[u8], counts: Counts, cover: usize, paid: u32) -> u32
+    requires { ⌜ Read (now tariff) counts × ((cover < counts .areas) × (paid ≤ mostPaid)) ⌝ }
+    ensures { λ r. ⌜ PaidWith (now (tariff .entry)) counts cover paid r ⌝ }
+{
+    let tariff = &*tariff;
+    if is_aachen(tariff, counts, cover) {
+        let more = payment(tariff, counts, cover, paid);
+        paid + more.0
+    } else {
+        paid
+    }
+}
+
+// An old covering area's flat: none if the bicycle is unused, or the area of kind 8.
+fn flat_before(tariff: &[u8], counts: Counts, old: usize) -> Cents
+    requires { ⌜ Read (now tariff) counts × (old ≤ counts .areas) ⌝ }
+    ensures { λ r. ⌜ r .0 ≡ flatBefore (now (tariff .entry)) counts old ⌝ }
+{
     if 0 < old {
-        let paid = flat(tariff, counts, old - 1);
-        Charge {
-            amount: Cents(new.0 - paid.0),
+        if is_aachen(tariff, counts, old - 1) {
+            Cents(0)
+        } else {
+            flat(tariff, counts, old - 1)
         }
     } else {
-        Charge { amount: new }
+        Cents(0)
+    }
+}
+
+// A bicycle's charge by its new covering area: in kind 8 the payment per trip, else the area's flat less the old one's.
+pub fn charge_bicycle(tariff: &[u8], counts: Counts, at: usize, old: usize, paid: u32) -> Charge
+    requires { ⌜ Read (now tariff) counts × ((at < counts .areas) × (old ≤ counts .areas)) ⌝ }
+    ensures { λ r. ⌜ BicycleCharge (now (tariff .entry)) counts at old paid (r .amount .0) ⌝ }
+{
+    let new = new_cover(tariff, counts, at, old);
+    if is_aachen(tariff, counts, new) {
+        Charge {
+            amount: payment(tariff, counts, new, paid),
+        }
+    } else {
+        let whole = flat(tariff, counts, new);
+        let before = flat_before(tariff, counts, old);
+        let credit = before.0;
+        Charge {
+            amount: Cents(whole.0 - credit),
+        }
     }
 }
 
@@ -191,6 +246,20 @@ fn cover_after(tariff: &[u8], counts: Counts, earlier: Earlier, old: usize) -> u
     match earlier {
         Earlier::Nothing => old,
         Earlier::Part(before) => 1 + new_cover(tariff, counts, before.area, old),
+    }
+}
+
+// Its payments after an earlier part, by its words in the book.
+fn paid_after(tariff: &[u8], counts: Counts, earlier: Earlier, old: usize, paid: u32) -> u32
+    requires { ⌜ Read (now tariff) counts × (EarlierThere counts earlier × ((old ≤ counts .areas) × (paid ≤ mostPaid))) ⌝ }
+    ensures { λ r. ⌜ PaidAfter (now (tariff .entry)) counts earlier old paid r ⌝ }
+{
+    match earlier {
+        Earlier::Nothing => paid,
+        Earlier::Part(before) => {
+            let new = new_cover(tariff, counts, before.area, old);
+            paid_with(tariff, counts, new, paid)
+        }
     }
 }
 
@@ -213,8 +282,10 @@ fn charge_bicycles(
     let count = party.bicycles as usize;
     for i in 0..count {
         let found = get_in(book, current, cover(i)) as usize;
+        let before = get_in(book, current, payments(i));
         let old = cover_after(tariff, counts, earlier, found);
-        let one = charge_bicycle(tariff, counts, at, old);
+        let paid = paid_after(tariff, counts, earlier, found, before);
+        let one = charge_bicycle(tariff, counts, at, old, paid);
         let amount = one.amount;
         amounts[from + i] = amount.0;
     }

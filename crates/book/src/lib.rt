@@ -1,4 +1,4 @@
-// The book: a lent slice of 5,428 bytes, read and written in place.
+// The book: a lent slice of 5,468 bytes, read and written in place.
 //
 // words.rt     where each word stands, once
 // sound.rt     whether a byte string is a sound book

@@ -1,19 +1,18 @@
 // An area's caps for a rider, and the chain of areas whose caps a ride has.
 use crate::Earlier;
 use caps::Caps;
-use tariff::Area;
 use tariff::Counts;
-use tariff::areas::area;
 use tariff::areas::lies_within;
+use tariff::areas::limits;
 use tariff::areas::parent;
 use units::Cap;
 use units::raised;
 use units::reduced;
 ghost use mathlib.Core.Path.{_≡_};
 ghost use Prim.Native.Nat.{_<_};
-ghost use Rattle.tariff.specs.Areas.{AreaRanges, Read};
+ghost use Rattle.tariff.specs.Areas.{Read, areaAt};
 ghost use Rattle.book.specs.Caps.{capsHere};
-ghost use Rattle.book.specs.Contracts.{EarlierThere, pendingIn, linkOf, ChainOf};
+ghost use Rattle.book.specs.Contracts.{EarlierThere, pendingIn, linkWith, ChainOf};
 
 // An area of a chain, with its caps, and whether its sums lack the charges of an earlier part of the trip.
 pub struct Link {
@@ -30,22 +29,24 @@ pub struct Chain {
     pub top: Link,
 }
 
-pub fn caps_of(area: Area, child: bool) -> Caps
-    requires { ⌜ AreaRanges area ⌝ }
-    ensures { λ r. ⌜ r ≡ capsHere area child ⌝ }
+// An area's caps for an adult or a child. Of the area's record only what they are made of is read.
+pub fn caps_at(tariff: &[u8], counts: Counts, at: usize, child: bool) -> Caps
+    requires { ⌜ Read (now tariff) counts × (at < counts .areas) ⌝ }
+    ensures { λ r. ⌜ r ≡ capsHere (areaAt (now (tariff .entry)) counts at) child ⌝ }
 {
-    let daily = area.day_cap;
+    let of = limits(tariff, counts, at);
+    let daily = of.day_cap;
     match daily {
         Cap::NoCap => Caps {
             second: Cap::NoCap,
             all: Cap::NoCap,
         },
         Cap::UpTo(day) => {
-            let dear = raised(day, area.surcharge);
+            let dear = raised(day, of.surcharge);
             if child {
                 Caps {
-                    second: Cap::UpTo(reduced(day, area.reduction)),
-                    all: Cap::UpTo(reduced(dear, area.reduction)),
+                    second: Cap::UpTo(reduced(day, of.reduction)),
+                    all: Cap::UpTo(reduced(dear, of.reduction)),
                 }
             } else {
                 Caps {
@@ -68,14 +69,14 @@ fn pending_in(tariff: &[u8], counts: Counts, earlier: Earlier, at: usize) -> boo
     }
 }
 
-fn link_of(tariff: &[u8], counts: Counts, at: usize, child: bool, earlier: Earlier) -> Link
-    requires { ⌜ Read (now tariff) counts × ((at < counts .areas) × EarlierThere counts earlier) ⌝ }
-    ensures { λ r. ⌜ r ≡ linkOf (now (tariff .entry)) counts at child earlier ⌝ }
+fn link_of(tariff: &[u8], counts: Counts, at: usize, child: bool, pending: bool) -> Link
+    requires { ⌜ Read (now tariff) counts × (at < counts .areas) ⌝ }
+    ensures { λ r. ⌜ r ≡ linkWith (now (tariff .entry)) counts at child pending ⌝ }
 {
     Link {
         area: at,
-        caps: caps_of(area(tariff, counts, at), child),
-        pending: pending_in(tariff, counts, earlier, at),
+        caps: caps_at(tariff, counts, at, child),
+        pending,
     }
 }
 
@@ -86,9 +87,13 @@ pub fn chain_of(tariff: &[u8], counts: Counts, at: usize, child: bool, earlier: 
 {
     let above = parent(tariff, counts, at);
     let top = parent(tariff, counts, above);
+    // Of an earlier part no more is needed below here than what is pending.
+    let low = pending_in(tariff, counts, earlier, at);
+    let middle = pending_in(tariff, counts, earlier, above);
+    let high = pending_in(tariff, counts, earlier, top);
     Chain {
-        own: link_of(tariff, counts, at, child, earlier),
-        above: link_of(tariff, counts, above, child, earlier),
-        top: link_of(tariff, counts, top, child, earlier),
+        own: link_of(tariff, counts, at, child, low),
+        above: link_of(tariff, counts, above, child, middle),
+        top: link_of(tariff, counts, top, child, high),
     }
 }

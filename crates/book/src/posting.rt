@@ -1,7 +1,8 @@
-// The window opened, the charges added to the sums, the bicycles' covering areas: all that is ever written to a book.
+// The window opened, the charges added to the sums, the bicycles' covering areas and payments: all that is ever written to a book.
 use crate::Riders;
 use crate::Window;
 use crate::charging::new_cover;
+use crate::charging::paid_with;
 use crate::words::FIRST_CHILD;
 use crate::words::LAST_OUT;
 use crate::words::OPENING;
@@ -10,6 +11,7 @@ use crate::words::TRIPS;
 use crate::words::cover;
 use crate::words::get;
 use crate::words::pair;
+use crate::words::payments;
 use crate::words::put;
 use fare::Ride;
 use tariff::Counts;
@@ -111,7 +113,7 @@ fn add_riders(
     }
 }
 
-// The new covering areas of the first `count` bicycles.
+// The new covering areas of the first `count` bicycles, and their payments.
 fn cover_bicycles(tariff: &[u8], counts: Counts, book: &mut [u8], ride: Ride, count: usize)
     requires { ⌜ Covering (now tariff) counts (now book) ride count ⌝ }
     ensures { λ _. ⌜ now (book .exit) ≡ coverBicycles (now (tariff .entry)) counts ride count (now (book .entry)) ⌝ }
@@ -120,8 +122,12 @@ fn cover_bicycles(tariff: &[u8], counts: Counts, book: &mut [u8], ride: Ride, co
     for i in 0..count {
         let place = cover(i);
         let old = get(book, place) as usize;
+        let paying = payments(i);
+        let before = get(book, paying);
         let new = new_cover(tariff, counts, at, old);
+        let paid = paid_with(tariff, counts, new, before);
         put(book, place, 1 + new as u32);
+        put(book, paying, paid);
     }
 }
 

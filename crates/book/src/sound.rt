@@ -9,13 +9,17 @@ use crate::words::WORDS;
 use crate::words::cover;
 use crate::words::get;
 use crate::words::pair_at;
+use crate::words::payments;
 use calendar::Stamp;
 use fare::prices::MOST_PRICE;
 use units::DAY;
 ghost use mathlib.Core.Path.{_≡_};
 ghost use lib.ListN.{length};
 ghost use Rattle.book.specs.Words.{bookSize};
-ghost use Rattle.book.specs.Sound.{allZero, pairsSound, coversSound, headSound, sound};
+ghost use Rattle.book.specs.Sound.{allZero, pairsSound, coversSound, paymentsSound, headSound, sound};
+
+// The most that a bicycle's payments in a window are.
+const MOST_PAID: u32 = 15_360_000;
 
 // No word has a bit set: one look at them all together, at the end.
 fn all_zero(book: &[u8]) -> bool
@@ -55,6 +59,17 @@ fn covers_sound(book: &[u8], areas: usize) -> bool
     right
 }
 
+fn payments_sound(book: &[u8]) -> bool
+    requires { ⌜ length (now book) ≡ bookSize ⌝ }
+    ensures { λ r. ⌜ r ≡ paymentsSound (now (book .entry)) ⌝ }
+{
+    let mut right = true;
+    for i in 0..10usize {
+        right = right & (get(book, payments(i)) <= MOST_PAID);
+    }
+    right
+}
+
 // The trips in the window, its opening and the last check-out.
 fn head_sound(trips: u32, opening: u32, last: u32) -> bool
     ensures { λ r. ⌜ r ≡ headSound trips opening last ⌝ }
@@ -79,5 +94,5 @@ pub fn is_sound(book: &[u8], areas: usize) -> bool
     if !head_sound(trips, get(book, OPENING), get(book, LAST_OUT)) {
         return false;
     }
-    pairs_sound(book, trips * MOST_PRICE) & covers_sound(book, areas)
+    pairs_sound(book, trips * MOST_PRICE) & (covers_sound(book, areas) & payments_sound(book))
 }

@@ -4,12 +4,12 @@ use wire::put_four;
 ghost use mathlib.Core.Path.{_≡_};
 ghost use Prim.Native.Nat.{_<_};
 ghost use lib.ListN.{length};
-ghost use Rattle.book.specs.Words.{bookSize, bookWords, putWord, pairPlace, pairs, pairAt, coverPlace};
+ghost use Rattle.book.specs.Words.{bookSize, bookWords, putWord, pairPlace, pairs, pairAt, coverPlace, paidPlace};
 ghost use Rattle.book.specs.Contracts.{Word};
 
-pub const SIZE: usize = 5_428;
+pub const SIZE: usize = 5_468;
 
-pub const WORDS: usize = 1_357;
+pub const WORDS: usize = 1_367;
 
 pub const TRIPS: usize = 0;
 
@@ -44,6 +44,14 @@ pub fn cover(bicycle: usize) -> usize
     ensures { λ r. ⌜ (r ≡ coverPlace bicycle) × (r < bookWords) ⌝ }
 {
     1_347 + bicycle
+}
+
+// A bicycle's payments per trip in the window.
+pub fn payments(bicycle: usize) -> usize
+    requires { ⌜ bicycle < 10 ⌝ }
+    ensures { λ r. ⌜ (r ≡ paidPlace bicycle) × (r < bookWords) ⌝ }
+{
+    1_357 + bicycle
 }
 
 pub fn get(book: &[u8], place: usize) -> u32

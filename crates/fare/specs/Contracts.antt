@@ -1,5 +1,5 @@
 -- What serves contracts alone: what finding a ride and its price asks, and each answer with its range.
-use Prim.Native.Nat.{ℕ, _+_, _*_, _≤_, _<_}
+use Prim.Native.Nat.{ℕ, _+_, _-_, _*_, _≤_, _<_}
 use mathlib.Core.Path.{_≡_}
 use mathlib.Core.List.{List, [], _∷_}
 use mathlib.Core.Bool.{Bool, true}
@@ -17,9 +17,10 @@ use Rattle.fare.specs.declared.Ride.{Ride}
 use Rattle.fare.specs.declared.Breaking.{Breaking}
 use Rattle.fare.specs.declared.Breaking.the-variants.{At}
 use Rattle.fare.specs.Distance.{square, apart, mostKm}
-use Rattle.fare.specs.Rides.{stopOf, durationOf, rideOf}
+use Rattle.fare.specs.Rides.{stopOf, areaOfStops, durationOf, rideOf}
 use Rattle.fare.specs.Parts.{breakOf}
-use Rattle.fare.specs.Prices.{mostFar, mostPrice, step1, step2, step3, priceOf}
+use Rattle.fare.specs.Prices.{inMarkedTown}
+use Rattle.fare.specs.Towns.{townRefuses}
 
 -- a trip's bytes with n stops, each of which the faultless tariff has
 pub record Riding (tariff : List ℕ) (counts : Counts) (trip : List ℕ) (n : ℕ) : Type 0 where
@@ -76,17 +77,10 @@ pub record OfTrip (trip : Trip) (ride : Ride) : Type 0 where
   pub level : ride .level ≡ trip .level
   pub party : ride .party ≡ trip .party
 
-pub record Step1 (area : Area) (minutes km r : ℕ) : Type 0 where
-  pub value : r ≡ step1 area minutes km
-  pub range : r ≤ mostFar
-
-pub record Step2 (area : Area) (minutes level amount r : ℕ) : Type 0 where
-  pub value : r ≡ step2 area minutes level amount
-  pub range : r ≤ amount
-
-pub record Step3 (area : Area) (class amount r : ℕ) : Type 0 where
-  pub value : r ≡ step3 area class amount
-  pub range : r ≤ 2 * amount
+-- an amount by its definition, and no more than so much
+pub record Amount (most expected r : ℕ) : Type 0 where
+  pub value : r ≡ expected
+  pub range : r ≤ most
 
 -- an area of a faultless tariff, and a ride of at most a day across the plane
 pub record Priceable (area : Area) (ride : Ride) : Type 0 where
@@ -94,6 +88,10 @@ pub record Priceable (area : Area) (ride : Ride) : Type 0 where
   pub minutes : ride .minutes .0 ≤ dayMinutes
   pub km : ride .km .0 ≤ mostKm
 
-pub record Price (area : Area) (ride : Ride) (child : Bool) (r : ℕ) : Type 0 where
-  pub value : r ≡ priceOf area ride child
-  pub range : r ≤ mostPrice
+-- the area of a trip's stops `first` to `last` is a marked town
+abbrev pub betweenInTown : List ℕ → Counts → List ℕ → ℕ → ℕ → Bool
+betweenInTown tariff counts bytes first last = inMarkedTown tariff counts (areaOfStops tariff counts bytes first (last - first))
+
+-- whether first class is refused in a town; it goes by the stops and the class of the trip, whatever its stamps are
+pub record TownRefuses (tariff : List ℕ) (counts : Counts) (bytes : List ℕ) (stops class : ℕ) (r : Bool) : Type 0 where
+  pub value : (trip : Trip) → trip .stops ≡ stops → trip .class ≡ class → r ≡ townRefuses tariff counts bytes trip

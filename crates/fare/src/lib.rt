@@ -2,7 +2,8 @@
 //
 // rides.rt    the smallest area that contains some stops of a trip, the started kilometres between two, the ride from one to another
 // parts.rt    where a trip that comes back is broken, and the rides that its two parts are
-// prices.rt   the four steps of the price, in their order
+// prices.rt   the price by the area's kind: the four steps in their order, or the adult's and the child's of kind 8
+// towns.rt    whether first class is refused in a marked town
 use trip::Party;
 use units::Km;
 use units::Minutes;
@@ -10,6 +11,7 @@ use units::Minutes;
 pub mod parts;
 pub mod prices;
 pub mod rides;
+pub mod towns;
 
 // What is priced: in which area, how far, how long, in which class, with which ticket level, and for whom.
 pub struct Ride {

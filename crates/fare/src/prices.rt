@@ -1,7 +1,12 @@
-// The price of a ride: four steps, each in its own units. All prices use the ride's own area.
+// The price of a ride, each step in its own units. All prices use the ride's own area, and its kind decides between two ways: the four steps
+// of kind 1, and those of kind 8, where adults and children part.
 use crate::Ride;
 use tariff::Area;
+use tariff::Counts;
+use tariff::Kind;
+use tariff::Town;
 use tariff::TripCap;
+use tariff::areas::town;
 use tariff::levels::LevelCap;
 use tariff::levels::level_cap;
 use units::Cap;
@@ -13,25 +18,61 @@ use units::raised;
 use units::reduced;
 use units::started_periods;
 ghost use mathlib.Core.Path.{_≡_};
-ghost use Prim.Native.Nat.{_≤_};
+ghost use Prim.Native.Nat.{_*_, _≤_, _<_};
 ghost use Rattle.units.specs.Day.{dayMinutes};
-ghost use Rattle.tariff.specs.Areas.{AreaRanges};
+ghost use Rattle.tariff.specs.Areas.{Read, AreaRanges};
 ghost use Rattle.fare.specs.Distance.{mostKm};
-ghost use Rattle.fare.specs.Prices.{mostFar, tripCap};
-ghost use Rattle.fare.specs.Contracts.{Step1, Step2, Step3, Price, Priceable};
+ghost use Rattle.fare.specs.Prices.{
+  mostBasePart,
+  mostKmPart,
+  mostFar,
+  mostPrice,
+  basePart,
+  kmPart,
+  step1,
+  step2,
+  step3,
+  tripCap,
+  commonPrice,
+  isMarked,
+  inMarkedTown,
+  townStep1,
+  ticketIn,
+  raisedOrCompared,
+  aachenAdult,
+  aachenChild,
+  priceOf,
+};
+ghost use Rattle.fare.specs.Contracts.{Amount, Priceable};
 
 // No price is above this.
 pub const MOST_PRICE: u32 = 3_790_000;
 
 // 1. Base price × periods + km price × km.
-fn distance_price(area: Area, minutes: Minutes, km: Km) -> Cents
-    requires { ⌜ AreaRanges area × ((minutes .0 ≤ dayMinutes) × (km .0 ≤ mostKm)) ⌝ }
-    ensures { λ r. ⌜ Step1 area (minutes .0) (km .0) (r .0) ⌝ }
+fn base_part(area: Area, minutes: Minutes) -> Cents
+    requires { ⌜ AreaRanges area × (minutes .0 ≤ dayMinutes) ⌝ }
+    ensures { λ r. ⌜ Amount mostBasePart (basePart area (minutes .0)) (r .0) ⌝ }
 {
     let base = area.base_price;
-    let rate = area.price_per_km;
     let validity = area.validity;
-    Cents(base.0 * started_periods(minutes, validity) + rate.0 * km.0)
+    Cents(base.0 * started_periods(minutes, validity))
+}
+
+fn km_part(area: Area, km: Km) -> Cents
+    requires { ⌜ AreaRanges area × (km .0 ≤ mostKm) ⌝ }
+    ensures { λ r. ⌜ Amount mostKmPart (kmPart area (km .0)) (r .0) ⌝ }
+{
+    let rate = area.price_per_km;
+    Cents(rate.0 * km.0)
+}
+
+fn distance_price(area: Area, minutes: Minutes, km: Km) -> Cents
+    requires { ⌜ AreaRanges area × ((minutes .0 ≤ dayMinutes) × (km .0 ≤ mostKm)) ⌝ }
+    ensures { λ r. ⌜ Amount mostFar (step1 area (minutes .0) (km .0)) (r .0) ⌝ }
+{
+    let base = base_part(area, minutes);
+    let far = km_part(area, km);
+    Cents(base.0 + far.0)
 }
 
 // The trip cap of a ride, where it has one: flat up to its minutes, or by ticket level. No ride has a level that is refused here: its trip
@@ -58,7 +99,7 @@ fn trip_cap(sort: TripCap, minutes: Minutes, level: u8) -> Cap
 
 // 2. The smaller of step 1 and the trip cap.
 fn trip_capped(area: Area, amount: Cents, minutes: Minutes, level: u8) -> Cents
-    ensures { λ r. ⌜ Step2 area (minutes .0) level (amount .0) (r .0) ⌝ }
+    ensures { λ r. ⌜ Amount (amount .0) (step2 area (minutes .0) level (amount .0)) (r .0) ⌝ }
 {
     let sort = area.trip_cap;
     capped(amount, trip_cap(sort, minutes, level))
@@ -67,7 +108,7 @@ fn trip_capped(area: Area, amount: Cents, minutes: Minutes, level: u8) -> Cents
 // 3. First class: raised by the surcharge. Second class: unchanged.
 fn in_class(area: Area, amount: Cents, class: u8) -> Cents
     requires { ⌜ AreaRanges area × (amount .0 ≤ mostFar) ⌝ }
-    ensures { λ r. ⌜ Step3 area class (amount .0) (r .0) ⌝ }
+    ensures { λ r. ⌜ Amount (2 * amount .0) (step3 area class (amount .0)) (r .0) ⌝ }
 {
     if class == 1 {
         raised(amount, area.surcharge)
@@ -76,10 +117,10 @@ fn in_class(area: Area, amount: Cents, class: u8) -> Cents
     }
 }
 
-// The price of a ride for an adult, or for a child: 4. reduced by the child's percentage.
-pub fn price(area: Area, ride: Ride, child: bool) -> Cents
+// The price in an area of kind 1, for an adult, or for a child: 4. reduced by the child's percentage.
+fn common_price(area: Area, ride: Ride, child: bool) -> Cents
     requires { ⌜ Priceable area ride ⌝ }
-    ensures { λ r. ⌜ Price area ride child (r .0) ⌝ }
+    ensures { λ r. ⌜ Amount mostPrice (commonPrice area ride child) (r .0) ⌝ }
 {
     let minutes = ride.minutes;
     let km = ride.km;
@@ -90,5 +131,103 @@ pub fn price(area: Area, ride: Ride, child: bool) -> Cents
         reduced(adult, area.reduction)
     } else {
         adult
+    }
+}
+
+fn marked(town: Town) -> bool
+    ensures { λ r. ⌜ r ≡ isMarked town ⌝ }
+{
+    match town {
+        Town::Unmarked => false,
+        Town::BaseDropped => true,
+        Town::KmDropped => true,
+    }
+}
+
+// Whether an area is a marked town.
+pub fn in_marked_town(tariff: &[u8], counts: Counts, area: usize) -> bool
+    requires { ⌜ Read (now tariff) counts × (area < counts .areas) ⌝ }
+    ensures { λ r. ⌜ r ≡ inMarkedTown (now (tariff .entry)) counts area ⌝ }
+{
+    marked(town(tariff, counts, area))
+}
+
+// Kind 8: step 1, without what the town drops.
+fn town_price(area: Area, town: Town, ride: Ride) -> Cents
+    requires { ⌜ Priceable area ride ⌝ }
+    ensures { λ r. ⌜ Amount mostFar (townStep1 area town ride) (r .0) ⌝ }
+{
+    let minutes = ride.minutes;
+    let km = ride.km;
+    match town {
+        Town::Unmarked => distance_price(area, minutes, km),
+        Town::BaseDropped => km_part(area, km),
+        Town::KmDropped => base_part(area, minutes),
+    }
+}
+
+// The trip cap or child ticket of a ride in an area of kind 8: none in a marked town.
+fn ticket_in(town: Town, sort: TripCap, ride: Ride) -> Cap
+    ensures { λ r. ⌜ r ≡ ticketIn town sort ride ⌝ }
+{
+    if marked(town) {
+        return Cap::NoCap;
+    }
+    let minutes = ride.minutes;
+    trip_cap(sort, minutes, ride.level)
+}
+
+// Kind 8: first class raised by the surcharge and not compared; second class compared with the ticket.
+fn raised_or_compared(area: Area, amount: Cents, ticket: Cap, class: u8) -> Cents
+    requires { ⌜ AreaRanges area × (amount .0 ≤ mostFar) ⌝ }
+    ensures { λ r. ⌜ Amount mostPrice (raisedOrCompared area class ticket (amount .0)) (r .0) ⌝ }
+{
+    if class == 1 {
+        raised(amount, area.surcharge)
+    } else {
+        capped(amount, ticket)
+    }
+}
+
+// The price for an adult in an area of kind 8.
+fn aachen_adult(area: Area, town: Town, ride: Ride) -> Cents
+    requires { ⌜ Priceable area ride ⌝ }
+    ensures { λ r. ⌜ Amount mostPrice (aachenAdult area town ride) (r .0) ⌝ }
+{
+    let sort = area.trip_cap;
+    let far = town_price(area, town, ride);
+    let most = ticket_in(town, sort, ride);
+    raised_or_compared(area, far, most, ride.class)
+}
+
+// The price for a child there: reduced before the class and the child ticket.
+fn aachen_child(area: Area, sort: TripCap, town: Town, ride: Ride) -> Cents
+    requires { ⌜ Priceable area ride ⌝ }
+    ensures { λ r. ⌜ Amount mostPrice (aachenChild area sort town ride) (r .0) ⌝ }
+{
+    let less = reduced(town_price(area, town, ride), area.reduction);
+    let ticket = ticket_in(town, sort, ride);
+    raised_or_compared(area, less, ticket, ride.class)
+}
+
+// The price of a ride for an adult or a child, by the kind of its area.
+pub fn price(area: Area, ride: Ride, child: bool) -> Cents
+    requires { ⌜ Priceable area ride ⌝ }
+    ensures { λ r. ⌜ Amount mostPrice (priceOf area ride child) (r .0) ⌝ }
+{
+    let kind = area.kind;
+    match kind {
+        Kind::Common => common_price(area, ride, child),
+        Kind::Aachen {
+            child_ticket,
+            bicycle_price,
+            town,
+        } => {
+            if child {
+                aachen_child(area, child_ticket, town, ride)
+            } else {
+                aachen_adult(area, town, ride)
+            }
+        }
     }
 }

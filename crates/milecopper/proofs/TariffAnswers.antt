@@ -31,7 +31,7 @@ module _ (tariff : List ℕ) (number at : ℕ) (fault : readTariff tariff ≡ Fa
 module _ (tariff : List ℕ) (counts : Counts) (read : Read tariff counts) where
   pub length-fits : length tariff < 2 ^ 32
   length-fits =
-      let all = faultless tariff counts read in omega (arith, all .size, all .few-areas, all .few-factors, all .few-stops)
+      let all = faultless tariff counts read in omega (arith, all .size, all .few-areas, all .few-long, all .few-factors, all .few-stops)
 
   pub faultless-answer : tariffAnswer tariff ≡ encodedAs (Written (length tariff))
   unfolding tariffAnswer

@@ -68,7 +68,7 @@ touches counts ride =
     record {
       adults = λ i h a ha. (omega arith, omega arith);
       children = λ i h a ha. (omega arith, omega arith);
-      bicycles = λ i h. omega arith;
+      bicycles = λ i h. (omega arith, omega arith);
     }
 
 -- the window's words put in both, with the same trips
@@ -90,7 +90,7 @@ pub fresh-same : SameWords freshBook freshBook
 fresh-same = same-self freshBook
 
 module _ {tariff : List ℕ} {counts : Counts} (t : FaultlessTariff tariff counts) (ride : Ride) (there : ride .area < counts .areas) where
-  -- A ride's charges go by the sums and covering areas alone.
+  -- A ride's charges go by the sums, covering areas and payments alone.
   pub charges-same : (w w′ : List ℕ) → SameWords w w′ → chargesOf tariff counts w′ ride ≡ chargesOf tariff counts w ride
   charges-same = charges-by-words words-alike t ride there (touches counts ride)
 

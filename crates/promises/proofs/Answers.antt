@@ -35,7 +35,7 @@ use Rattle.fare.proofs.GoodTrips.{riding}
 use Rattle.book.specs.declared.Window.{Window}
 use Rattle.book.specs.declared.Cut.{Cut}
 use Rattle.book.specs.Windows.{inWindow}
-use Rattle.book.specs.Words.{secondSum, allSum, coverWord}
+use Rattle.book.specs.Words.{secondSum, allSum, coverWord, paidWord}
 use Rattle.book.specs.Caps.{treeOf}
 use Rattle.book.specs.Charging.{isChild, carries, placeOf, chargesOf}
 use Rattle.book.specs.Cuts.{cutsOf}
@@ -247,15 +247,15 @@ module _ {tariff : List ℕ} {counts : Counts} {book : List ℕ} {ride : Ride} (
 
     bicycle-pays :
         (i : ℕ) → i < ride .party .bicycles
-        → BicycleSays tariff counts (ride .area) (coverWord w i)
+        → BicycleSays tariff counts (ride .area) (coverWord w i) (paidWord w i)
         (chargeIn statement place (1 + ride .party .adults + ride .party .children + i))
     bicycle-pays i h =
         let behind = 1 + ride .party .adults + ride .party .children + i in
         let there : behind < length (chargesOf tariff counts w ride) = omega (arith, charges-length tariff counts w ride) in
         let sound-words = sound-has book (counts .areas) (ok .sound-book) in
-        subst (BicycleSays tariff counts (ride .area) (coverWord w i))
+        subst (BicycleSays tariff counts (ride .area) (coverWord w i) (paidWord w i))
         (sym (charge-stands behind there ∙ bicycle-stands tariff counts w ride i h))
-        (bicycle-says (faultless tariff counts (ok .read)) (ride .area) (coverWord w i) (ok .area)
+        (bicycle-says (faultless tariff counts (ok .read)) (ride .area) (coverWord w i) (paidWord w i) (ok .area)
         (cover-known (window .current) sound-words i (omega (arith, ok .bicycles))))
 
 -- the smallest area containing the stops of a trip from one to another
@@ -465,7 +465,7 @@ module _ (tariff book bytes : List ℕ) (room : ℕ) where
           (refused-way tariff book bytes room counts read
           (refused-first tariff counts book bytes room (first-exactly tariff counts book bytes room why .1 first)))
 
-  -- A refusal's number is 1 to the table's last; its place is at most 14,120, the length of the longest tariff, and 0 for 4 to 12.
+  -- A refusal's number is 1 to the table's last; its place is at most 14,523, the length of the longest tariff, and 0 for 4 to 12.
   pub refused-number :
       {n place : ℕ} → settled tariff book bytes room ≡ refused n place → (1 ≤ n) × (n ≤ lastRefusal) × (place ≤ longestTariff) × (4 ≤ n → place ≡ 0)
   refused-number {n} {place} e = met (refused-is e)

@@ -15,7 +15,7 @@ use Rattle.wire.specs.Number.{Bytes}
 use Rattle.wire.proofs.Tests.{both-left, both-right}
 use Rattle.caps.specs.Tree.{within}
 use Rattle.tariff.specs.declared.Counts.{Counts}
-use Rattle.tariff.specs.Areas.{liesWithin, FaultlessTariff}
+use Rattle.tariff.specs.Areas.{liesWithin, isAachen, FaultlessTariff}
 use Rattle.tariff.proofs.Faultless.{faultless}
 use Rattle.trip.specs.Record.{countAt}
 use Rattle.trip.specs.Moments.{checkoutOf}
@@ -26,25 +26,25 @@ use Rattle.fare.specs.Contracts as each
 use Rattle.fare.proofs.Breaks.{said-broken}
 use Rattle.fare.proofs.GoodTrips.{riding}
 use Rattle.book.specs.declared.Window.{Window}
-use Rattle.book.specs.Words.{word, tripsOf, openingOf, lastOutOf, secondSum, allSum, coverWord}
+use Rattle.book.specs.Words.{word, tripsOf, openingOf, lastOutOf, secondSum, allSum, coverWord, paidWord}
 use Rattle.book.specs.Windows.{inWindow}
 use Rattle.book.specs.Caps.{treeOf}
-use Rattle.book.specs.Charging.{carries, newCover, chargesOf}
+use Rattle.book.specs.Charging.{carries, newCover, payment, bicycleCharge, chargesOf}
 use Rattle.book.specs.Contracts.{Rideable}
-use Rattle.book.specs.Posting.{posted}
-use Rattle.book.specs.InWords.{ChargeSays}
+use Rattle.book.specs.Posting.{paidWith, posted}
+use Rattle.book.specs.InWords.{ChargeSays, CoverSays, BicycleSays}
 use Rattle.book.proofs.Trees.{lies-within}
 use Rattle.book.proofs.SoundLaws.{sound-has}
-use Rattle.book.proofs.ChargeLaws.{cover-known}
-use Rattle.book.proofs.PostedLaws.{posted-size, posted-trips, posted-opening, posted-out, posted-sum, posted-cover, posted-uncovered, rider-stands}
+use Rattle.book.proofs.ChargeLaws.{bicycle-stands, cover-known}
+use Rattle.book.proofs.PostedLaws.{posted-size, posted-trips, posted-opening, posted-out, posted-sum, posted-cover, posted-uncovered, posted-paid, posted-unpaid, rider-stands}
 use Rattle.book.proofs.SoundAgain.{WindowRight, window-room, posted-sound}
-use Rattle.book.proofs.InWords.{charge-says, charge-one, cover-says, cover-one}
+use Rattle.book.proofs.InWords.{charge-says, charge-one, per-trip-one, cover-says, cover-one, bicycle-says}
 use Rattle.book.proofs.BookWords.{each-word, words-same, window-bytes, posted-bytes}
 use Rattle.book.proofs.GoodRides.{good-first}
 use Rattle.statement.specs.Record.{Part}
 use Rattle.settle.specs.Outcome.{partOf, oneMore, partsOf, postedAll}
 use Rattle.promises.specs.Conditions.{tripRides, tripWindow, AcceptedBy, minutesOf, rideOn, wordsBefore, wordsBetween}
-use Rattle.promises.specs.Books.{CountsIn, Takes, chargeOf, BookSays, BooksSay, none, more}
+use Rattle.promises.specs.Books.{CountsIn, Takes, chargeOf, bicycleChargeOf, BookSays, BooksSay, none, more}
 use Rattle.promises.proofs.RideLaws.{right-again, on-another}
 use Rattle.promises.proofs.Answers.{clear, charged-rides, right-window, some-parts}
 
@@ -100,6 +100,21 @@ module _ {tariff : List ℕ} {counts : Counts} {book : List ℕ} {ride : Ride} (
         record { on-trip = v; inside = inside area ∙ both-right (eqb (ride .class) 2) (inTree area) s },
       ))
 
+  -- a bicycle's payments grow by its charge where its new covering area is of kind 8
+  payments-take :
+      (area old paid : ℕ) {charge paid′ : ℕ} → charge ≡ bicycleCharge tariff counts area old paid
+      → paid′ ≡ paidWith tariff counts (newCover tariff counts area old) paid
+      → Takes (isAachen tariff counts (newCover tariff counts area old) ≡ true) charge paid paid′
+  unfolding bicycleCharge paidWith
+  payments-take area old paid is leaves = rw (is, leaves) (go (isAachen tariff counts (newCover tariff counts area old)) refl)
+    where
+      go :
+          (aachen : Bool) → isAachen tariff counts (newCover tariff counts area old) ≡ aachen
+          → Takes (isAachen tariff counts (newCover tariff counts area old) ≡ true) (bicycleCharge tariff counts area old paid) paid
+          (paidWith tariff counts (newCover tariff counts area old) paid)
+      go true e = record { grows = λ _. rw e; stays = λ out. absurd (out e) }
+      go false e = record { grows = λ aachen. absurd (false≢true (sym e ∙ aachen)); stays = λ _. rw e }
+
   -- What a ride leaves in the book is what the words say.
   pub ride-says : BookSays tariff counts w window checkout ride charges new
   ride-says =
@@ -114,14 +129,21 @@ module _ {tariff : List ℕ} {counts : Counts} {book : List ℕ} {ride : Ride} (
         last-out = posted-out ok window checkout room (omega arith);
         charged = λ rider on.
             subst (ChargeSays tariff counts w ride rider) (sym (rider-stands tariff counts w ride rider on)) (charge-says t w ride (ok .area) rider);
+        bicycles-charged = λ k h.
+            subst (BicycleSays tariff counts (ride .area) (coverWord w k) (paidWord w k)) (sym (bicycle-stands tariff counts w ride k h))
+            (bicycle-says t (ride .area) (coverWord w k) (paidWord w k) (ok .area) (known k (omega (arith, ok .bicycles))));
         all-classes = all-takes;
         second-class = second-takes;
-        covered = λ k h. (
-          newCover tariff counts (ride .area) (coverWord w k),
-          posted-cover ok window checkout room k h,
-          cover-says t (ride .area) (coverWord w k) (ok .area) (known k (omega (arith, ok .bicycles))),
-        );
-        uncovered = λ k h few. posted-uncovered ok window checkout room k h;
+        covered = λ k h.
+            record {
+              new = newCover tariff counts (ride .area) (coverWord w k);
+              cover-is = posted-cover ok window checkout room k h;
+              covers = cover-says t (ride .area) (coverWord w k) (ok .area) (known k (omega (arith, ok .bicycles)));
+              payments =
+                  payments-take (ride .area) (coverWord w k) (paidWord w k) (bicycle-stands tariff counts w ride k h)
+                  (posted-paid ok window checkout room k h);
+            };
+        uncovered = λ k h few. (posted-uncovered ok window checkout room k h few, posted-unpaid ok window checkout room k h);
       }
 
 -- ---- The rides of a trip.
@@ -208,6 +230,25 @@ second-or-not tariff counts ride rider area =
       | no other ↦ no (λ c. other (c .0))
     ]
 
+aachen-or-not : (tariff : List ℕ) (counts : Counts) (area : ℕ) → Dec (isAachen tariff counts area ≡ true)
+aachen-or-not tariff counts area = go (isAachen tariff counts area)
+  where
+    go : (aachen : Bool) → Dec (aachen ≡ true)
+    go true = yes refl
+    go false = no false≢true
+
+-- two charges that say what a bicycle pays per trip are the same
+paid-one :
+    {tariff : List ℕ} {counts : Counts} {area old paid charge charge′ new : ℕ} → FaultlessTariff tariff counts
+    → BicycleSays tariff counts area old paid charge → BicycleSays tariff counts area old paid charge′ → CoverSays tariff counts area old new
+    → isAachen tariff counts new ≡ true → charge ≡ charge′
+paid-one {tariff} {counts} {area} {old} {paid} {new = cover} right s s′ covers aachen = is s ∙ sym (is s′)
+  where
+    is : {c : ℕ} → BicycleSays tariff counts area old paid c → c ≡ payment tariff counts cover paid
+    is b =
+        let same = cover-one right (b .covers) covers in
+        per-trip-one (b .per-trip (ap (isAachen tariff counts) same ∙ aachen)) ∙ ap (λ (x : ℕ). payment tariff counts x paid) same
+
 -- The words say one book of bytes alone.
 module _ {tariff : List ℕ} {counts : Counts} (t : FaultlessTariff tariff counts) {w : List ℕ} {window : Window} {checkout : ℕ} {ride : Ride} where
   pub book-one :
@@ -216,7 +257,7 @@ module _ {tariff : List ℕ} {counts : Counts} (t : FaultlessTariff tariff count
   book-one {charges} {charges′} {new} {new′} s s′ bytes bytes′ =
       words-same new new′ (s .size) (s′ .size) bytes bytes′
       (each-word (λ i. word new i ≡ word new′ i) (s .trips ∙ sym (s′ .trips)) (s .opening ∙ sym (s′ .opening))
-      (s .last-out ∙ sym (s′ .last-out)) sums covers)
+      (s .last-out ∙ sym (s′ .last-out)) sums (λ k few. bicycles k few .0) (λ k few. bicycles k few .1))
     where
       same : (rider area : ℕ) → CountsIn tariff counts ride rider area → chargeOf ride charges rider ≡ chargeOf ride charges′ rider
       same rider area c = charge-one (s .charged rider (c .on-trip)) (s′ .charged rider (c .on-trip))
@@ -230,14 +271,22 @@ module _ {tariff : List ℕ} {counts : Counts} (t : FaultlessTariff tariff count
         takes-one (counts-or-not tariff counts ride rider area) (same rider area) (s .all-classes rider area hr ha) (s′ .all-classes rider area hr ha),
       )
 
-      covers : (k : ℕ) → k < 10 → coverWord new k ≡ coverWord new′ k
-      covers k few =
+      bicycles : (k : ℕ) → k < 10 → (coverWord new k ≡ coverWord new′ k) × (paidWord new k ≡ paidWord new′ k)
+      bicycles k few =
           elim (decLt k (ride .party .bicycles)) [
             | yes on ↦
-                let (area, is, says) = s .covered k on in
-                let (area′, is′, says′) = s′ .covered k on in
-                is ∙ ap (λ (x : ℕ). 1 + x) (cover-one t says says′) ∙ sym is′
-            | no off ↦ s .uncovered k (omega arith) few ∙ sym (s′ .uncovered k (omega arith) few)
+                let b = s .covered k on in
+                let b′ = s′ .covered k on in
+                let same-cover = cover-one t (b .covers) (b′ .covers) in (
+                  b .cover-is ∙ ap (λ (x : ℕ). 1 + x) same-cover ∙ sym (b′ .cover-is),
+                  takes-one (aachen-or-not tariff counts (b .new))
+                      (λ aachen. paid-one t (s .bicycles-charged k on) (s′ .bicycles-charged k on) (b .covers) aachen) (b .payments)
+                      (rw (← same-cover) at (b′ .payments)),
+                )
+            | no off ↦
+                let (cover, paid) = s .uncovered k (omega arith) few in
+                let (cover′, paid′) = s′ .uncovered k (omega arith) few in
+                (cover ∙ sym cover′, paid ∙ sym paid′)
           ]
 
 -- And so of the parts of a trip.

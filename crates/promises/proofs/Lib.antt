@@ -1,5 +1,6 @@
 pub mod Promises
 pub mod Rolls
+pub mod Bicycles
 pub mod Quotes
 pub mod Answers
 pub mod Midnight

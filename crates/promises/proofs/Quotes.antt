@@ -336,11 +336,11 @@ module _ (tariff book trip : List ℕ) where
           let table = postingRows tariff counts book trip offered in
           let there = posting-first-exactly tariff counts book trip offered why .1 first in
           let (low, high) = first-range (refusal OtherRecord) table (posting-range tariff counts book trip offered) there in
-          let stands = first-has table there in (
+          let stands = first-has refusal table there in (
             omega (arith, is, low),
             omega (arith, is, high),
             λ twelve.
-                false≢true (sym (no-room-row tariff counts book trip offered) ∙ ap (λ (k : ℕ). has k table) (sym twelve ∙ is) ∙ stands),
+                false≢true (sym (no-room-row tariff counts book trip offered) ∙ ap (λ (k : ℕ). has refusal k table) (sym twelve ∙ is) ∙ stands),
             λ h. at,
           )
 
@@ -352,7 +352,7 @@ module _ (tariff book trip : List ℕ) where
       → Posted (postingOf tariff book trip offered) book book′ r → book′ ≡ book
   posting-leaves offered {n} {place} {book′} {r} e p = let p′ : Posted (unposted n place) book book′ r = rw e at p in p′ .book-is
 
-  -- An accepted one leaves a book of the same length, 5,428 bytes, and that is the answer.
+  -- An accepted one leaves a book of the same length, 5,468 bytes, and that is the answer.
   pub posting-size : (offered : List ℕ) {new : List ℕ} → postingOf tariff book trip offered ≡ renewed new → length new ≡ bookSize
   posting-size offered {new} e = new-size tariff book trip largestStatement (posted-exactly offered new .0 e .as-settled)
 

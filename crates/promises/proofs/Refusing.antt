@@ -18,10 +18,12 @@ use Rattle.tariff.specs.Areas.{Read}
 use Rattle.tariff.proofs.Faults.{first-fault, fault-says, fault-exactly}
 use Rattle.trip.specs.Record.{classAt, levelAt, partyAt, countAt}
 use Rattle.trip.specs.Moments.{checkinOf, checkoutOf}
+use Rattle.trip.specs.Trips.{tripOf}
 use Rattle.trip.proofs.Shapes.{five}
 use Rattle.trip.proofs.Ranges.{six, nine}
 use Rattle.trip.proofs.Known.{seven}
 use Rattle.trip.proofs.Stamps.{eight}
+use Rattle.fare.proofs.TownLaws.{refused-says, said-refused}
 use Rattle.book.specs.Words.{tripsOf, lastOutOf}
 use Rattle.book.specs.Sound.{sound}
 use Rattle.book.specs.Windows.{tooEarly}
@@ -80,6 +82,8 @@ words-with tariff counts book trip last twelve thirteen why.NoTrip = negated _ (
 words-with tariff counts book trip last twelve thirteen why.WrongParty =
     negated _ (six (classAt trip 0) (levelAt trip 0) (partyAt trip 0) (countAt trip 0))
 words-with tariff counts book trip last twelve thirteen why.UnknownStop = negated _ (seven trip (counts .stops) (countAt trip 0))
+words-with tariff counts book trip last twelve thirteen why.NoFirstClass =
+    (refused-says tariff counts trip (tripOf trip), said-refused tariff counts trip (tripOf trip))
 words-with tariff counts book trip last twelve thirteen why.WrongStamp = negated _ (eight trip)
 words-with tariff counts book trip last twelve thirteen why.WrongOrder = negated _ (nine (checkinOf trip) (checkoutOf trip))
 words-with tariff counts book trip last twelve thirteen why.TooEarly = ten book (checkinOf trip)

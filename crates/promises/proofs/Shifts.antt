@@ -23,12 +23,13 @@ use Rattle.trip.specs.Trips.{stopsKnown, stampsRight, inOrder, tripOf}
 use Rattle.trip.proofs.Shapes.{trip-same}
 use Rattle.fare.specs.declared.Ride.{Ride}
 use Rattle.fare.specs.Prices.{mostPrice}
+use Rattle.fare.specs.Towns.{townRefuses}
 use Rattle.fare.specs.Contracts.{EachRide}
 use Rattle.fare.specs.Contracts as riding
 use Rattle.fare.proofs.SameStops.{rides-same}
 use Rattle.book.specs.declared.Window.{Window}
-use Rattle.book.specs.Words.{bookSize, word, tripsOf, openingOf, lastOutOf, coverWord}
-use Rattle.book.specs.Sound.{allZero, headSound, pairsSound, coversSound, sound}
+use Rattle.book.specs.Words.{bookSize, bookWords, word, tripsOf, openingOf, lastOutOf, coverWord, paidPlace, paidWord}
+use Rattle.book.specs.Sound.{allZero, headSound, pairsSound, coversSound, mostPaid, paymentsSound, sound}
 use Rattle.book.specs.Windows.{belongs, tooEarly, windowOf, inWindow}
 use Rattle.book.specs.Contracts.{Rideable}
 use Rattle.statement.specs.Record.{Part}
@@ -98,7 +99,7 @@ module _ {c d : ℕ} {book bytes book′ bytes′ : List ℕ} (s : Shifted c d b
   -- the book is sound or not alike
   zeros-same : tripsOf book ≡ 0 → allZero book′ ≡ allZero book
   unfolding allZero
-  zeros-same none = each-alike 1357 (λ i. eqb (word book i) 0) (λ i. eqb (word book′ i) 0) (λ i. ap (λ v. eqb v 0) (same i))
+  zeros-same none = each-alike bookWords (λ i. eqb (word book i) 0) (λ i. eqb (word book′ i) 0) (λ i. ap (λ v. eqb v 0) (same i))
     where
       same : (i : ℕ) → word book′ i ≡ word book i
       same zero = trips-same
@@ -119,6 +120,12 @@ module _ {c d : ℕ} {book bytes book′ bytes′ : List ℕ} (s : Shifted c d b
       each-alike 10 (λ i. leb (coverWord book i) areas) (λ i. leb (coverWord book′ i) areas)
       (λ i. ap (λ v. leb v areas) (s .others .sums (1347 + i) (omega arith)))
 
+  payments-same : paymentsSound book′ ≡ paymentsSound book
+  unfolding paymentsSound
+  payments-same =
+      each-alike 10 (λ i. leb (paidWord book i) mostPaid) (λ i. leb (paidWord book′ i) mostPaid)
+      (λ i. ap (λ v. leb v mostPaid) (s .others .sums (paidPlace i) (omega arith)))
+
   head-same :
       (tripsOf book ≡ 0 → ⊥) → headSound (tripsOf book′) (openingOf book′) (lastOutOf book′) ≡ headSound (tripsOf book) (openingOf book) (lastOutOf book)
   head-same used =
@@ -138,13 +145,15 @@ module _ {c d : ℕ} {book bytes book′ bytes′ : List ℕ} (s : Shifted c d b
       go : Dec (tripsOf book ≡ 0)
           → eqb (length book) bookSize
           && cond (eqb (tripsOf book) 0) (allZero book′)
-          (headSound (tripsOf book) (openingOf book′) (lastOutOf book′) && (pairsSound book′ (tripsOf book * mostPrice) && coversSound book′ areas))
+          (headSound (tripsOf book) (openingOf book′) (lastOutOf book′)
+          && (pairsSound book′ (tripsOf book * mostPrice) && (coversSound book′ areas && paymentsSound book′)))
           ≡ eqb (length book) bookSize
           && cond (eqb (tripsOf book) 0) (allZero book)
-          (headSound (tripsOf book) (openingOf book) (lastOutOf book) && (pairsSound book (tripsOf book * mostPrice) && coversSound book areas))
+          (headSound (tripsOf book) (openingOf book) (lastOutOf book)
+          && (pairsSound book (tripsOf book * mostPrice) && (coversSound book areas && paymentsSound book)))
       go (yes none) = rw (eq-eqb (tripsOf book) 0 none, zeros-same none)
       go (no used) =
-          rw (ne-eqb (tripsOf book) 0 used, rw trips-same at (head-same used), pairs-same (tripsOf book * mostPrice), covers-same areas)
+          rw (ne-eqb (tripsOf book) 0 used, rw trips-same at (head-same used), pairs-same (tripsOf book * mostPrice), covers-same areas, payments-same)
 
   -- the trip belongs to the open window or not alike
   belongs-same : belongs book′ (checkoutOf bytes′) ≡ belongs book (checkoutOf bytes)
@@ -204,11 +213,17 @@ module _ {c d : ℕ} {book bytes book′ bytes′ : List ℕ} (s : Shifted c d b
         duration = omega (arith, s .checkin, s .checkout);
       })
 
+  -- in first class in a marked town or not alike
+  town-same : (tariff : List ℕ) (counts : Counts) → townRefuses tariff counts bytes′ (tripOf bytes′) ≡ townRefuses tariff counts bytes (tripOf bytes)
+  unfolding townRefuses
+  town-same tariff counts = rw (rides-alike tariff counts, s .trip .class)
+
   -- so the table is the same
   pub rows-same : (tariff : List ℕ) (counts : Counts) (room : ℕ) → rows tariff counts book′ bytes′ room ≡ rows tariff counts book bytes room
   unfolding rows
   rows-same tariff counts room =
       rw (
+        town-same tariff counts,
         rides-alike tariff counts,
         sound-same (counts .areas),
         trip-same bytes bytes′ (s .trip .frame) (s .trip .count) (s .trip .size),

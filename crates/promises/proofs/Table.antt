@@ -17,18 +17,20 @@ use Rattle.caps.specs.Named.{leaves, namedHere, nameIn}
 use Rattle.caps.specs.Rides.{ChargedRide}
 use Rattle.caps.specs.Tree.{foldUp, among, chargeIn}
 use Rattle.tariff.specs.declared.Counts.{Counts}
+use Rattle.tariff.specs.Layout.{longOf, areaPlace, longAreas}
 use Rattle.tariff.specs.Fields.{areaFields, factorFields, stopFields}
 use Rattle.tariff.specs.Rules.{capsRight, placeRight, wideAmong}
 use Rattle.tariff.specs.Scan.{areaEntry, factorEntry, stopEntry, entryAt, readFrom, readTariff}
 use Rattle.tariff.specs.Levels.{levelCap}
-use Rattle.tariff.specs.Areas.{tripCapOf, dayCapOf, areaOf, areaAt, stopAt, liesWithin, smallestOf, Read}
+use Rattle.tariff.specs.Areas.{capOf, tripCapOf, kindWith, dayCapOf, areaOf, areaAt, stopAt, townAt, liesWithin, smallestOf, Read}
 use Rattle.trip.specs.Record.{shapeAt, partyAt, stopNumber}
 use Rattle.trip.specs.Moments.{checkinOf, checkoutOf}
 use Rattle.trip.specs.Trips.{isTrip, partyRight, stopsKnown, stampsRight, tripOf}
 use Rattle.fare.specs.Distance.{apart, kmFrom, kmOf}
 use Rattle.fare.specs.Rides.{stopOf, areaOfStops, rideBetween, rideOf}
 use Rattle.fare.specs.Parts.{breakOf, ridesOf as tripRides}
-use Rattle.fare.specs.Prices.{step1, step2, step3, step4, tripCap, priceOf}
+use Rattle.fare.specs.Prices.{basePart, kmPart, step1, step2, step3, step4, tripCap, commonPrice, isMarked, inMarkedTown, priceOf}
+use Rattle.fare.specs.Towns.{someInTown, townRefuses}
 use Rattle.book.specs.Words.{freshBook}
 use Rattle.book.specs.Sound.{sound}
 use Rattle.book.specs.Caps.{secondCap, allCap}
@@ -140,9 +142,9 @@ module _ (tariff : List ℕ) (counts : Counts) (read : Read tariff counts) where
 
 -- The sample is a faultless tariff of seven areas, three factor records and 28 stops.
 pub sample-read : Read sample sampleCounts
-unfolding readTariff readFrom entryAt areaEntry factorEntry stopEntry frameAt broken areaFields factorFields stopFields capsRight placeRight wideAmong
-    getLe bytesOf sample sampleAreas sampleFactors sampleStops areasBytes areaBytes sampleArea factorsBytes factorBytes sampleFactor stopsBytes
-    stopBytes sampleStop
+unfolding longOf areaPlace longAreas readTariff readFrom entryAt areaEntry factorEntry stopEntry frameAt broken areaFields factorFields stopFields
+    capsRight placeRight wideAmong getLe bytesOf sample sampleAreas sampleFactors sampleStops areasBytes areaBytes sampleArea factorsBytes factorBytes
+    sampleFactor stopsBytes stopBytes sampleStop
 sample-read = refl
 
 -- ---- The table.
@@ -163,13 +165,15 @@ saidSums c = record { come-to = results c; window = ridesIn (results c) [] }
 
 -- all cases, computed
 computed : map settledSums cases ≡ map saidSums cases
-unfolding dividedUp hundredthsOf periods getLe putLe bytesOf each broken frameAt monthDays daysOfMonths daysOfYears dayNumber localMinute minuteNumber leftOf
-    cappedHere foldUp among chargeIn leaves namedHere nameIn areaFields stopFields levelCap tripCapOf dayCapOf areaOf areaAt stopAt liesWithin smallestOf shapeAt partyAt
-    stopNumber checkinOf checkoutOf isTrip partyRight stopsKnown stampsRight apart kmFrom kmOf stopOf areaOfStops rideBetween rideOf step1 step2 step3 step4
-    tripCap priceOf secondCap allCap riderCharge riderCharges bicycleCharges chargesOf riderCut riderCuts cutsOf cutOf belongs tooEarly windowOf addHere addUp addList coverBicycles
-    opened posted statementSize breakOf tripRides rows firstOf partOf oneMore partsOf postedAll acceptedTrip onSound runOnSound entryOf ridesWith ridesAfter
-    ridesOver sampleArea areaBytes areasBytes sampleFactor factorBytes factorsBytes sampleStop stopBytes stopsBytes sampleAreas sampleFactors sampleStops sample stampBytes numbersBytes tripBytes offered
-    partResults outcomeResults resultsOf ridesIn cases
+unfolding dividedUp hundredthsOf periods getLe putLe bytesOf each broken frameAt monthDays daysOfMonths daysOfYears dayNumber localMinute minuteNumber
+    leftOf cappedHere foldUp among chargeIn leaves namedHere nameIn longOf areaPlace longAreas areaFields stopFields levelCap capOf tripCapOf kindWith
+    dayCapOf areaOf areaAt stopAt townAt liesWithin smallestOf shapeAt partyAt stopNumber checkinOf checkoutOf isTrip partyRight stopsKnown
+    stampsRight apart kmFrom kmOf stopOf areaOfStops rideBetween rideOf basePart kmPart step1 step2 step3 step4 tripCap commonPrice isMarked
+    inMarkedTown priceOf someInTown townRefuses secondCap allCap riderCharge riderCharges bicycleCharges chargesOf riderCut riderCuts cutsOf cutOf
+    belongs tooEarly windowOf addHere addUp addList coverBicycles opened posted statementSize breakOf tripRides rows firstOf partOf oneMore partsOf
+    postedAll acceptedTrip onSound runOnSound entryOf ridesWith ridesAfter ridesOver sampleArea areaBytes areasBytes sampleFactor factorBytes
+    factorsBytes sampleStop stopBytes stopsBytes sampleAreas sampleFactors sampleStops sample stampBytes numbersBytes tripBytes offered partResults
+    outcomeResults resultsOf ridesIn cases
 computed = refl
 
 -- where two functions agree all along a list, they agree on each of it

@@ -19,9 +19,10 @@ use Rattle.fare.specs.declared.Ride.{Ride}
 use Rattle.fare.specs.Distance.{apart, LeastKm}
 use Rattle.fare.specs.Rides.{stopOf, AreaOfStops, rideBetween}
 use Rattle.fare.specs.Parts.{BrokenAt, ridesOf}
+use Rattle.fare.specs.Towns.{FirstClassInTown}
 use Rattle.book.specs.declared.Window.{Window}
 use Rattle.book.specs.declared.Cut.{Cut}
-use Rattle.book.specs.Words.{tripsOf, lastOutOf, secondSum, allSum, coverWord}
+use Rattle.book.specs.Words.{tripsOf, lastOutOf, secondSum, allSum, coverWord, paidWord}
 use Rattle.book.specs.Sound.{sound}
 use Rattle.book.specs.Windows.{windowOf, inWindow}
 use Rattle.book.specs.Caps.{treeOf}
@@ -55,7 +56,7 @@ use Rattle.settle.specs.Refusals.{refusal, rows, First}
 
 -- the numbers of areas and of stops that a faultless tariff has
 unfoldable pub countsOf : List ℕ → Counts
-countsOf tariff = elim (readTariff tariff) [ Faultless counts ↦ counts | Fault number at ↦ record { areas = 0; factors = 0; stops = 0 } ]
+countsOf tariff = elim (readTariff tariff) [ Faultless counts ↦ counts | Fault number at ↦ record { areas = 0; long = 0; factors = 0; stops = 0 } ]
 
 -- the rides that a trip's bytes are, one or two, and the window that it belongs to or opens
 abbrev pub tripRides : List ℕ → Counts → List ℕ → List Ride
@@ -85,6 +86,7 @@ conditionWith tariff counts book trip noRoom otherRecord why.UnsoundBook = sound
 conditionWith tariff counts book trip noRoom otherRecord why.NoTrip = NoTrip trip
 conditionWith tariff counts book trip noRoom otherRecord why.WrongParty = WrongParty (classAt trip 0) (levelAt trip 0) (partyAt trip 0) (countAt trip 0)
 conditionWith tariff counts book trip noRoom otherRecord why.UnknownStop = LackingStop trip (countAt trip 0) (counts .stops)
+conditionWith tariff counts book trip noRoom otherRecord why.NoFirstClass = FirstClassInTown tariff counts trip (tripOf trip)
 conditionWith tariff counts book trip noRoom otherRecord why.WrongStamp = WrongStamp trip
 conditionWith tariff counts book trip noRoom otherRecord why.WrongOrder = WrongOrder (checkinOf trip) (checkoutOf trip)
 conditionWith tariff counts book trip noRoom otherRecord why.TooEarly = TooEarly book (checkinOf trip)
@@ -173,8 +175,8 @@ pub record CutTold (tariff : List ℕ) (counts : Counts) (w : List ℕ) (ride : 
 -- what a record says, read off a statement at its place: the window's opening minute, the smallest area containing all stops of the trip
 -- from one to another, the least kilometres between these two, some minutes, the party's numbers; then the charges, in the order holder,
 -- adults, children, bicycles, and each person's cut: by their definitions, and then in words, each rider's charge the smallest of the price
--- and what each of the ride's caps has left, each rider's cut what that took off the price, and each bicycle's charge the new covering
--- area's flat less the old one's. w stands for the words that count: the book's own in the open window, a fresh book's in the next
+-- and what each of the ride's caps has left, each rider's cut what that took off the price, and each bicycle's charge what its new
+-- covering area says by its kind. w stands for the words that count: the book's own in the open window, a fresh book's in the next
 pub record RecordSays (tariff bytes w : List ℕ) (counts : Counts) (opens from to minutes : ℕ) (statement : List ℕ) (place : ℕ) : Type 0 where
   pub long : longIn statement place + 2 ≡ recordSize (partyAt bytes 0)
   pub kind : kindIn statement place ≡ chargeKind
@@ -196,7 +198,7 @@ pub record RecordSays (tariff bytes w : List ℕ) (counts : Counts) (opens from 
   pub bicycles :
       (i : ℕ) → i < partyAt bytes 0 .bicycles
       → chargeIn statement place (1 + partyAt bytes 0 .adults + partyAt bytes 0 .children + i)
-      ≡ bicycleCharge tariff counts (areaIn statement place) (coverWord w i)
+      ≡ bicycleCharge tariff counts (areaIn statement place) (coverWord w i) (paidWord w i)
   pub holder-cut : cutIn statement place 0 ≡ riderCut tariff counts w (rideOn tariff counts bytes from to minutes) false 0
   pub adult-cuts :
       (i : ℕ) → i < partyAt bytes 0 .adults
@@ -214,7 +216,7 @@ pub record RecordSays (tariff bytes w : List ℕ) (counts : Counts) (opens from 
       (cutIn statement place (placeOf (partyAt bytes 0) rider))
   pub bicycles-pay :
       (i : ℕ) → i < partyAt bytes 0 .bicycles
-      → BicycleSays tariff counts (areaIn statement place) (coverWord w i)
+      → BicycleSays tariff counts (areaIn statement place) (coverWord w i) (paidWord w i)
       (chargeIn statement place (1 + partyAt bytes 0 .adults + partyAt bytes 0 .children + i))
 
 -- what the statement of an accepted trip says. A trip that is nowhere broken has one record, from its first stop to its last, with its

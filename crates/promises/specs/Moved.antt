@@ -42,7 +42,7 @@ pub record MovedStamps (d : ℕ) (trip trip′ : List ℕ) : Type 0 where
   pub checkout : MovedStamp d (stampAt trip checkoutPlace) (stampAt trip′ checkoutPlace)
 
 -- two books of one length, the same in every word but the opening minute and the last check-out: the trips, and from word 3 on each rider's
--- sums and each bicycle's covering area
+-- sums and each bicycle's covering area and payments
 pub record SameWords (book book′ : List ℕ) : Type 0 where
   pub size : length book′ ≡ length book
   pub trips : tripsOf book′ ≡ tripsOf book

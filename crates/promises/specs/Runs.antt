@@ -11,7 +11,7 @@ use Rattle.caps.specs.Tree.{Tree}
 use Rattle.caps.specs.Named.{NamedCap, capNamed, sumNamed, Passed}
 use Rattle.caps.specs.Rides.{ChargedRide, allTotal, secondTotal}
 use Rattle.tariff.specs.declared.Counts.{Counts}
-use Rattle.tariff.specs.Areas.{areaAt}
+use Rattle.tariff.specs.Areas.{areaAt, isAachen}
 use Rattle.trip.specs.Moments.{checkinOf, checkoutOf}
 use Rattle.fare.specs.Prices.{priceOf}
 use Rattle.book.specs.declared.Cut.{Cut}
@@ -19,10 +19,12 @@ use Rattle.book.specs.Words.{freshBook, tripsOf, openingOf}
 use Rattle.book.specs.Windows.{belongs}
 use Rattle.book.specs.Caps.{treeOf}
 use Rattle.book.specs.Charging.{isChild, carries, placeOf}
+use Rattle.book.specs.InWords.{RidePays}
 use Rattle.statement.specs.Record.{Part, uncut}
 use Rattle.settle.specs.Outcome.{Outcome, refused, accepted}
 use Rattle.settle.specs.Runs.{Offer, Settlement, runFrom, bookFrom}
 use Rattle.promises.specs.Conditions.{nameOfCut}
+use Rattle.promises.specs.Books.{bicycleChargeOf, BicycleTakes}
 
 -- a rider's ride: the area, class and price of a part's ride, and the charge at the rider's place
 unfoldable pub entryOf : List ℕ → Counts → ℕ → Part → ChargedRide
@@ -71,6 +73,22 @@ pub data CutsFull (tariff : List ℕ) (counts : Counts) (rider : ℕ) : List Par
       → CutFull (treeOf tariff counts (isChild rider)) (entryOf tariff counts rider part) before (cutOf rider part))
       → CutsFull tariff counts rider parts (cond (carries (part .ride .party) rider) (entryOf tariff counts rider part ∷ before) before)
       → CutsFull tariff counts rider (part ∷ parts) before
+
+-- ---- A bicycle's payments per trip. `old` is its word, 0 if unused, else 1 + its covering area; `paid` its payments in the window.
+
+-- each part that it is on, one after another; the others leave its words. Where its new covering area is of kind 8 the charge is a payment: at
+-- most the price per trip, never past the cap with those before it in the window, and less than the price only where the cap is then full
+pub data PaysInTurn (tariff : List ℕ) (counts : Counts) (k : ℕ) : ℕ → ℕ → List Part → ℕ → ℕ → Type 0 where
+  pays-no-more : {old paid : ℕ} → PaysInTurn tariff counts k old paid [] old paid
+  pays-on :
+      {part : Part} {parts : List Part} {old paid between paid-between old′ paid′ : ℕ} → k < part .ride .party .bicycles
+      → (takes : BicycleTakes tariff counts (part .ride .area) (bicycleChargeOf (part .ride) (part .charges) k) old paid between paid-between)
+      → (isAachen tariff counts (takes .new) ≡ true
+      → RidePays tariff counts (takes .new) paid (bicycleChargeOf (part .ride) (part .charges) k) paid-between)
+      → PaysInTurn tariff counts k between paid-between parts old′ paid′ → PaysInTurn tariff counts k old paid (part ∷ parts) old′ paid′
+  pays-off :
+      {part : Part} {parts : List Part} {old paid old′ paid′ : ℕ} → part .ride .party .bicycles ≤ k
+      → PaysInTurn tariff counts k old paid parts old′ paid′ → PaysInTurn tariff counts k old paid (part ∷ parts) old′ paid′
 
 -- ---- The window that is open at the end, by the book before each trip.
 

@@ -15,7 +15,7 @@ use Rattle.tariff.specs.declared.Counts.{Counts}
 use Rattle.wire.proofs.Tests.{both-left, both-right}
 use Rattle.settle.specs.declared.refusals.Refusal.{Refusal}
 use Rattle.settle.specs.declared.refusals.Refusal.the-variants.{NoRoom, OtherRecord}
-use Rattle.settle.specs.Refusals.{refusal, lastRefusal, Row, row, rowsTo, rows, Found, nothing, found, firstOf, testOf, First, here, later}
+use Rattle.settle.specs.Refusals.{refusal, lastRefusal, Row, row, rowsTo, rows, Found, nothing, found, firstOf, rowOf, testOf, First, here, later}
 use Rattle.settle.specs.Posting.{postingRows}
 
 -- ---- Any table.
@@ -39,7 +39,7 @@ end = refl
 pub none-holds : (table : List Row) → firstOf table ≡ nothing → (why : Refusal) → testOf why table ≡ false
 unfolding firstOf testOf
 none-holds [] e why = refl
-none-holds (r ∷ rest) e why = go (r .test) (eqb (refusal (r .why)) (refusal why)) e (λ after. none-holds rest after why)
+none-holds (r ∷ rest) e why = go (r .test) (eqb (rowOf (r .why)) (rowOf why)) e (λ after. none-holds rest after why)
   where
     go : (t same : Bool) → cond t (found (r .why)) (firstOf rest) ≡ nothing → (firstOf rest ≡ nothing → testOf why rest ≡ false)
         → cond same t (testOf why rest) ≡ false
@@ -47,14 +47,14 @@ none-holds (r ∷ rest) e why = go (r .test) (eqb (refusal (r .why)) (refusal wh
     go false true e′ more = refl
     go false false e′ more = more e′
 
--- whether a number stands in the table, and that none stands twice
-unfoldable pub has : ℕ → List Row → Bool
-has n [] = false
-has n (r ∷ rest) = cond (eqb (refusal (r .why)) n) true (has n rest)
+-- whether a refusal stands in the table, looked for by its row or by its number; and that no row stands twice
+unfoldable pub has : (Refusal → ℕ) → ℕ → List Row → Bool
+has by n [] = false
+has by n (r ∷ rest) = cond (eqb (by (r .why)) n) true (has by n rest)
 
 unfoldable pub distinct : List Row → Bool
 distinct [] = true
-distinct (r ∷ rest) = not (has (refusal (r .why)) rest) && distinct rest
+distinct (r ∷ rest) = not (has rowOf (rowOf (r .why)) rest) && distinct rest
 
 -- all numbers are 4 to a last
 unfoldable pub inRange : ℕ → List Row → Bool
@@ -78,17 +78,17 @@ first-range most (r ∷ rest) {why} range e =
     go false e′ least high after = after e′
 
 -- a refusal that is found stands in the table
-pub first-has : (table : List Row) {why : Refusal} → firstOf table ≡ found why → has (refusal why) table ≡ true
+pub first-has : (by : Refusal → ℕ) (table : List Row) {why : Refusal} → firstOf table ≡ found why → has by (by why) table ≡ true
 unfolding firstOf has
-first-has [] e = absurd (let z : _≡_ {A = ℕ} 0 1 = cc in omega arith)
-first-has (r ∷ rest) {why} e = go (r .test) (eqb (refusal (r .why)) (refusal why)) refl e (first-has rest)
+first-has by [] e = absurd (let z : _≡_ {A = ℕ} 0 1 = cc in omega arith)
+first-has by (r ∷ rest) {why} e = go (r .test) (eqb (by (r .why)) (by why)) refl e (first-has by rest)
   where
-    go : (t same : Bool) → eqb (refusal (r .why)) (refusal why) ≡ same → cond t (found (r .why)) (firstOf rest) ≡ found why
-        → (firstOf rest ≡ found why → has (refusal why) rest ≡ true) → cond same true (has (refusal why) rest) ≡ true
+    go : (t same : Bool) → eqb (by (r .why)) (by why) ≡ same → cond t (found (r .why)) (firstOf rest) ≡ found why
+        → (firstOf rest ≡ found why → has by (by why) rest ≡ true) → cond same true (has by (by why) rest) ≡ true
     go t true is e′ after = refl
     go true false is e′ after =
         let same : r .why ≡ why = cc in
-        absurd (false≢true (sym is ∙ eq-eqb (refusal (r .why)) (refusal why) (ap refusal same)))
+        absurd (false≢true (sym is ∙ eq-eqb (by (r .why)) (by why) (ap by same)))
     go false false is e′ after = after e′
 
 -- Rows with one more behind them: where one of them holds, it decides, and else the last one does.
@@ -125,22 +125,22 @@ module _ (holds : Refusal → Type 0) where
     over : Tells []
     more : {r : Row} {rest : List Row} → (r .test ≡ true ↔ holds (r .why)) → Tells rest → Tells (r ∷ rest)
 
-  -- a number that stands in a table is not one that does not
-  apart : (m n : ℕ) (table : List Row) → has m table ≡ false → has n table ≡ true → m ≡ n → ⊥
+  -- a row that stands in a table is not one that does not
+  apart : (m n : ℕ) (table : List Row) → has rowOf m table ≡ false → has rowOf n table ≡ true → m ≡ n → ⊥
   apart m n table out in-it same = false≢true (sym out ∙ rw same in-it)
 
   tells :
       (table : List Row) → distinct table ≡ true
-      → ((why : Refusal) → has (refusal why) table ≡ true → testOf why table ≡ true ↔ holds why) → Tells table
+      → ((why : Refusal) → has rowOf (rowOf why) table ≡ true → testOf why table ≡ true ↔ holds why) → Tells table
   unfolding distinct has testOf
   tells [] d laws = over
   tells (r ∷ rest) d laws =
-      let own = laws (r .why) (rw (eq-eqb (refusal (r .why)) (refusal (r .why)) refl)) in
-      let out = not-true (has (refusal (r .why)) rest) (both-left (not (has (refusal (r .why)) rest)) (distinct rest) d) in
-      more (rw (eq-eqb (refusal (r .why)) (refusal (r .why)) refl) at own)
-      (tells rest (both-right (not (has (refusal (r .why)) rest)) (distinct rest) d)
+      let own = laws (r .why) (rw (eq-eqb (rowOf (r .why)) (rowOf (r .why)) refl)) in
+      let out = not-true (has rowOf (rowOf (r .why)) rest) (both-left (not (has rowOf (rowOf (r .why)) rest)) (distinct rest) d) in
+      more (rw (eq-eqb (rowOf (r .why)) (rowOf (r .why)) refl) at own)
+      (tells rest (both-right (not (has rowOf (rowOf (r .why)) rest)) (distinct rest) d)
       (λ why h.
-      let other = ne-eqb (refusal (r .why)) (refusal why) (apart (refusal (r .why)) (refusal why) rest out h) in
+      let other = ne-eqb (rowOf (r .why)) (rowOf why) (apart (rowOf (r .why)) (rowOf why) rest out h) in
       rw other at (laws why (rw (other, h)))))
 
   first-there : (table : List Row) {why : Refusal} → Tells table → firstOf table ≡ found why → First holds why table
@@ -206,7 +206,7 @@ module _ (tariff : List ℕ) (counts : Counts) (book trip offered : List ℕ) wh
   posting-range = refl
 
   -- 12 does not stand in it
-  pub no-room-row : has (refusal NoRoom) (postingRows tariff counts book trip offered) ≡ false
+  pub no-room-row : has refusal (refusal NoRoom) (postingRows tariff counts book trip offered) ≡ false
   unfolding postingRows has
   no-room-row = refl
 
@@ -215,7 +215,7 @@ module _ (tariff : List ℕ) (counts : Counts) (book trip offered : List ℕ) wh
 module _ (tariff : List ℕ) (counts : Counts) (book trip : List ℕ) where
   -- 4 to 11: all rows but the last, whichever that is
   abbrev pub earlierRows : List Row
-  earlierRows = take 8 (rowsTo tariff counts book trip (row NoRoom false))
+  earlierRows = take 9 (rowsTo tariff counts book trip (row NoRoom false))
 
   pub earlier-and-last : (last : Row) → rowsTo tariff counts book trip last ≡ earlierRows ++ last ∷ []
   earlier-and-last last = refl

@@ -20,6 +20,7 @@ use Rattle.trip.specs.Trips.{isTrip, stampsRight, inOrder, tripOf}
 use Rattle.trip.specs.Contracts.{GoodTrip}
 use Rattle.fare.specs.declared.Breaking.{Breaking}
 use Rattle.fare.specs.Parts.{breakOf, ridesOf}
+use Rattle.fare.specs.Towns.{townRefuses}
 use Rattle.book.specs.declared.Window.{Window}
 use Rattle.book.specs.Sound.{sound}
 use Rattle.book.specs.Windows.{tooEarly, windowOf}
@@ -101,6 +102,7 @@ module _ (tariff : List ℕ) (counts : Counts) (book trip : List ℕ) (room : �
   pub record NoneHolds : Type 0 where
     pub sound-book : sound book (counts .areas) ≡ true
     pub good : GoodTrip trip (counts .stops)
+    pub class-there : townRefuses tariff counts trip (tripOf trip) ≡ false
     pub on-time : tooEarly book (checkinOf trip) ≡ false
     pub few : window .trips + length (ridesOf tariff counts trip (tripOf trip)) ≤ 256
     pub fits : statementSize (ridesOf tariff counts trip (tripOf trip)) ≤ room
@@ -118,6 +120,7 @@ module _ (tariff : List ℕ) (counts : Counts) (book trip : List ℕ) (room : �
           stamps = not-false (stampsRight trip) (off why.WrongStamp);
           order = not-false (inOrder (checkinOf trip) (checkoutOf trip)) (off why.WrongOrder);
         };
+        class-there = off why.NoFirstClass;
         on-time = off why.TooEarly;
         few = ltb-false 256 (window .trips + length (ridesOf tariff counts trip (tripOf trip))) (off why.FullWindow);
         fits = ltb-false room (statementSize (ridesOf tariff counts trip (tripOf trip))) (off why.NoRoom);

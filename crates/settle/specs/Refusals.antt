@@ -12,6 +12,7 @@ use Rattle.trip.specs.Record.{classAt, levelAt, partyAt, countAt}
 use Rattle.trip.specs.Moments.{checkinOf, checkoutOf}
 use Rattle.trip.specs.Trips.{isTrip, partyRight, stopsKnown, stampsRight, inOrder, tripOf}
 use Rattle.fare.specs.Parts.{ridesOf}
+use Rattle.fare.specs.Towns.{townRefuses}
 use Rattle.book.specs.Sound.{sound}
 use Rattle.book.specs.Windows.{tooEarly, windowOf}
 use Rattle.statement.specs.Record.{statementSize}
@@ -21,6 +22,7 @@ use Rattle.settle.specs.declared.refusals.Refusal.the-variants.{
   NoTrip,
   WrongParty,
   UnknownStop,
+  NoFirstClass,
   WrongStamp,
   WrongOrder,
   TooEarly,
@@ -29,12 +31,13 @@ use Rattle.settle.specs.declared.refusals.Refusal.the-variants.{
   OtherRecord,
 }
 
--- their numbers
+-- their numbers; 6 has two rows
 abbrev pub refusal : Refusal → ℕ
 refusal UnsoundBook = 4
 refusal NoTrip = 5
 refusal WrongParty = 6
 refusal UnknownStop = 7
+refusal NoFirstClass = 6
 refusal WrongStamp = 8
 refusal WrongOrder = 9
 refusal TooEarly = 10
@@ -57,6 +60,7 @@ row why test = record { why = why; test = test }
 -- 5: frame broken, record not filling the slice, kind not 7, body under 20 or not 20 + 2n
 -- 6: class not 1 or 2, level above 5, adults, children or bicycles above 10, n not 2..32
 -- 7: a stop number the tariff lacks
+-- 6 again: class 1, where the trip's area, or that of one of its parts, is a town that drops the base price or the km price
 -- 8: a stamp that is no local date 2000..2099, no clock time 00:00..23:59, has an offset that is not 1 or 2, or is before minute 0 of UTC
 -- 9: check-out before check-in, or over 1,440 minutes after it
 -- 10: check-in before the book's last check-out (word 0 not 0)
@@ -69,6 +73,7 @@ rowsTo tariff counts book trip last =
     ∷ row NoTrip (not (isTrip trip))
     ∷ row WrongParty (not (partyRight (classAt trip 0) (levelAt trip 0) (partyAt trip 0) (countAt trip 0)))
     ∷ row UnknownStop (not (stopsKnown trip (countAt trip 0) (counts .stops)))
+    ∷ row NoFirstClass (townRefuses tariff counts trip (tripOf trip))
     ∷ row WrongStamp (not (stampsRight trip))
     ∷ row WrongOrder (not (inOrder (checkinOf trip) (checkoutOf trip)))
     ∷ row TooEarly (tooEarly book (checkinOf trip))
@@ -90,10 +95,24 @@ unfoldable pub firstOf : List Row → Found
 firstOf [] = nothing
 firstOf (r ∷ rest) = cond (r .test) (found (r .why)) (firstOf rest)
 
+-- what tells one refusal's row from another's, which the number does not: a count of them in their order
+abbrev pub rowOf : Refusal → ℕ
+rowOf UnsoundBook = 0
+rowOf NoTrip = 1
+rowOf WrongParty = 2
+rowOf UnknownStop = 3
+rowOf NoFirstClass = 4
+rowOf WrongStamp = 5
+rowOf WrongOrder = 6
+rowOf TooEarly = 7
+rowOf FullWindow = 8
+rowOf NoRoom = 9
+rowOf OtherRecord = 10
+
 -- the test of a refusal's row, wherever it stands
 unfoldable pub testOf : Refusal → List Row → Bool
 testOf why [] = false
-testOf why (r ∷ rest) = cond (eqb (refusal (r .why)) (refusal why)) (r .test) (testOf why rest)
+testOf why (r ∷ rest) = cond (eqb (rowOf (r .why)) (rowOf why)) (r .test) (testOf why rest)
 
 -- a refusal is the first of the table to hold, where each refusal holds under a condition of its own: its condition holds, and that of no
 -- row before it does

@@ -6,6 +6,7 @@ use book::windows::too_early;
 use book::windows::window_of;
 use fare::Breaking;
 use fare::parts::break_of;
+use fare::towns::town_refuses;
 use statement::record_size;
 use tariff::Counts;
 use trip::Party;
@@ -65,8 +66,12 @@ pub fn decide(tariff: &[u8], counts: Counts, book: &[u8], trip: &[u8], room: usi
     if !party_right(class, level, party, stops) {
         return Decision::Refused(Refusal::WrongParty);
     }
-    if !stops_known(trip, stops, counts.stops) {
+    if !stops_known(trip, stops, counts.stops as usize) {
         return Decision::Refused(Refusal::UnknownStop);
+    }
+    let breaking = break_of(tariff, counts, trip, stops);
+    if town_refuses(tariff, counts, trip, stops, class, breaking) {
+        return Decision::Refused(Refusal::NoFirstClass);
     }
     let Times::Of(checkin, checkout) = times_of(trip) else {
         return Decision::Refused(Refusal::WrongStamp);
@@ -77,8 +82,7 @@ pub fn decide(tariff: &[u8], counts: Counts, book: &[u8], trip: &[u8], room: usi
     if too_early(book, checkin) {
         return Decision::Refused(Refusal::TooEarly);
     }
-    let window = window_of(book, counts.areas, checkin, checkout);
-    let breaking = break_of(tariff, counts, trip, stops);
+    let window = window_of(book, counts.areas as usize, checkin, checkout);
     if 256 < window.trips + rides_in(breaking) {
         return Decision::Refused(Refusal::FullWindow);
     }

@@ -22,7 +22,7 @@ pub fn readiness_of(tariff: &[u8], book: &[u8]) -> Readiness
     match read_tariff(tariff) {
         Reading::Fault { number, at } => Readiness::Refused { number, place: at },
         Reading::Faultless(counts) => {
-            if is_sound(book, counts.areas) {
+            if is_sound(book, counts.areas as usize) {
                 Readiness::Ready(counts)
             } else {
                 Readiness::Refused {

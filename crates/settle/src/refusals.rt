@@ -1,4 +1,5 @@
-// The refusals from 4 on by their names. Their order is the table's, which `decide` follows; 13 is a posting's alone.
+// The refusals from 4 on by their names. Their order is the table's, which `decide` follows, and where 6 stands twice; 13 is a posting's
+// alone.
 ghost use mathlib.Core.Path.{_≡_};
 ghost use Rattle.settle.specs.Refusals.{refusal};
 
@@ -7,6 +8,7 @@ pub enum Refusal {
     NoTrip,
     WrongParty,
     UnknownStop,
+    NoFirstClass,
     WrongStamp,
     WrongOrder,
     TooEarly,
@@ -24,6 +26,7 @@ pub fn number(why: Refusal) -> u8
         Refusal::NoTrip => 5,
         Refusal::WrongParty => 6,
         Refusal::UnknownStop => 7,
+        Refusal::NoFirstClass => 6,
         Refusal::WrongStamp => 8,
         Refusal::WrongOrder => 9,
         Refusal::TooEarly => 10,

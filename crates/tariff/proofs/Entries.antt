@@ -3,10 +3,11 @@
 use Prim.Native.Nat.{ℕ, _+_, _≤_, _<_}
 use native.Mathlib.Omega.{arith}
 use native.Mathlib.Decide.{ℕ-discrete, decLt}
-use mathlib.Core.Path.{_≡_, refl, sym, _∙_}
+use mathlib.Core.Path.{_≡_, refl, sym, ap, _∙_}
+use mathlib.Core.Logic.{_⊎_, inl, inr}
 use mathlib.Core.Bool.{Bool, true, false, cond, _&&_, _||_, false≢true}
 use mathlib.Core.List.{List}
-use borrow.Author.Tests.{le-leb, lt-leb, lt-ltb, eq-eqb, ne-eqb, eqb-true, ltb-true}
+use borrow.Author.Tests.{le-leb, lt-leb, lt-ltb, eq-eqb, eqb-true, ltb-true, ne-eqb}
 use lib.ListN.{length}
 use lib.Dec.{leb, ltb, eqb}
 use Rattle.wire.specs.Frame.{frameAt}
@@ -14,13 +15,27 @@ use Rattle.wire.specs.declared.Frame.{Frame}
 use Rattle.wire.specs.declared.Frame.the-variants.{Whole, Broken}
 use Rattle.wire.proofs.Frames.{whole}
 use Rattle.tariff.specs.declared.Counts.{Counts}
-use Rattle.tariff.specs.Layout.{areaBody, areaSize, factorBody, factorSize, stopBody, stopSize, mostAreas, mostStops}
-use Rattle.tariff.specs.Fields.{areaFields, factorFields, stopFields}
+use Rattle.tariff.specs.Layout.{
+  commonKind,
+  aachenKind,
+  longOf,
+  areaBodyOf,
+  factorBody,
+  factorSize,
+  stopBody,
+  stopSize,
+  mostAreas,
+  mostStops,
+  kindAt,
+  areaEnd,
+}
+use Rattle.tariff.specs.Fields.{areaFields, longFields, factorFields, stopFields}
 use Rattle.tariff.specs.Rules.{areaRight, factorsDue, factorRight, stopRight}
 use Rattle.tariff.specs.Scan.{
   areaEntry,
   factorEntry,
   stopEntry,
+  isArea,
   entryAt,
   AreaInPlace,
   FactorInPlace,
@@ -43,13 +58,11 @@ use Rattle.wire.proofs.Tests.{told, one-of}
 use Rattle.tariff.proofs.WrongValues.{area-wrong, factor-wrong, stop-wrong}
 
 -- A faultless area record: its kind and body length, its order and number, its values, and that it ends within the bytes.
-pub record AreaEntry (b : List ℕ) (at : ℕ) (soFar : Counts) : Type 0 where
-  pub frame : frameAt b at ≡ Whole 1 areaBody
-  pub no-factor : soFar .factors ≡ 0
-  pub no-stop : soFar .stops ≡ 0
-  pub few : soFar .areas < mostAreas
-  pub right : areaRight b soFar (areaFields b at) ≡ true
-  pub fits : at + areaSize ≤ length b
+pub record AreaEntry (b : List ℕ) (at : ℕ) (soFar : Counts) (kind : ℕ) : Type 0 where
+  pub here : AreaInPlace b at soFar kind
+  pub kind-is : kind ≡ kindAt b at
+  pub right : areaRight b soFar kind (areaFields b at) (longFields b at) ≡ true
+  pub fits : areaEnd b at ≤ length b
 
 -- A faultless factor record and a faultless stop record, likewise.
 pub record FactorEntry (b : List ℕ) (at : ℕ) (soFar : Counts) : Type 0 where
@@ -69,8 +82,8 @@ pub record StopEntry (b : List ℕ) (at : ℕ) (soFar : Counts) : Type 0 where
 
 -- The tests of an area record's body length, order and number, of a factor record's and of a stop record's, with so many factor records due;
 -- and whether at the tariff's end a record is still due.
-abbrev pub areaDue : ℕ → Counts → Bool
-areaDue body soFar = eqb body areaBody && eqb (soFar .factors) 0 && eqb (soFar .stops) 0 && ltb (soFar .areas) mostAreas
+abbrev pub areaDue : ℕ → ℕ → Counts → Bool
+areaDue kind body soFar = eqb body (areaBodyOf kind) && eqb (soFar .factors) 0 && eqb (soFar .stops) 0 && ltb (soFar .areas) mostAreas
 
 abbrev pub factorDue : ℕ → Counts → ℕ → Bool
 factorDue body soFar due = eqb body factorBody && eqb (soFar .stops) 0 && ltb (soFar .factors) due
@@ -91,10 +104,37 @@ refused : (t : Bool) → (t ≡ true → ⊥) → t ≡ false
 refused true never = absurd (never refl)
 refused false never = refl
 
+-- the kinds of an area record, by the test and by the rules' words
+area-kinds : (kind : ℕ) → isArea kind ≡ true → (kind ≡ commonKind) ⊎ (kind ≡ aachenKind)
+area-kinds kind e =
+    one-of (eqb kind commonKind) (eqb kind aachenKind) e (λ is. inl (eqb-true kind commonKind is)) (λ is. inr (eqb-true kind aachenKind is))
+
+kinds-area : (kind : ℕ) → (kind ≡ commonKind) ⊎ (kind ≡ aachenKind) → isArea kind ≡ true
+kinds-area kind (inl is) = rw (eq-eqb kind commonKind is)
+kinds-area kind (inr is) = rw (eq-eqb kind aachenKind is) (either-right (eqb kind commonKind))
+
+-- a kind is an area's, a factor record's, a stop's, or none of these
+pub data KindCase (kind : ℕ) : Type 0 where
+  of-area : isArea kind ≡ true → KindCase kind
+  of-factor : kind ≡ 5 → KindCase kind
+  of-stop : kind ≡ 2 → KindCase kind
+  of-none : isArea kind ≡ false → (kind ≡ 5 → ⊥) → (kind ≡ 2 → ⊥) → KindCase kind
+
+pub kind-case : (kind : ℕ) → KindCase kind
+kind-case kind = go (isArea kind) refl
+  where
+    go : (t : Bool) → isArea kind ≡ t → KindCase kind
+    go true is = of-area is
+    go false no-kind =
+        elim (ℕ-discrete kind 5) [
+          | yes is ↦ of-factor is
+          | no not-five ↦ elim (ℕ-discrete kind 2) [ yes is ↦ of-stop is | no not-two ↦ of-none no-kind not-five not-two ]
+        ]
+
 pub area-tests :
-    (body : ℕ) (soFar : Counts) → areaDue body soFar ≡ true
-    → (body ≡ areaBody) × (soFar .factors ≡ 0) × (soFar .stops ≡ 0) × (soFar .areas < mostAreas)
-area-tests body soFar e = search told
+    (kind body : ℕ) (soFar : Counts) → areaDue kind body soFar ≡ true
+    → (body ≡ areaBodyOf kind) × (soFar .factors ≡ 0) × (soFar .stops ≡ 0) × (soFar .areas < mostAreas)
+area-tests kind body soFar e = search told
 
 pub factor-tests :
     (body : ℕ) (soFar : Counts) (due : ℕ) → factorDue body soFar due ≡ true → (body ≡ factorBody) × (soFar .stops ≡ 0) × (soFar .factors < due)
@@ -121,14 +161,14 @@ none-due soFar due e = (
 -- Each way through `areaEntry`, `factorEntry` and `stopEntry`.
 module _ (b : List ℕ) (at : ℕ) (soFar : Counts) (body : ℕ) where
   pub area-is-due :
-      {t : Bool} → areaDue body soFar ≡ true → areaRight b soFar (areaFields b at) ≡ t
-      → areaEntry b at soFar body ≡ cond t Area (Faulty 3)
+      (kind : ℕ) {t : Bool} → areaDue kind body soFar ≡ true → areaRight b soFar kind (areaFields b at) (longFields b at) ≡ t
+      → areaEntry b at soFar kind body ≡ cond t (Area kind) (Faulty 3)
   unfolding areaEntry
-  area-is-due tests right = rw (tests, right)
+  area-is-due kind tests right = rw (tests, right)
 
-  pub area-not-due : areaDue body soFar ≡ false → areaEntry b at soFar body ≡ Faulty 2
+  pub area-not-due : (kind : ℕ) → areaDue kind body soFar ≡ false → areaEntry b at soFar kind body ≡ Faulty 2
   unfolding areaEntry
-  area-not-due e = rw e
+  area-not-due kind e = rw e
 
   module _ (due : ℕ) (so-many : due ≡ factorsDue b soFar) where
     pub factor-is-due :
@@ -172,9 +212,9 @@ module _ (b : List ℕ) (at : ℕ) (soFar : Counts) where
       let facts = whole b at kind body e in
       lt-leb (length b) at (omega arith)
 
-  pub area-frame : (body : ℕ) → frameAt b at ≡ Whole 1 body → entryAt b at soFar ≡ areaEntry b at soFar body
+  pub area-frame : (kind body : ℕ) → isArea kind ≡ true → frameAt b at ≡ Whole kind body → entryAt b at soFar ≡ areaEntry b at soFar kind body
   unfolding entryAt
-  area-frame body e = rw (within 1 body e, e)
+  area-frame kind body is e = rw (within kind body e, e, is)
 
   pub factor-frame : (body : ℕ) → frameAt b at ≡ Whole 5 body → entryAt b at soFar ≡ factorEntry b at soFar body
   unfolding entryAt
@@ -185,30 +225,31 @@ module _ (b : List ℕ) (at : ℕ) (soFar : Counts) where
   stop-frame body e = rw (within 2 body e, e)
 
   pub other-frame :
-      (kind body : ℕ) → frameAt b at ≡ Whole kind body → (kind ≡ 1 → ⊥) → (kind ≡ 5 → ⊥) → (kind ≡ 2 → ⊥) → entryAt b at soFar ≡ Faulty 2
+      (kind body : ℕ) → frameAt b at ≡ Whole kind body → isArea kind ≡ false → (kind ≡ 5 → ⊥) → (kind ≡ 2 → ⊥) → entryAt b at soFar ≡ Faulty 2
   unfolding entryAt
-  other-frame kind body e not-one not-five not-two =
-      rw (within kind body e, e, ne-eqb kind 1 not-one, ne-eqb kind 5 not-five, ne-eqb kind 2 not-two)
+  other-frame kind body e no-kind not-five not-two =
+      rw (within kind body e, e, no-kind, ne-eqb kind 5 not-five, ne-eqb kind 2 not-two)
 
 -- Kind, body length, order and number, by the tests and by the rules' words.
 module _ (b : List ℕ) (at : ℕ) (soFar : Counts) where
-  area-in : (body : ℕ) → frameAt b at ≡ Whole 1 body → areaDue body soFar ≡ true → AreaInPlace b at soFar
-  area-in body frame due =
-      let (long, no-factor, no-stop, few) = area-tests body soFar due in
-      record { frame = rw long at frame; no-factor = no-factor; no-stop = no-stop; few = few }
+  area-in : (kind body : ℕ) → isArea kind ≡ true → frameAt b at ≡ Whole kind body → areaDue kind body soFar ≡ true → AreaInPlace b at soFar kind
+  area-in kind body is frame due =
+      let (long, no-factor, no-stop, few) = area-tests kind body soFar due in
+      record { kinds = area-kinds kind is; frame = rw long at frame; no-factor = no-factor; no-stop = no-stop; few = few }
 
-  area-holds : AreaInPlace b at soFar → areaDue areaBody soFar ≡ true
-  area-holds here =
+  area-holds : (kind : ℕ) → AreaInPlace b at soFar kind → areaDue kind (areaBodyOf kind) soFar ≡ true
+  area-holds kind here =
       rw (
+        eq-eqb (areaBodyOf kind) (areaBodyOf kind) refl,
         eq-eqb (soFar .factors) 0 (here .no-factor),
         eq-eqb (soFar .stops) 0 (here .no-stop),
         lt-ltb (soFar .areas) mostAreas (here .few),
       )
 
-  area-out : (body : ℕ) → frameAt b at ≡ Whole 1 body → areaDue body soFar ≡ false → AreaInPlace b at soFar → ⊥
-  area-out body frame not-due here =
-      let long : body ≡ areaBody = cc in
-      false≢true (sym not-due ∙ rw long (area-holds here))
+  area-out : (kind body : ℕ) → frameAt b at ≡ Whole kind body → areaDue kind body soFar ≡ false → AreaInPlace b at soFar kind → ⊥
+  area-out kind body frame not-due here =
+      let long : body ≡ areaBodyOf kind = cc in
+      false≢true (sym not-due ∙ rw long (area-holds kind here))
 
   factor-in : (body : ℕ) → frameAt b at ≡ Whole 5 body → factorDue body soFar (factorsDue b soFar) ≡ true → FactorInPlace b at soFar
   factor-in body frame due =
@@ -241,9 +282,13 @@ module _ (b : List ℕ) (at : ℕ) (soFar : Counts) where
       let long : body ≡ stopBody = cc in
       false≢true (sym not-due ∙ rw long (stop-holds here))
 
+-- what is an area's kind is no other
+not-that : (kind other : ℕ) → isArea kind ≡ true → isArea other ≡ false → kind ≡ other → ⊥
+not-that kind other is not e = false≢true (sym not ∙ rw e at is)
+
 -- a record of another kind is not in place
-other-area : (b : List ℕ) (at : ℕ) (soFar : Counts) (kind body : ℕ) → frameAt b at ≡ Whole kind body → (kind ≡ 1 → ⊥) → AreaInPlace b at soFar → ⊥
-other-area b at soFar kind body frame other here = other (cc)
+other-area : (b : List ℕ) (at : ℕ) (soFar : Counts) (kind : ℕ) → isArea kind ≡ false → AreaInPlace b at soFar kind → ⊥
+other-area b at soFar kind other here = false≢true (sym other ∙ kinds-area kind (here .kinds))
 
 other-factor : (b : List ℕ) (at : ℕ) (soFar : Counts) (kind body : ℕ) → frameAt b at ≡ Whole kind body → (kind ≡ 5 → ⊥) → FactorInPlace b at soFar → ⊥
 other-factor b at soFar kind body frame other here = other (cc)
@@ -275,28 +320,29 @@ answered P false right good whole-right value place = place refl
 -- What stands at a place, by the answer of `entryAt`.
 data Stands (b : List ℕ) (at : ℕ) (soFar : Counts) : Entry → Type 0 where
   over : length b ≤ at → 0 < soFar .areas → factorsDue b soFar ≤ soFar .factors → Stands b at soFar End
-  area : AreaEntry b at soFar → Stands b at soFar Area
+  area : {kind : ℕ} → AreaEntry b at soFar kind → Stands b at soFar (Area kind)
   factor : FactorEntry b at soFar → Stands b at soFar Factor
   stop : StopEntry b at soFar → Stands b at soFar Stop
   fault : {number : ℕ} → FaultSays b at soFar number → Stands b at soFar (Faulty number)
 
 module _ (b : List ℕ) (at : ℕ) (soFar : Counts) where
-  area-stands : (body : ℕ) → frameAt b at ≡ Whole 1 body → Stands b at soFar (areaEntry b at soFar body)
+  area-stands : (kind body : ℕ) → isArea kind ≡ true → frameAt b at ≡ Whole kind body → Stands b at soFar (areaEntry b at soFar kind body)
   unfolding areaEntry
-  area-stands body frame =
-      answered (Stands b at soFar) (areaDue body soFar) (areaRight b soFar (areaFields b at)) Area
+  area-stands kind body is frame =
+      answered (Stands b at soFar) (areaDue kind body soFar) (areaRight b soFar kind (areaFields b at) (longFields b at)) (Area kind)
       (λ due right.
-      let here = area-in b at soFar body frame due in
-      let facts = whole b at 1 areaBody (here .frame) in
-      area
-      (record { frame = here .frame; no-factor = here .no-factor; no-stop = here .no-stop; few = here .few; right = right; fits = omega arith }))
+      let here = area-in b at soFar kind body is frame due in
+      let facts = whole b at kind (areaBodyOf kind) (here .frame) in
+      area (record { here = here; kind-is = facts .kind-is; right = right; fits = omega (arith, facts, ap longOf (facts .kind-is)) }))
       (λ due false-value.
-      fault (three refl (area-value (area-in b at soFar body frame due) (area-wrong b soFar (areaFields b at) .0 false-value))))
+      fault
+      (three refl
+      (area-value (area-in b at soFar kind body is frame due) (area-wrong b soFar kind (areaFields b at) (longFields b at) .0 false-value))))
       (λ not-due.
       fault
       (two refl
-      (wrong 1 body frame (area-out b at soFar body frame not-due) (other-factor b at soFar 1 body frame (λ e. omega arith))
-      (other-stop b at soFar 1 body frame (λ e. omega arith)))))
+      (wrong kind body frame (area-out b at soFar kind body frame not-due)
+      (other-factor b at soFar kind body frame (not-that kind 5 is refl)) (other-stop b at soFar kind body frame (not-that kind 2 is refl)))))
 
   factor-stands : (body : ℕ) → frameAt b at ≡ Whole 5 body → Stands b at soFar (factorEntry b at soFar body)
   unfolding factorEntry
@@ -312,7 +358,7 @@ module _ (b : List ℕ) (at : ℕ) (soFar : Counts) where
       (λ not-due.
       fault
       (two refl
-      (wrong 5 body frame (other-area b at soFar 5 body frame (λ e. omega arith)) (factor-out b at soFar body frame not-due)
+      (wrong 5 body frame (other-area b at soFar 5 refl) (factor-out b at soFar body frame not-due)
       (other-stop b at soFar 5 body frame (λ e. omega arith)))))
 
   stop-stands : (body : ℕ) → frameAt b at ≡ Whole 2 body → Stands b at soFar (stopEntry b at soFar body)
@@ -328,7 +374,7 @@ module _ (b : List ℕ) (at : ℕ) (soFar : Counts) where
       (λ not-due.
       fault
       (two refl
-      (wrong 2 body frame (other-area b at soFar 2 body frame (λ e. omega arith)) (other-factor b at soFar 2 body frame (λ e. omega arith))
+      (wrong 2 body frame (other-area b at soFar 2 refl) (other-factor b at soFar 2 body frame (λ e. omega arith))
       (stop-out b at soFar body frame not-due))))
 
   stands : Stands b at soFar (entryAt b at soFar)
@@ -348,35 +394,27 @@ module _ (b : List ℕ) (at : ℕ) (soFar : Counts) where
       framed : at < length b → (f : Frame) → frameAt b at ≡ f → Stands b at soFar (entryAt b at soFar)
       framed inside Broken e =
           rw (broken-frame b at soFar inside e) (fault (one refl (record { going-on = inside; frame = e })))
-      framed inside (Whole kind body) e =
-          elim (ℕ-discrete kind 1) [
-            | yes is-one ↦
-                let e′ : frameAt b at ≡ Whole 1 body = cc in
-                rw (area-frame b at soFar body e′) (area-stands body e′)
-            | no not-one ↦
-                elim (ℕ-discrete kind 5) [
-                  | yes is-five ↦
-                      let e′ : frameAt b at ≡ Whole 5 body = cc in
-                      rw (factor-frame b at soFar body e′) (factor-stands body e′)
-                  | no not-five ↦
-                      elim (ℕ-discrete kind 2) [
-                        | yes is-two ↦
-                            let e′ : frameAt b at ≡ Whole 2 body = cc in
-                            rw (stop-frame b at soFar body e′) (stop-stands body e′)
-                        | no not-two ↦
-                            rw (other-frame b at soFar kind body e not-one not-five not-two)
-                            (fault
-                            (two refl
-                            (wrong kind body e (other-area b at soFar kind body e not-one) (other-factor b at soFar kind body e not-five)
-                            (other-stop b at soFar kind body e not-two))))
-                      ]
-                ]
-          ]
+      framed inside (Whole kind body) e = by-kind (kind-case kind)
+        where
+          by-kind : KindCase kind → Stands b at soFar (entryAt b at soFar)
+          by-kind (of-area is) = rw (area-frame b at soFar kind body is e) (area-stands kind body is e)
+          by-kind (of-factor is) =
+              let e′ : frameAt b at ≡ Whole 5 body = cc in
+              rw (factor-frame b at soFar body e′) (factor-stands body e′)
+          by-kind (of-stop is) =
+              let e′ : frameAt b at ≡ Whole 2 body = cc in
+              rw (stop-frame b at soFar body e′) (stop-stands body e′)
+          by-kind (of-none no-kind not-five not-two) =
+              rw (other-frame b at soFar kind body e no-kind not-five not-two)
+              (fault
+              (two refl
+              (wrong kind body e (other-area b at soFar kind no-kind) (other-factor b at soFar kind body e not-five)
+              (other-stop b at soFar kind body e not-two))))
 
-  pub area-entry : entryAt b at soFar ≡ Area → AreaEntry b at soFar
-  area-entry e = meant (rw e at stands)
+  pub area-entry : (kind : ℕ) → entryAt b at soFar ≡ Area kind → AreaEntry b at soFar kind
+  area-entry kind e = meant (rw e at stands)
     where
-      meant : Stands b at soFar Area → AreaEntry b at soFar
+      meant : Stands b at soFar (Area kind) → AreaEntry b at soFar kind
       meant (area facts) = facts
 
   pub factor-entry : entryAt b at soFar ≡ Factor → FactorEntry b at soFar
@@ -410,35 +448,28 @@ module _ (b : List ℕ) (at : ℕ) (soFar : Counts) where
       rw e (ended-early b at soFar (factorsDue b soFar) refl past (no-area-holds b at soFar past none))
   fault-given (two e (factor-due past fewer)) =
       rw e (ended-early b at soFar (factorsDue b soFar) refl past (factor-still-holds b at soFar past fewer))
-  fault-given (two e (wrong kind body frame not-area not-factor not-stop)) =
+  fault-given (two e (wrong kind body frame not-area not-factor not-stop)) = rw e (by-kind (kind-case kind))
+    where
+      by-kind : KindCase kind → entryAt b at soFar ≡ Faulty 2
+      by-kind (of-area is) =
+          area-frame b at soFar kind body is frame
+          ∙ area-not-due b at soFar body kind (refused (areaDue kind body soFar) (λ due. not-area (area-in b at soFar kind body is frame due)))
+      by-kind (of-factor is) =
+          let frame′ : frameAt b at ≡ Whole 5 body = cc in
+          factor-frame b at soFar body frame′
+          ∙ factor-not-due b at soFar body (factorsDue b soFar) refl
+          (refused (factorDue body soFar (factorsDue b soFar)) (λ due. not-factor (factor-in b at soFar body frame′ due)))
+      by-kind (of-stop is) =
+          let frame′ : frameAt b at ≡ Whole 2 body = cc in
+          stop-frame b at soFar body frame′
+          ∙ stop-not-due b at soFar body (factorsDue b soFar) refl
+          (refused (stopDue body soFar (factorsDue b soFar)) (λ due. not-stop (stop-in b at soFar body frame′ due)))
+      by-kind (of-none no-kind not-five not-two) = other-frame b at soFar kind body frame no-kind not-five not-two
+  fault-given (three e (area-value {kind} here value)) =
       rw e
-      (elim (ℕ-discrete kind 1) [
-        | yes is-one ↦
-            let frame′ : frameAt b at ≡ Whole 1 body = cc in
-            area-frame b at soFar body frame′
-            ∙ area-not-due b at soFar body (refused (areaDue body soFar) (λ due. not-area (area-in b at soFar body frame′ due)))
-        | no not-one ↦
-            elim (ℕ-discrete kind 5) [
-              | yes is-five ↦
-                  let frame′ : frameAt b at ≡ Whole 5 body = cc in
-                  factor-frame b at soFar body frame′
-                  ∙ factor-not-due b at soFar body (factorsDue b soFar) refl
-                  (refused (factorDue body soFar (factorsDue b soFar)) (λ due. not-factor (factor-in b at soFar body frame′ due)))
-              | no not-five ↦
-                  elim (ℕ-discrete kind 2) [
-                    | yes is-two ↦
-                        let frame′ : frameAt b at ≡ Whole 2 body = cc in
-                        stop-frame b at soFar body frame′
-                        ∙ stop-not-due b at soFar body (factorsDue b soFar) refl
-                        (refused (stopDue body soFar (factorsDue b soFar)) (λ due. not-stop (stop-in b at soFar body frame′ due)))
-                    | no not-two ↦ other-frame b at soFar kind body frame not-one not-five not-two
-                  ]
-            ]
-      ])
-  fault-given (three e (area-value here value)) =
-      rw e
-      (area-frame b at soFar areaBody (here .frame)
-      ∙ area-is-due b at soFar areaBody (area-holds b at soFar here) (area-wrong b soFar (areaFields b at) .1 value))
+      (area-frame b at soFar kind (areaBodyOf kind) (kinds-area kind (here .kinds)) (here .frame)
+      ∙ area-is-due b at soFar (areaBodyOf kind) kind (area-holds b at soFar kind here)
+      (area-wrong b soFar kind (areaFields b at) (longFields b at) .1 value))
   fault-given (three e (factor-value here value)) =
       rw e
       (factor-frame b at soFar factorBody (here .frame)

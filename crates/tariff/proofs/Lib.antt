@@ -1,3 +1,4 @@
+pub mod Places
 pub mod Wide
 pub mod WrongValues
 pub mod Entries

@@ -4,7 +4,8 @@
 use Prim.Native.Nat.{ℕ, zero, suc, _+_, _≤_, _<_}
 use native.Mathlib.Omega.{arith}
 use native.Mathlib.Numerals.{add-one}
-use mathlib.Core.Path.{_≡_, refl, _∙_}
+use native.Mathlib.Decide.{decLt}
+use mathlib.Core.Path.{_≡_, refl, sym, ap, _∙_}
 use mathlib.Core.List.{List}
 use borrow.Author.Count.{below-none, below-more}
 use lib.ListN.{length}
@@ -14,44 +15,55 @@ use Rattle.tariff.specs.declared.Reading.the-variants.{Fault, Faultless}
 use Rattle.tariff.specs.declared.scan.Entry.{Entry}
 use Rattle.tariff.specs.declared.scan.Entry.the-variants.{End, Area, Factor, Stop, Faulty}
 use Rattle.tariff.specs.Layout.{
-  areaSize,
+  longOf,
   factorSize,
   stopSize,
   mostStops,
   longestTariff,
+  kindAt,
+  areaEnd,
   areaPlace,
   factorPlace,
   stopPlace,
   areasBefore,
   factorsBefore,
   stopsBefore,
-  moreAreas,
+  oneArea,
   moreFactors,
   moreStops,
 }
-use Rattle.tariff.specs.Rules.{levelOf, factorsDue}
+use Rattle.tariff.specs.Rules.{levelOf, kindOf, factorsDue}
 use Rattle.tariff.specs.Scan.{entryAt, readFrom, readTariff, Passed, FirstFault}
+use Rattle.tariff.proofs.Places.{place-none, place-next, long-none, long-next, place-is, long-few, long-fewer}
+use Rattle.tariff.proofs.Values.{state-kind}
 use Rattle.tariff.proofs.Turns.{turn-end, turn-fault, turn-area, turn-factor, turn-stop}
 use Rattle.tariff.proofs.Entries.{area-entry, factor-entry, stop-entry, end-entry}
 use Rattle.tariff.proofs.Wide.{wide-most}
 
-pub passed-none : (b : List ℕ) → Passed b 0 (areasBefore 0)
+pub passed-none : (b : List ℕ) → Passed b 0 (areasBefore b 0)
 passed-none b =
     record {
-      reached = record { place = refl; inside = omega arith; few = omega arith };
+      reached = record { place = omega (arith, long-none b); inside = omega arith; few = omega arith; long = refl };
       area = below-none _;
       factor = below-none _;
       stop = below-none _;
     }
 
 module _ (b : List ℕ) (at : ℕ) (soFar : Counts) (p : Passed b at soFar) where
-  pub passed-area : entryAt b at soFar ≡ Area → Passed b (at + areaSize) (moreAreas soFar 1)
-  passed-area e =
-      let facts = area-entry b at soFar e in
-      let here : at ≡ areaPlace soFar (soFar .areas) = omega arith in
+  -- an area stands where those before it end
+  pub at-area : (kind : ℕ) → entryAt b at soFar ≡ Area kind → at ≡ areaPlace b (soFar .areas)
+  at-area kind e = let facts = area-entry b at soFar kind e in omega (arith, place-is b (soFar .areas))
+
+  pub passed-area : (kind : ℕ) → entryAt b at soFar ≡ Area kind → Passed b (areaEnd b at) (oneArea soFar kind)
+  passed-area kind e =
+      let facts = area-entry b at soFar kind e in
+      let here = at-area kind e in
+      let long : longOf kind ≡ longOf (kindAt b at) = ap longOf (facts .kind-is) in
+      let next : longOf (kindAt b at) ≡ longOf (kindAt b (areaPlace b (soFar .areas))) = ap (λ (place : ℕ). longOf (kindAt b place)) here in
       record {
-        reached = record { place = omega arith; inside = facts .fits; few = omega arith };
-        area = below-more _ _ (p .area) (rw (here, facts .no-factor, facts .no-stop) at e);
+        reached =
+            record { place = omega arith; inside = facts .fits; few = omega arith; long = omega (arith, long-next b (soFar .areas)) };
+        area = below-more _ _ (p .area) (rw (facts .kind-is, here, p .reached .long, facts .here .no-factor, facts .here .no-stop) at e);
         factor = λ k h. absurd (omega arith);
         stop = λ j h. absurd (omega arith);
       }
@@ -61,7 +73,7 @@ module _ (b : List ℕ) (at : ℕ) (soFar : Counts) (p : Passed b at soFar) wher
       let facts = factor-entry b at soFar e in
       let here : at ≡ factorPlace soFar (soFar .factors) = omega arith in
       record {
-        reached = record { place = omega arith; inside = facts .fits; few = p .reached .few };
+        reached = record { place = omega arith; inside = facts .fits; few = p .reached .few; long = p .reached .long };
         area = p .area;
         factor = below-more _ _ (p .factor) (rw (here, facts .no-stop) at e);
         stop = λ j h. absurd (omega arith);
@@ -71,7 +83,7 @@ module _ (b : List ℕ) (at : ℕ) (soFar : Counts) (p : Passed b at soFar) wher
   passed-stop e =
       let facts = stop-entry b at soFar e in
       record {
-        reached = record { place = omega arith; inside = facts .fits; few = p .reached .few };
+        reached = record { place = omega arith; inside = facts .fits; few = p .reached .few; long = p .reached .long };
         area = p .area;
         factor = p .factor;
         stop = below-more _ _ (p .stop) (rw (p .reached .place) at e);
@@ -82,9 +94,15 @@ most : (n bound : ℕ) → ((j : ℕ) → j < n → j < bound) → n ≤ bound
 most zero bound each = omega arith
 most (suc n) bound each = each n (omega arith)
 
--- At most so many factor records as are due and 1,000 stops go before a place, so it lies at 14,120 or before: where 32 areas with a factor
--- record each and 1,000 stops end.
+-- Not all areas are of kind 8, and at most so many factor records as are due and 1,000 stops go before a place, so it lies at 14,523 or
+-- before: where 32 areas, 31 of kind 8, with a factor record each and 1,000 stops end.
 module _ (b : List ℕ) (at : ℕ) (soFar : Counts) (p : Passed b at soFar) where
+  pub few-long : 0 < soFar .areas → soFar .long < soFar .areas
+  few-long some =
+      let first = area-entry b (areaPlace b 0) (areasBefore b 0) (kindOf b soFar 0) (p .area 0 some) in
+      let common = rw (place-none b) at (state-kind b soFar (first .right)) in
+      omega (arith, p .reached .long, long-fewer b common (soFar .areas) some)
+
   pub due-factors : soFar .factors ≤ factorsDue b soFar
   due-factors =
       most (soFar .factors) (factorsDue b soFar) (λ k h. factor-entry b (factorPlace soFar k) (factorsBefore soFar k) (p .factor k h) .few)
@@ -96,7 +114,12 @@ module _ (b : List ℕ) (at : ℕ) (soFar : Counts) (p : Passed b at soFar) wher
   few-stops = most (soFar .stops) mostStops (λ j h. stop-entry b (stopPlace soFar j) (stopsBefore soFar j) (p .stop j h) .few)
 
   pub early : at ≤ longestTariff
-  early = omega (arith, p .reached .place, p .reached .few, few-factors, few-stops)
+  early =
+      elim (decLt 0 (soFar .areas)) [
+        | yes some ↦ omega (arith, p .reached .place, p .reached .few, few-long some, few-factors, few-stops)
+        | no none ↦
+            omega (arith, p .reached .place, p .reached .few, p .reached .long, long-few b (soFar .areas), few-factors, few-stops)
+      ]
 
 -- The reading of the tariff comes to a place, with so many turns left and one more.
 record Comes (b : List ℕ) (at : ℕ) (soFar : Counts) : Type 0 where
@@ -117,44 +140,61 @@ past b at soFar next soFar′ on within turn c = go (c .turns) (c .same) (c .eno
 
 -- so many records of one sort stand one after another: the reading comes past all of them
 after-many :
-    (b : List ℕ) (size : ℕ) → 0 < size → (place : ℕ → ℕ) → ((n : ℕ) → place n + size ≡ place (suc n)) → (before : ℕ → Counts) (many : ℕ)
+    (b : List ℕ) (place : ℕ → ℕ) (before : ℕ → Counts) (many : ℕ)
+    → ((n : ℕ) → n < many
+    → (place n < place (n + 1))
+    × (place (n + 1) ≤ length b)
+    × ((turns : ℕ) → readFrom (suc turns) b (place n) (before n) ≡ readFrom turns b (place (n + 1)) (before (n + 1))))
+    → Comes b (place 0) (before 0) → Comes b (place many) (before many)
+after-many b place before zero each c = c
+after-many b place before (suc many) each c =
+    let (on, fits, turn) = each many (omega arith) in
+    rw (add-one many)
+    at (past b (place many) (before many) (place (many + 1)) (before (many + 1)) on fits turn
+    (after-many b place before many (λ n h. each n (omega arith)) c))
+
+-- all of one length
+after-equal :
+    (b : List ℕ) (size : ℕ) → 0 < size → (place : ℕ → ℕ) → ((n : ℕ) → place n + size ≡ place (n + 1)) → (before : ℕ → Counts) (many : ℕ)
     → ((n : ℕ) → n < many
     → (place n + size ≤ length b)
     × ((turns : ℕ) → readFrom (suc turns) b (place n) (before n) ≡ readFrom turns b (place n + size) (before (n + 1))))
     → Comes b (place 0) (before 0) → Comes b (place many) (before many)
-after-many b size some place next before zero each c = c
-after-many b size some place next before (suc many) each c =
-    let (fits, turn) = each many (omega arith) in
-    rw (next many, add-one many)
-    at (past b (place many) (before many) (place many + size) (before (many + 1)) (omega arith) fits turn
-    (after-many b size some place next before many (λ n h. each n (omega arith)) c))
+after-equal b size some place next before many each =
+    after-many b place before many
+    (λ n h. let (fits, turn) = each n h in let e = next n in (omega arith, omega arith, λ turns. rw e at (turn turns)))
 
-comes-first : (b : List ℕ) → Comes b 0 (areasBefore 0)
+comes-first : (b : List ℕ) → Comes b 0 (areasBefore b 0)
 unfolding readTariff
 comes-first b = record { turns = length b; same = refl; enough = omega arith }
 
 comes : (b : List ℕ) (at : ℕ) (soFar : Counts) → Passed b at soFar → Comes b at soFar
 comes b at soFar p =
     let areas =
-    after-many b areaSize (omega arith) (areaPlace soFar) (λ n. omega arith) areasBefore (soFar .areas)
+    after-many b (areaPlace b) (areasBefore b) (soFar .areas)
     (λ i h.
+    let kind = kindOf b soFar i in
     let is = p .area i h in
-    (area-entry b (areaPlace soFar i) (areasBefore i) is .fits, λ turns. turn-area turns b (areaPlace soFar i) (areasBefore i) is))
-    (comes-first b)
+    let facts = area-entry b (areaPlace b i) (areasBefore b i) kind is in (
+      omega (arith, place-next b i),
+      omega (arith, place-next b i),
+      λ turns. rw (place-next b i, long-next b i) (turn-area turns b (areaPlace b i) (areasBefore b i) kind is),
+    ))
+    (rw (place-none b) (comes-first b))
     in
-    let first-factor : areaPlace soFar (soFar .areas) ≡ factorPlace soFar 0 = omega arith in
+    let first-factor : areaPlace b (soFar .areas) ≡ factorPlace soFar 0 = omega (arith, place-is b (soFar .areas), p .reached .long) in
     let factors =
-    after-many b factorSize (omega arith) (factorPlace soFar) (λ n. omega arith) (factorsBefore soFar) (soFar .factors)
+    after-equal b factorSize (omega arith) (factorPlace soFar) (λ n. omega arith) (factorsBefore soFar) (soFar .factors)
     (λ k h.
     let is = p .factor k h in (
       factor-entry b (factorPlace soFar k) (factorsBefore soFar k) is .fits,
       λ turns. turn-factor turns b (factorPlace soFar k) (factorsBefore soFar k) is,
     ))
-    (rw first-factor at areas)
+    (rw (first-factor, sym (p .reached .long)) at areas)
     in
     let first-stop : factorPlace soFar (soFar .factors) ≡ stopPlace soFar 0 = omega arith in
     rw (p .reached .place)
-    (after-many b stopSize (omega arith) (stopPlace soFar) (λ n. omega arith) (stopsBefore soFar) (soFar .stops)
+    (after-equal b stopSize (omega arith) (stopPlace soFar) (λ n. omega arith) (stopsBefore soFar) (soFar .stops)
     (λ j h.
     let is = p .stop j h in
     (stop-entry b (stopPlace soFar j) (stopsBefore soFar j) is .fits, λ turns. turn-stop turns b (stopPlace soFar j) (stopsBefore soFar j) is))
@@ -188,10 +228,10 @@ reads (suc turns) b at soFar p enough = go (reads turns b) (entryAt b at soFar) 
         ((at′ : ℕ) (soFar′ : Counts) → Passed b at′ soFar′ → length b < at′ + turns → Ends b (readFrom turns b at′ soFar′))
         → (entry : Entry) → entryAt b at soFar ≡ entry → Ends b (readFrom (suc turns) b at soFar)
     go on End is = rw (turn-end turns b at soFar is) (finish at p is)
-    go on Area is =
-        let facts = area-entry b at soFar is in
-        rw (turn-area turns b at soFar is)
-        (on (at + areaSize) (moreAreas soFar 1) (passed-area b at soFar p is) (omega arith))
+    go on (Area kind) is =
+        let facts = area-entry b at soFar kind is in
+        rw (turn-area turns b at soFar kind is)
+        (on (areaEnd b at) (oneArea soFar kind) (passed-area b at soFar p kind is) (omega arith))
     go on Factor is =
         let facts = factor-entry b at soFar is in
         rw (turn-factor turns b at soFar is)
@@ -205,7 +245,7 @@ reads (suc turns) b at soFar p enough = go (reads turns b) (entryAt b at soFar) 
 
 pub ends : (b : List ℕ) → Ends b (readTariff b)
 unfolding readTariff
-ends b = reads (suc (length b)) b 0 (areasBefore 0) (passed-none b) (omega arith)
+ends b = reads (suc (length b)) b 0 (areasBefore b 0) (passed-none b) (omega arith)
 
 -- The counts are given at the tariff's end, every record before it faultless, an area among them, and each factor record that is due.
 pub finished :

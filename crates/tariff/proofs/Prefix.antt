@@ -1,9 +1,9 @@
--- The first 15,146 bytes of a tariff decide what reading it comes to: 32 areas with a factor record each, 1,000 stops, and the frame of one
--- record too many.
+-- The first 15,549 bytes of a tariff decide what reading it comes to: 32 areas, 31 of kind 8, with a factor record each, 1,000 stops, and the
+-- frame of one record too many.
 -- Assumes nothing.
-use Prim.Native.Nat.{ℕ, _+_, _*_, _≤_}
+use Prim.Native.Nat.{ℕ, zero, suc, _+_, _*_, _≤_, _<_}
 use native.Mathlib.Omega.{arith}
-use native.Mathlib.Decide.{ℕ-discrete, decLt}
+use native.Mathlib.Decide.{decLt}
 use mathlib.Core.Path.{_≡_, refl, sym, ap, _∙_}
 use mathlib.Core.List.{List}
 use borrow.Author.Tests.{le-ltb}
@@ -19,21 +19,38 @@ use Rattle.tariff.specs.declared.fields.AreaFields.{AreaFields}
 use Rattle.tariff.specs.declared.Reading.{Reading}
 use Rattle.tariff.specs.Layout.{
   areaSize,
+  longMore,
   factorSize,
   stopSize,
   mostAreas,
   decidingBytes,
+  kindAt,
   areaPlace,
+  longAreas,
   factorPlace,
   stopPlace,
   areasBefore,
   factorsBefore,
   stopsBefore,
 }
-use Rattle.tariff.specs.Fields.{areaFields, factorFields, stopFields}
-use Rattle.tariff.specs.Rules.{placeRight, levelOf, flatOf, factorsDue}
+use Rattle.tariff.specs.Fields.{areaFields, longFields, factorFields, stopFields}
+use Rattle.tariff.specs.Rules.{placeRight, levelOf, flatOf, kindOf, factorsDue}
 use Rattle.tariff.specs.Scan.{areaEntry, factorEntry, stopEntry, entryAt, readTariff, Passed}
-use Rattle.tariff.proofs.Entries.{broken-frame, area-frame, factor-frame, stop-frame, other-frame, end-entry}
+use Rattle.tariff.proofs.Entries.{
+  KindCase,
+  of-area,
+  of-factor,
+  of-stop,
+  of-none,
+  kind-case,
+  broken-frame,
+  area-frame,
+  factor-frame,
+  stop-frame,
+  other-frame,
+  end-entry,
+}
+use Rattle.tariff.proofs.Places.{place-is, long-few}
 use Rattle.tariff.proofs.Wide.{wide-same}
 use Rattle.tariff.proofs.Passed.{Ends, fault, finish, ends, at-fault, few-factors, few-stops, early}
 
@@ -64,6 +81,19 @@ module _ (n : ℕ) (b : List ℕ) (there : n ≤ length b) where
         get-take 2 n b (at + 27) (omega arith),
       )
 
+  first-long : (at : ℕ) → at + (areaSize + longMore) ≤ n → longFields (take n b) at ≡ longFields b at
+  unfolding longFields
+  first-long at fits =
+      rw (
+        get-take 2 n b (at + 29) (omega arith),
+        get-take 2 n b (at + 31) (omega arith),
+        get-take 2 n b (at + 33) (omega arith),
+        get-take 2 n b (at + 35) (omega arith),
+        get-take 2 n b (at + 37) (omega arith),
+        get-take 2 n b (at + 39) (omega arith),
+        get-take 1 n b (at + 41) (omega arith),
+      )
+
   first-factor : (at : ℕ) → at + factorSize ≤ n → factorFields (take n b) at ≡ factorFields b at
   unfolding factorFields
   first-factor at fits = rw (get-take 1 n b (at + 4) (omega arith), get-take 1 n b (at + 5) (omega arith))
@@ -77,36 +107,61 @@ module _ (n : ℕ) (b : List ℕ) (there : n ≤ length b) where
         get-take 4 n b (at + 9) (omega arith),
       )
 
-  -- the parent is looked at only where it is an earlier area
-  first-place : (soFar : Counts) (f : AreaFields) → soFar .areas ≤ mostAreas → areaSize * mostAreas ≤ n → placeRight (take n b) soFar f ≡ placeRight b soFar f
-  unfolding placeRight
-  first-place soFar f few wide =
-      elim (decLt (f .parent) (soFar .areas)) [
-        | yes earlier ↦
-            let parent = first-area (areaPlace soFar (f .parent)) (omega arith) in
-            let level : levelOf (take n b) soFar (f .parent) ≡ levelOf b soFar (f .parent) = ap (λ (g : AreaFields). g .level) parent in
-            let flat : flatOf (take n b) soFar (f .parent) ≡ flatOf b soFar (f .parent) = ap (λ (g : AreaFields). g .«bicycle_flat») parent in
-            rw (level, flat)
-        | no later ↦ rw (le-ltb (f .parent) (soFar .areas) (omega arith))
-      ]
+  -- the areas stand at the same places, with the same fields and kinds
+  module _ (wide : (areaSize + longMore) * mostAreas ≤ n) where
+    first-kind : (i : ℕ) → i < mostAreas → kindAt (take n b) (areaPlace b i) ≡ kindAt b (areaPlace b i)
+    first-kind i few = get-take 2 n b (areaPlace b i + 2) (omega (arith, place-is b i, long-few b i))
 
-  first-due : (soFar : Counts) → soFar .areas ≤ mostAreas → areaSize * mostAreas ≤ n → factorsDue (take n b) soFar ≡ factorsDue b soFar
-  first-due soFar few wide =
-      wide-same (levelOf (take n b) soFar) (levelOf b soFar) (soFar .areas)
-      (λ i h. ap (λ (g : AreaFields). g .level) (first-area (areaPlace soFar i) (omega arith)))
+    first-places : (i : ℕ) → i ≤ mostAreas → areaPlace (take n b) i ≡ areaPlace b i
+    unfolding areaPlace
+    first-places zero few = refl
+    first-places (suc i) few = rw (first-places i (omega arith), first-kind i few)
 
-  module _ (at : ℕ) (soFar : Counts) (fits : at + longestRecord ≤ n) (few : soFar .areas ≤ mostAreas) (wide : areaSize * mostAreas ≤ n) where
-    first-area-entry : (body : ℕ) → areaEntry (take n b) at soFar body ≡ areaEntry b at soFar body
+    first-longs : (i : ℕ) → i ≤ mostAreas → longAreas (take n b) i ≡ longAreas b i
+    unfolding longAreas
+    first-longs zero few = refl
+    first-longs (suc i) few = rw (first-longs i (omega arith), first-places i (omega arith), first-kind i few)
+
+    first-fields : (i : ℕ) → i < mostAreas → areaFields (take n b) (areaPlace (take n b) i) ≡ areaFields b (areaPlace b i)
+    first-fields i few =
+        rw (first-places i (omega arith)) (first-area (areaPlace b i) (omega (arith, place-is b i, long-few b i)))
+
+    -- the parent is looked at only where it is an earlier area
+    first-place :
+        (soFar : Counts) (kind : ℕ) (f : AreaFields) → soFar .areas ≤ mostAreas → placeRight (take n b) soFar kind f ≡ placeRight b soFar kind f
+    unfolding placeRight
+    first-place soFar kind f few =
+        elim (decLt (f .parent) (soFar .areas)) [
+          | yes earlier ↦
+              let there : f .parent < mostAreas = omega arith in
+              let parent = first-fields (f .parent) there in
+              let level : levelOf (take n b) soFar (f .parent) ≡ levelOf b soFar (f .parent) = ap (λ (g : AreaFields). g .level) parent in
+              let flat : flatOf (take n b) soFar (f .parent) ≡ flatOf b soFar (f .parent) = ap (λ (g : AreaFields). g .«bicycle_flat») parent in
+              let kinds : kindOf (take n b) soFar (f .parent) ≡ kindOf b soFar (f .parent) =
+              rw (first-places (f .parent) (omega arith)) (first-kind (f .parent) there)
+              in
+              rw (level, flat, kinds)
+          | no later ↦ rw (le-ltb (f .parent) (soFar .areas) (omega arith))
+        ]
+
+    first-due : (soFar : Counts) → soFar .areas ≤ mostAreas → factorsDue (take n b) soFar ≡ factorsDue b soFar
+    first-due soFar few =
+        wide-same (levelOf (take n b) soFar) (levelOf b soFar) (soFar .areas)
+        (λ i h. ap (λ (g : AreaFields). g .level) (first-fields i (omega arith)))
+
+  module _ (at : ℕ) (soFar : Counts) (fits : at + longestRecord ≤ n) (few : soFar .areas ≤ mostAreas) (wide : (areaSize + longMore) * mostAreas ≤ n) where
+    first-area-entry : (kind body : ℕ) → areaEntry (take n b) at soFar kind body ≡ areaEntry b at soFar kind body
     unfolding areaEntry
-    first-area-entry body = rw (first-area at (omega arith), first-place soFar (areaFields b at) few wide)
+    first-area-entry kind body =
+        rw (first-area at (omega arith), first-long at (omega arith), first-place wide soFar kind (areaFields b at) few)
 
     first-factor-entry : (body : ℕ) → factorEntry (take n b) at soFar body ≡ factorEntry b at soFar body
     unfolding factorEntry
-    first-factor-entry body = rw (first-factor at (omega arith), first-due soFar few wide)
+    first-factor-entry body = rw (first-factor at (omega arith), first-due wide soFar few)
 
     first-stop-entry : (body : ℕ) → stopEntry (take n b) at soFar body ≡ stopEntry b at soFar body
     unfolding stopEntry
-    first-stop-entry body = rw (first-stop at (omega arith), first-due soFar few wide)
+    first-stop-entry body = rw (first-stop at (omega arith), first-due wide soFar few)
 
     first-entry : entryAt (take n b) at soFar ≡ entryAt b at soFar
     first-entry = go (frameAt b at) refl
@@ -115,30 +170,23 @@ module _ (n : ℕ) (b : List ℕ) (there : n ≤ length b) where
         go Broken e =
             broken-frame (take n b) at soFar (omega (arith, first-length)) (frame-take n b at there fits ∙ e)
             ∙ sym (broken-frame b at soFar (omega arith) e)
-        go (Whole kind body) e =
-            elim (ℕ-discrete kind 1) [
-              | yes is-one ↦
-                  let e′ : frameAt b at ≡ Whole 1 body = cc in
-                  area-frame (take n b) at soFar body (frame-take n b at there fits ∙ e′) ∙ first-area-entry body
-                  ∙ sym (area-frame b at soFar body e′)
-              | no not-one ↦
-                  elim (ℕ-discrete kind 5) [
-                    | yes is-five ↦
-                        let e′ : frameAt b at ≡ Whole 5 body = cc in
-                        factor-frame (take n b) at soFar body (frame-take n b at there fits ∙ e′) ∙ first-factor-entry body
-                        ∙ sym (factor-frame b at soFar body e′)
-                    | no not-five ↦
-                        elim (ℕ-discrete kind 2) [
-                          | yes is-two ↦
-                              let e′ : frameAt b at ≡ Whole 2 body = cc in
-                              stop-frame (take n b) at soFar body (frame-take n b at there fits ∙ e′) ∙ first-stop-entry body
-                              ∙ sym (stop-frame b at soFar body e′)
-                          | no not-two ↦
-                              other-frame (take n b) at soFar kind body (frame-take n b at there fits ∙ e) not-one not-five not-two
-                              ∙ sym (other-frame b at soFar kind body e not-one not-five not-two)
-                        ]
-                  ]
-            ]
+        go (Whole kind body) e = by-kind (kind-case kind)
+          where
+            by-kind : KindCase kind → entryAt (take n b) at soFar ≡ entryAt b at soFar
+            by-kind (of-area is) =
+                area-frame (take n b) at soFar kind body is (frame-take n b at there fits ∙ e) ∙ first-area-entry kind body
+                ∙ sym (area-frame b at soFar kind body is e)
+            by-kind (of-factor is) =
+                let e′ : frameAt b at ≡ Whole 5 body = cc in
+                factor-frame (take n b) at soFar body (frame-take n b at there fits ∙ e′) ∙ first-factor-entry body
+                ∙ sym (factor-frame b at soFar body e′)
+            by-kind (of-stop is) =
+                let e′ : frameAt b at ≡ Whole 2 body = cc in
+                stop-frame (take n b) at soFar body (frame-take n b at there fits ∙ e′) ∙ first-stop-entry body
+                ∙ sym (stop-frame b at soFar body e′)
+            by-kind (of-none no-kind not-five not-two) =
+                other-frame (take n b) at soFar kind body (frame-take n b at there fits ∙ e) no-kind not-five not-two
+                ∙ sym (other-frame b at soFar kind body e no-kind not-five not-two)
 
 -- ---- The places that faultless records reach lie early enough.
 
@@ -148,9 +196,23 @@ module _ (n : ℕ) (b : List ℕ) (there : n ≤ length b) (wide : decidingBytes
       let few = p .reached .few in
       let few-of = few-stops b at soFar p in
       let few-between = few-factors b at soFar p in
+      let few-longs : soFar .long ≤ soFar .areas = omega (arith, p .reached .long, long-few b (soFar .areas)) in
       record {
-        reached = record { place = p .reached .place; inside = omega (arith, first-length n b there, early b at soFar p); few = few };
-        area = λ i h. first-entry n b there (areaPlace soFar i) (areasBefore i) (omega arith) (omega arith) (omega arith) ∙ p .area i h;
+        reached =
+            record {
+              place = p .reached .place;
+              inside = omega (arith, first-length n b there, early b at soFar p);
+              few = few;
+              long = p .reached .long ∙ sym (first-longs n b there (omega arith) (soFar .areas) few);
+            };
+        area = λ i h.
+            rw (
+              first-places n b there (omega arith) i (omega arith),
+              first-longs n b there (omega arith) i (omega arith),
+              first-kind n b there (omega arith) i (omega arith),
+            )
+            (first-entry n b there (areaPlace b i) (areasBefore b i) (omega (arith, place-is b i, long-few b i)) (omega arith) (omega arith)
+            ∙ p .area i h);
         factor = λ k h. first-entry n b there (factorPlace soFar k) (factorsBefore soFar k) (omega arith) few (omega arith) ∙ p .factor k h;
         stop = λ j h. first-entry n b there (stopPlace soFar j) (stopsBefore soFar j) (omega arith) few (omega arith) ∙ p .stop j h;
       }

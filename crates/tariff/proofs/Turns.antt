@@ -6,7 +6,7 @@ use mathlib.Core.List.{List}
 use Rattle.tariff.specs.declared.Counts.{Counts}
 use Rattle.tariff.specs.declared.Reading.the-variants.{Fault, Faultless}
 use Rattle.tariff.specs.declared.scan.Entry.the-variants.{End, Area, Factor, Stop, Faulty}
-use Rattle.tariff.specs.Layout.{areaSize, factorSize, stopSize, moreAreas, moreFactors, moreStops}
+use Rattle.tariff.specs.Layout.{factorSize, stopSize, areaEnd, oneArea, moreFactors, moreStops}
 use Rattle.tariff.specs.Scan.{entryAt, readFrom}
 
 module _ (turns : ℕ) (b : List ℕ) (at : ℕ) (soFar : Counts) where
@@ -18,9 +18,10 @@ module _ (turns : ℕ) (b : List ℕ) (at : ℕ) (soFar : Counts) where
   unfolding readFrom
   turn-fault number e = rw (e, readFrom)
 
-  pub turn-area : entryAt b at soFar ≡ Area → readFrom (suc turns) b at soFar ≡ readFrom turns b (at + areaSize) (moreAreas soFar 1)
+  pub turn-area :
+      (kind : ℕ) → entryAt b at soFar ≡ Area kind → readFrom (suc turns) b at soFar ≡ readFrom turns b (areaEnd b at) (oneArea soFar kind)
   unfolding readFrom
-  turn-area e = rw (e, readFrom)
+  turn-area kind e = rw (e, readFrom)
 
   pub turn-factor : entryAt b at soFar ≡ Factor → readFrom (suc turns) b at soFar ≡ readFrom turns b (at + factorSize) (moreFactors soFar 1)
   unfolding readFrom

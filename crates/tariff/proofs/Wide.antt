@@ -5,13 +5,19 @@ use native.Mathlib.Omega.{arith}
 use native.Mathlib.Numerals.{add-one}
 use native.Mathlib.Decide.{decLt}
 use mathlib.Core.Path.{_≡_, refl}
+use mathlib.Core.Bool.{cond}
 use borrow.Author.Tests.{lt-ltb, le-ltb}
+use lib.Dec.{ltb}
 use Rattle.tariff.specs.Rules.{wideAmong}
 
 module _ (level : ℕ → ℕ) where
   pub wide-none : wideAmong level 0 ≡ 0
   unfolding wideAmong
   wide-none = refl
+
+  pub wide-next : (n : ℕ) → wideAmong level (n + 1) ≡ wideAmong level n + cond (ltb (level n) 2) 1 0
+  unfolding wideAmong
+  wide-next n = rw (add-one n)
 
   -- the state or a region counts; a city does not
   pub wide-more : (n : ℕ) → level n < 2 → wideAmong level (n + 1) ≡ wideAmong level n + 1

@@ -3,15 +3,37 @@
 -- Assumes nothing.
 use Prim.Native.Nat.{ℕ, zero, suc, _-_, _≤_, _<_}
 use native.Mathlib.Omega.{arith}
+use native.Mathlib.Decide.{ℕ-discrete}
 use mathlib.Core.Path.{_≡_, refl, sym, ap, subst, _∙_}
+use mathlib.Core.Logic.{⊎-elim}
 use mathlib.Core.Bool.{Bool, true, false, _||_, false≢true}
 use mathlib.Core.List.{List}
-use borrow.Author.Tests.{eqb-true, eq-eqb}
+use borrow.Author.Tests.{eqb-true, eqb-false, eq-eqb}
 use lib.Dec.{eqb}
 use Rattle.caps.specs.Tree.{foldUp, among}
 use Rattle.tariff.specs.declared.Counts.{Counts}
-use Rattle.tariff.specs.Rules.{levelOf, flatOf}
-use Rattle.tariff.specs.Areas.{areaOf, areaAt, parentOf, liesWithin, smallestOf, Smallest, AreaRank, state, region, city, FaultlessTariff}
+use Rattle.tariff.specs.declared.Kind.the-variants.{Common, Aachen}
+use Rattle.tariff.specs.Layout.{commonKind, aachenKind, areaPlace}
+use Rattle.tariff.specs.Fields.{areaFields, longFields}
+use Rattle.tariff.specs.Rules.{levelOf, flatOf, kindOf}
+use Rattle.tariff.specs.Areas.{
+  childTicketOf,
+  kindWith,
+  areaOf,
+  areaAt,
+  parentOf,
+  isAachen,
+  bicyclePriceOf,
+  townAt,
+  liesWithin,
+  smallestOf,
+  Smallest,
+  AreaRank,
+  state,
+  region,
+  city,
+  FaultlessTariff,
+}
 use Rattle.wire.proofs.Tests.{one-of-three, second-holds, third-holds}
 
 -- Level, parent and flat of an area are those of its record.
@@ -27,6 +49,19 @@ module _ (b : List ℕ) (counts : Counts) (a : ℕ) where
   pub area-flat : areaAt b counts a .«bicycle_flat» .0 ≡ flatOf b counts a
   unfolding areaAt areaOf
   area-flat = refl
+
+  -- so is its kind: kind 1, or kind 8 with its tickets, its bicycle price and its town mark
+  pub area-common : isAachen b counts a ≡ false → areaAt b counts a .kind ≡ Common
+  unfolding areaAt areaOf kindWith
+  area-common other = rw other
+
+  pub area-aachen :
+      isAachen b counts a ≡ true
+      → areaAt b counts a .kind
+      ≡ Aachen (childTicketOf (areaFields b (areaPlace b a)) (longFields b (areaPlace b a))) (record { 0 = bicyclePriceOf b counts a })
+      (townAt b counts a)
+  unfolding areaAt areaOf kindWith townAt
+  area-aachen is = rw is
 
 -- An area lies within itself, within its parent, and within its parent's parent; and within no other.
 module _ (b : List ℕ) (counts : Counts) (a c : ℕ) where
@@ -68,48 +103,56 @@ pub record Above (b : List ℕ) (counts : Counts) (a : ℕ) : Type 0 where
   pub state-parent : a ≡ 0 → parentOf b counts a ≡ 0
   pub earlier : 0 < a → parentOf b counts a < a
   pub level-up : levelOf b counts (parentOf b counts a) ≡ levelOf b counts a - 1
-  pub flat-up : flatOf b counts a ≤ flatOf b counts (parentOf b counts a)
+  pub kind-up : levelOf b counts a ≡ 2 → kindOf b counts (parentOf b counts a) ≡ kindOf b counts a
+  pub flat-up : kindOf b counts (parentOf b counts a) ≡ kindOf b counts a → flatOf b counts a ≤ flatOf b counts (parentOf b counts a)
 
-state-level : (b : List ℕ) (counts : Counts) → AreaRank b counts 0 → levelOf b counts 0 ≡ 0
+state-first : (b : List ℕ) (counts : Counts) → AreaRank b counts 0 → (levelOf b counts 0 ≡ 0) × (kindOf b counts 0 ≡ commonKind)
 unfolding areaAt areaOf
-state-level b counts (state is level parent) = level
-state-level b counts (region some level parent flat) = absurd (omega arith)
-state-level b counts (city r some earlier level parent above flat) = absurd (omega arith)
+state-first b counts (state is level parent kind) = (level, kind)
+state-first b counts (region some level parent flat) = absurd (omega arith)
+state-first b counts (city r some earlier level parent above kind flat) = absurd (omega arith)
 
-ranked : (b : List ℕ) (counts : Counts) (a : ℕ) → levelOf b counts 0 ≡ 0 → AreaRank b counts a → Above b counts a
+ranked : (b : List ℕ) (counts : Counts) (a : ℕ) → levelOf b counts 0 ≡ 0 → kindOf b counts 0 ≡ commonKind → AreaRank b counts a → Above b counts a
 unfolding areaAt areaOf
-ranked b counts a top (state is level parent) =
+ranked b counts a top common (state is level parent kind) =
     record {
       level = omega arith;
       state-only = λ _. is;
       state-parent = λ _. parent;
       earlier = λ some. absurd (omega arith);
       level-up = omega (arith, ap (levelOf b counts) parent);
-      flat-up = omega (arith, ap (flatOf b counts) is, ap (flatOf b counts) parent);
+      kind-up = λ high. absurd (omega arith);
+      flat-up = λ _. omega (arith, ap (flatOf b counts) is, ap (flatOf b counts) parent);
     }
-ranked b counts a top (region some level parent flat) =
+ranked b counts a top common (region some level parent flat) =
     record {
       level = omega arith;
       state-only = λ zero-level. absurd (omega arith);
       state-parent = λ _. parent;
       earlier = λ _. omega arith;
       level-up = omega (arith, ap (levelOf b counts) parent);
-      flat-up = omega (arith, ap (flatOf b counts) parent);
+      kind-up = λ high. absurd (omega arith);
+      flat-up = λ same. omega (arith, flat (omega (arith, ap (kindOf b counts) parent)), ap (flatOf b counts) parent);
     }
-ranked b counts a top (city r some earlier level parent above flat) =
+ranked b counts a top common (city r some earlier level parent above kind flat) =
     record {
       level = omega arith;
       state-only = λ zero-level. absurd (omega arith);
       state-parent = λ is. absurd (omega arith);
       earlier = λ _. omega arith;
       level-up = omega (arith, ap (levelOf b counts) parent);
-      flat-up = omega (arith, ap (flatOf b counts) parent);
+      kind-up = λ _. omega (arith, ap (kindOf b counts) parent);
+      flat-up = λ _. omega (arith, ap (flatOf b counts) parent);
     }
 
 -- In a faultless tariff:
 module _ {b : List ℕ} {counts : Counts} (t : FaultlessTariff b counts) where
   pub above-of : (a : ℕ) → a < counts .areas → Above b counts a
-  above-of a h = ranked b counts a (state-level b counts (t .rank 0 (t .some))) (t .rank a h)
+  above-of a h = let (level, kind) = state-first b counts (t .rank 0 (t .some)) in ranked b counts a level kind (t .rank a h)
+
+  -- the state is of kind 1
+  pub state-common : kindOf b counts 0 ≡ commonKind
+  state-common = state-first b counts (t .rank 0 (t .some)) .1
 
   pub parent-most : (a : ℕ) → a < counts .areas → parentOf b counts a ≤ a
   parent-most zero h = omega (arith, above-of zero h .state-parent refl)
@@ -150,13 +193,41 @@ module _ {b : List ℕ} {counts : Counts} (t : FaultlessTariff b counts) where
   pub within-antisym : (a c : ℕ) → a < counts .areas → c < counts .areas → liesWithin b counts a c ≡ true → liesWithin b counts c a ≡ true → a ≡ c
   within-antisym a c h h′ e e′ = omega (arith, within-most a c h e, within-most c a h′ e′)
 
-  -- no flat exceeds that of an area around it
-  pub flat-within : (a c : ℕ) → a < counts .areas → liesWithin b counts a c ≡ true → flatOf b counts a ≤ flatOf b counts c
-  flat-within a c h e =
+  -- an area that is not of kind 8 is of kind 1
+  pub common-kind : (a : ℕ) → a < counts .areas → isAachen b counts a ≡ false → kindOf b counts a ≡ commonKind
+  common-kind a h other = ⊎-elim (λ is. is) (λ is. absurd (eqb-false (kindOf b counts a) aachenKind other is)) (t .kind a h)
+
+  -- a region and the cities in it have one kind
+  pub kind-within : (a c : ℕ) → a < counts .areas → 0 < c → liesWithin b counts a c ≡ true → kindOf b counts c ≡ kindOf b counts a
+  kind-within a c h some e =
       let one = above-of a h in
       let two = above-of (parentOf b counts a) (parent-there a h) in
-      within-cases b counts a c e (λ is. omega (arith, ap (flatOf b counts) is)) (λ is. omega (arith, ap (flatOf b counts) is))
-      (λ is. omega (arith, ap (flatOf b counts) is))
+      within-cases b counts a c e (λ is. sym (ap (kindOf b counts) is))
+      (λ is.
+      elim (ℕ-discrete (levelOf b counts a) 2) [
+        | yes high ↦ sym (ap (kindOf b counts) is) ∙ one .kind-up high
+        | no wide ↦ absurd (omega (arith, two .state-only (omega arith)))
+      ])
+      (λ is. absurd (omega (arith, parent-top a h)))
+
+  -- no flat exceeds that of an area of its own kind around it
+  pub flat-within :
+      (a c : ℕ) → a < counts .areas → kindOf b counts c ≡ kindOf b counts a → liesWithin b counts a c ≡ true → flatOf b counts a ≤ flatOf b counts c
+  flat-within a c h same e =
+      let one = above-of a h in
+      let two = above-of (parentOf b counts a) (parent-there a h) in
+      within-cases b counts a c e (λ is. omega (arith, ap (flatOf b counts) is))
+      (λ is. omega (arith, ap (flatOf b counts) is, one .flat-up (ap (kindOf b counts) is ∙ same)))
+      (λ is.
+      let between : kindOf b counts (parentOf b counts a) ≡ kindOf b counts a =
+      elim (ℕ-discrete (levelOf b counts a) 2) [
+        | yes high ↦ one .kind-up high
+        | no wide ↦
+            let up : parentOf b counts a ≡ c = omega (arith, two .state-only (omega arith), parent-top a h) in
+            ap (kindOf b counts) up ∙ same
+      ]
+      in
+      omega (arith, ap (flatOf b counts) is, one .flat-up between, two .flat-up (ap (kindOf b counts) is ∙ same ∙ sym between)))
 
   -- The smallest area containing two, by where the walk up from the first meets one that contains the second.
   module _ (a c : ℕ) (h : a < counts .areas) where

@@ -5,14 +5,16 @@ use native.Mathlib.Omega.{arith}
 use native.Mathlib.Decide.{ℕ-discrete, decLt}
 use mathlib.Core.Path.{_≡_, refl, sym}
 use mathlib.Core.Logic.{_↔_, _⊎_, inl, inr, ⊎-elim}
-use mathlib.Core.Bool.{Bool, true, false, _&&_, _||_, false≢true}
+use mathlib.Core.Bool.{Bool, true, false, cond, _&&_, _||_, false≢true}
 use mathlib.Core.List.{List, [], _∷_}
 use borrow.Author.Tests.{leb-false, lt-leb, ltb-false, le-ltb, eqb-false, ne-eqb, eq-eqb}
 use lib.Dec.{leb, ltb, eqb}
 use Rattle.tariff.specs.declared.Counts.{Counts}
 use Rattle.tariff.specs.declared.Factor.{Factor}
 use Rattle.tariff.specs.declared.fields.AreaFields.{AreaFields}
+use Rattle.tariff.specs.declared.fields.LongFields.{LongFields}
 use Rattle.tariff.specs.declared.fields.StopFields.{StopFields}
+use Rattle.tariff.specs.Layout.{commonKind, aachenKind}
 use Rattle.tariff.specs.Rules.{
   mostBasePrice,
   mostPricePerKm,
@@ -27,8 +29,13 @@ use Rattle.tariff.specs.Rules.{
   unused,
   tripCapRight,
   capsRight,
+  money,
+  ticketsUnused,
+  ticketsRight,
+  longRight,
   levelOf,
   flatOf,
+  kindOf,
   placeRight,
   areaRight,
   factorRight,
@@ -48,13 +55,20 @@ use Rattle.tariff.specs.WrongValues.{
   flat-long,
   flat-zeros,
   level-amount,
+  WrongTickets,
+  no-ticket-zeros,
+  flat-ticket,
+  flat-ticket-zeros,
+  level-ticket,
   WrongPlace,
   state-level,
   state-parent,
+  state-kind,
   second-state,
   high-level,
   region-parent,
   city-parent,
+  city-kind,
   flat-above,
   WrongArea,
   high-base,
@@ -67,6 +81,10 @@ use Rattle.tariff.specs.WrongValues.{
   high-day-cap,
   high-flat,
   wrong-place,
+  wrong-tickets,
+  high-bicycle-price,
+  high-town,
+  town-marked,
   WrongFactor,
   low-factor,
   high-factor,
@@ -103,6 +121,36 @@ not-below m n = (ltb-false m n, le-ltb m n)
 other : (m n : ℕ) → Fails (eqb m n) (m ≡ n → ⊥)
 other m n = (eqb-false m n, ne-eqb m n)
 
+-- ---- Amounts by level: the test of the sort and of the five amounts.
+
+module _ (sort k a b c d : ℕ) where
+  abbrev LevelsWrong : Type 0
+  LevelsWrong = (((((sort ≡ 2 → ⊥) ⊎ TooMuch k) ⊎ TooMuch a) ⊎ TooMuch b) ⊎ TooMuch c) ⊎ TooMuch d
+
+  levels-fail : Fails (eqb sort 2 && money k && money a && money b && money c && money d) LevelsWrong
+  levels-fail =
+      both _ _
+      (both _ _ (both _ _ (both _ _ (both _ _ (other sort 2) (above k mostMoney)) (above a mostMoney)) (above b mostMoney)) (above c mostMoney))
+      (above d mostMoney)
+
+  levels-amounts : sort ≡ 2 → LevelsWrong → OneOf TooMuch (k ∷ a ∷ b ∷ c ∷ d ∷ [])
+  levels-amounts is (inl (inl (inl (inl (inl never))))) = absurd (never is)
+  levels-amounts is (inl (inl (inl (inl (inr w))))) = here w
+  levels-amounts is (inl (inl (inl (inr w)))) = later (here w)
+  levels-amounts is (inl (inl (inr w))) = later (later (here w))
+  levels-amounts is (inl (inr w)) = later (later (later (here w)))
+  levels-amounts is (inr w) = later (later (later (later (here w))))
+
+  amounts-levels : OneOf TooMuch (k ∷ a ∷ b ∷ c ∷ d ∷ []) → LevelsWrong
+  amounts-levels (here w) = inl (inl (inl (inl (inr w))))
+  amounts-levels (later (here w)) = inl (inl (inl (inr w)))
+  amounts-levels (later (later (here w))) = inl (inl (inr w))
+  amounts-levels (later (later (later (here w)))) = inl (inr w)
+  amounts-levels (later (later (later (later (here w))))) = inr w
+
+  not-levels : (sort ≡ 2 → ⊥) → LevelsWrong
+  not-levels never = inl (inl (inl (inl (inl never))))
+
 -- ---- The trip cap.
 
 module _ (f : AreaFields) where
@@ -130,22 +178,17 @@ module _ (f : AreaFields) where
   abbrev FlatWrong : Type 0
   FlatWrong = ((((f .sort ≡ 1 → ⊥) ⊎ TooMuch (f .cap1)) ⊎ (f .cap2 < leastMinutes)) ⊎ (mostMinutes < f .cap2)) ⊎ LastWrong
 
-  abbrev LevelsWrong : Type 0
-  LevelsWrong =
-      (((((f .sort ≡ 2 → ⊥) ⊎ TooMuch (f .cap1)) ⊎ TooMuch (f .cap2)) ⊎ TooMuch (f .cap3)) ⊎ TooMuch (f .cap4)) ⊎ TooMuch (f .cap5)
+  abbrev CapsByLevel : Type 0
+  CapsByLevel = LevelsWrong (f .sort) (f .cap1) (f .cap2) (f .cap3) (f .cap4) (f .cap5)
 
-  sorts-fail : Fails (tripCapRight f) ((NoneWrong × FlatWrong) × LevelsWrong)
+  sorts-fail : Fails (tripCapRight f) ((NoneWrong × FlatWrong) × CapsByLevel)
   sorts-fail =
       either _ _
       (either _ _ (both _ _ (both _ _ (both _ _ (other (f .sort) 0) (other (f .cap1) 0)) (other (f .cap2) 0)) unused-fails)
       (both _ _
       (both _ _ (both _ _ (both _ _ (other (f .sort) 1) (above (f .cap1) mostMoney)) (above leastMinutes (f .cap2))) (above (f .cap2) mostMinutes))
       unused-fails))
-      (both _ _
-      (both _ _
-      (both _ _ (both _ _ (both _ _ (other (f .sort) 2) (above (f .cap1) mostMoney)) (above (f .cap2) mostMoney)) (above (f .cap3) mostMoney))
-      (above (f .cap4) mostMoney))
-      (above (f .cap5) mostMoney))
+      (levels-fail (f .sort) (f .cap1) (f .cap2) (f .cap3) (f .cap4) (f .cap5))
 
   none-wrong : f .sort ≡ 0 → NoneWrong → WrongTripCap f
   none-wrong is (inl (inl (inl never))) = absurd (never is)
@@ -160,16 +203,8 @@ module _ (f : AreaFields) where
   flat-wrong is (inl (inr w)) = flat-long is w
   flat-wrong is (inr w) = flat-zeros is (last-zeros w)
 
-  levels-wrong : f .sort ≡ 2 → LevelsWrong → WrongTripCap f
-  levels-wrong is (inl (inl (inl (inl (inl never))))) = absurd (never is)
-  levels-wrong is (inl (inl (inl (inl (inr w))))) = level-amount is (here w)
-  levels-wrong is (inl (inl (inl (inr w)))) = level-amount is (later (here w))
-  levels-wrong is (inl (inl (inr w))) = level-amount is (later (later (here w)))
-  levels-wrong is (inl (inr w)) = level-amount is (later (later (later (here w))))
-  levels-wrong is (inr w) = level-amount is (later (later (later (later (here w)))))
-
   -- a sort is one of three, or above 2
-  cap-words : (NoneWrong × FlatWrong) × LevelsWrong → WrongTripCap f
+  cap-words : (NoneWrong × FlatWrong) × CapsByLevel → WrongTripCap f
   cap-words w =
       elim (ℕ-discrete (f .sort) 0) [
         | yes is ↦ none-wrong is (w .0 .0)
@@ -177,7 +212,10 @@ module _ (f : AreaFields) where
             elim (ℕ-discrete (f .sort) 1) [
               | yes is ↦ flat-wrong is (w .0 .1)
               | no not-flat ↦
-                  elim (ℕ-discrete (f .sort) 2) [ yes is ↦ levels-wrong is (w .1) | no not-levels ↦ no-sort (omega arith) ]
+                  elim (ℕ-discrete (f .sort) 2) [
+                    | yes is ↦ level-amount is (levels-amounts (f .sort) (f .cap1) (f .cap2) (f .cap3) (f .cap4) (f .cap5) is (w .1))
+                    | no not-two ↦ no-sort (omega arith)
+                  ]
             ]
       ]
 
@@ -191,111 +229,227 @@ module _ (f : AreaFields) where
   not-flat : NotSort 1 → FlatWrong
   not-flat never = inl (inl (inl (inl never)))
 
-  not-levels : NotSort 2 → LevelsWrong
-  not-levels never = inl (inl (inl (inl (inl never))))
+  not-by-level : NotSort 2 → CapsByLevel
+  not-by-level = not-levels (f .sort) (f .cap1) (f .cap2) (f .cap3) (f .cap4) (f .cap5)
 
   zeros-none : OneOf NotZero (f .cap1 ∷ f .cap2 ∷ f .cap3 ∷ f .cap4 ∷ f .cap5 ∷ []) → NoneWrong
   zeros-none (here w) = inl (inl (inr w))
   zeros-none (later (here w)) = inl (inr w)
   zeros-none (later (later w)) = inr (zeros-last w)
 
-  amounts-levels : OneOf TooMuch (f .cap1 ∷ f .cap2 ∷ f .cap3 ∷ f .cap4 ∷ f .cap5 ∷ []) → LevelsWrong
-  amounts-levels (here w) = inl (inl (inl (inl (inr w))))
-  amounts-levels (later (here w)) = inl (inl (inl (inr w)))
-  amounts-levels (later (later (here w))) = inl (inl (inr w))
-  amounts-levels (later (later (later (here w)))) = inl (inr w)
-  amounts-levels (later (later (later (later (here w))))) = inr w
-
-  words-cap : WrongTripCap f → (NoneWrong × FlatWrong) × LevelsWrong
-  words-cap (no-sort w) = ((not-none (λ e. omega arith), not-flat (λ e. omega arith)), not-levels (λ e. omega arith))
-  words-cap (no-cap-zeros is w) = ((zeros-none w, not-flat (λ e. omega arith)), not-levels (λ e. omega arith))
-  words-cap (flat-amount is w) = ((not-none (λ e. omega arith), inl (inl (inl (inr w)))), not-levels (λ e. omega arith))
-  words-cap (flat-short is w) = ((not-none (λ e. omega arith), inl (inl (inr w))), not-levels (λ e. omega arith))
-  words-cap (flat-long is w) = ((not-none (λ e. omega arith), inl (inr w)), not-levels (λ e. omega arith))
-  words-cap (flat-zeros is w) = ((not-none (λ e. omega arith), inr (zeros-last w)), not-levels (λ e. omega arith))
-  words-cap (level-amount is w) = ((not-none (λ e. omega arith), not-flat (λ e. omega arith)), amounts-levels w)
+  words-cap : WrongTripCap f → (NoneWrong × FlatWrong) × CapsByLevel
+  words-cap (no-sort w) = ((not-none (λ e. omega arith), not-flat (λ e. omega arith)), not-by-level (λ e. omega arith))
+  words-cap (no-cap-zeros is w) = ((zeros-none w, not-flat (λ e. omega arith)), not-by-level (λ e. omega arith))
+  words-cap (flat-amount is w) = ((not-none (λ e. omega arith), inl (inl (inl (inr w)))), not-by-level (λ e. omega arith))
+  words-cap (flat-short is w) = ((not-none (λ e. omega arith), inl (inl (inr w))), not-by-level (λ e. omega arith))
+  words-cap (flat-long is w) = ((not-none (λ e. omega arith), inl (inr w)), not-by-level (λ e. omega arith))
+  words-cap (flat-zeros is w) = ((not-none (λ e. omega arith), inr (zeros-last w)), not-by-level (λ e. omega arith))
+  words-cap (level-amount is w) = (
+    (not-none (λ e. omega arith), not-flat (λ e. omega arith)),
+    amounts-levels (f .sort) (f .cap1) (f .cap2) (f .cap3) (f .cap4) (f .cap5) w,
+  )
 
   pub cap-wrong : tripCapRight f ≡ false ↔ WrongTripCap f
   cap-wrong = (λ e. cap-words (sorts-fail .0 e), λ w. sorts-fail .1 (words-cap w))
 
+-- ---- What kind 8 has besides.
+
+module _ (f : AreaFields) (g : LongFields) where
+  -- what the test of the last four tickets fails for
+  abbrev RestWrong : Type 0
+  RestWrong = ((NotZero (g .child2) ⊎ NotZero (g .child3)) ⊎ NotZero (g .child4)) ⊎ NotZero (g .child5)
+
+  rest-fails : Fails (ticketsUnused g) RestWrong
+  rest-fails = both _ _ (both _ _ (both _ _ (other (g .child2) 0) (other (g .child3) 0)) (other (g .child4) 0)) (other (g .child5) 0)
+
+  rest-zeros : RestWrong → OneOf NotZero (g .child2 ∷ g .child3 ∷ g .child4 ∷ g .child5 ∷ [])
+  rest-zeros (inl (inl (inl w))) = here w
+  rest-zeros (inl (inl (inr w))) = later (here w)
+  rest-zeros (inl (inr w)) = later (later (here w))
+  rest-zeros (inr w) = later (later (later (here w)))
+
+  zeros-rest : OneOf NotZero (g .child2 ∷ g .child3 ∷ g .child4 ∷ g .child5 ∷ []) → RestWrong
+  zeros-rest (here w) = inl (inl (inl w))
+  zeros-rest (later (here w)) = inl (inl (inr w))
+  zeros-rest (later (later (here w))) = inl (inr w)
+  zeros-rest (later (later (later (here w)))) = inr w
+
+  -- what the test of each sort fails for: another sort, or one of its tickets
+  abbrev NoTicketWrong : Type 0
+  NoTicketWrong = ((f .sort ≡ 0 → ⊥) ⊎ NotZero (g .child1)) ⊎ RestWrong
+
+  abbrev FlatTicketWrong : Type 0
+  FlatTicketWrong = ((f .sort ≡ 1 → ⊥) ⊎ TooMuch (g .child1)) ⊎ RestWrong
+
+  abbrev TicketsWrong : Type 0
+  TicketsWrong = (NoTicketWrong × FlatTicketWrong) × LevelsWrong (f .sort) (g .child1) (g .child2) (g .child3) (g .child4) (g .child5)
+
+  tickets-fail : Fails (ticketsRight f g) TicketsWrong
+  tickets-fail =
+      either _ _
+      (either _ _ (both _ _ (both _ _ (other (f .sort) 0) (other (g .child1) 0)) rest-fails)
+      (both _ _ (both _ _ (other (f .sort) 1) (above (g .child1) mostMoney)) rest-fails))
+      (levels-fail (f .sort) (g .child1) (g .child2) (g .child3) (g .child4) (g .child5))
+
+  no-ticket-wrong : f .sort ≡ 0 → NoTicketWrong → WrongTickets f g
+  no-ticket-wrong is (inl (inl never)) = absurd (never is)
+  no-ticket-wrong is (inl (inr w)) = no-ticket-zeros is (here w)
+  no-ticket-wrong is (inr w) = no-ticket-zeros is (later (rest-zeros w))
+
+  flat-ticket-wrong : f .sort ≡ 1 → FlatTicketWrong → WrongTickets f g
+  flat-ticket-wrong is (inl (inl never)) = absurd (never is)
+  flat-ticket-wrong is (inl (inr w)) = flat-ticket is w
+  flat-ticket-wrong is (inr w) = flat-ticket-zeros is (rest-zeros w)
+
+  -- by the sort; one above 2 is wrong itself
+  tickets-words : TicketsWrong → WrongTickets f g ⊎ (2 < f .sort)
+  tickets-words w =
+      elim (ℕ-discrete (f .sort) 0) [
+        | yes is ↦ inl (no-ticket-wrong is (w .0 .0))
+        | no not-none ↦
+            elim (ℕ-discrete (f .sort) 1) [
+              | yes is ↦ inl (flat-ticket-wrong is (w .0 .1))
+              | no not-flat ↦
+                  elim (ℕ-discrete (f .sort) 2) [
+                    | yes is ↦
+                        inl (level-ticket is (levels-amounts (f .sort) (g .child1) (g .child2) (g .child3) (g .child4) (g .child5) is (w .1)))
+                    | no not-two ↦ inr (omega arith)
+                  ]
+            ]
+      ]
+
+  zeros-no-ticket : OneOf NotZero (g .child1 ∷ g .child2 ∷ g .child3 ∷ g .child4 ∷ g .child5 ∷ []) → NoTicketWrong
+  zeros-no-ticket (here w) = inl (inr w)
+  zeros-no-ticket (later w) = inr (zeros-rest w)
+
+  -- the tests of other sorts fail for the sort
+  no-levels : (f .sort ≡ 2 → ⊥) → LevelsWrong (f .sort) (g .child1) (g .child2) (g .child3) (g .child4) (g .child5)
+  no-levels = not-levels (f .sort) (g .child1) (g .child2) (g .child3) (g .child4) (g .child5)
+
+  words-tickets : WrongTickets f g → TicketsWrong
+  words-tickets (no-ticket-zeros is w) = ((zeros-no-ticket w, inl (inl (λ e. omega arith))), no-levels (λ e. omega arith))
+  words-tickets (flat-ticket is w) = ((inl (inl (λ e. omega arith)), inl (inr w)), no-levels (λ e. omega arith))
+  words-tickets (flat-ticket-zeros is w) = ((inl (inl (λ e. omega arith)), inr (zeros-rest w)), no-levels (λ e. omega arith))
+  words-tickets (level-ticket is w) = (
+    (inl (inl (λ e. omega arith)), inl (inl (λ e. omega arith))),
+    amounts-levels (f .sort) (g .child1) (g .child2) (g .child3) (g .child4) (g .child5) w,
+  )
+
+  abbrev LongWrong : Type 0
+  LongWrong = (TicketsWrong ⊎ TooMuch (g .«bicycle_price»)) ⊎ (NotZero (g .town) × ((2 < g .town) ⊎ (f .level ≡ 2 → ⊥)))
+
+  long-fails : Fails (longRight f g) LongWrong
+  unfolding longRight
+  long-fails =
+      both _ _ (both _ _ tickets-fail (above (g .«bicycle_price») mostMoney))
+      (either _ _ (other (g .town) 0) (both _ _ (above (g .town) 2) (other (f .level) 2)))
+
+  kind-fails : (kind : ℕ) → Fails (cond (eqb kind aachenKind) (longRight f g) true) ((kind ≡ aachenKind) × LongWrong)
+  kind-fails kind =
+      elim (ℕ-discrete kind aachenKind) [
+        | yes is ↦ rw (eq-eqb kind aachenKind is) (λ e. (is, long-fails .0 e), λ w. long-fails .1 (w .1))
+        | no never ↦ rw (ne-eqb kind aachenKind never) (λ e. absurd (false≢true (sym e)), λ w. absurd (never (w .0)))
+      ]
+
 -- ---- The place.
 
-module _ (b : List ℕ) (soFar : Counts) (f : AreaFields) where
-  -- what the test of an area that is not the first fails for
+module _ (b : List ℕ) (soFar : Counts) (kind : ℕ) (f : AreaFields) where
+  -- what the test of the first area fails for, and what that of a later one
+  abbrev FirstWrong : Type 0
+  FirstWrong = ((f .level ≡ 0 → ⊥) ⊎ (f .parent ≡ 0 → ⊥)) ⊎ (kind ≡ commonKind → ⊥)
+
+  abbrev CityWrong : Type 0
+  CityWrong = ((f .level ≡ 2 → ⊥) ⊎ (levelOf b soFar (f .parent) ≡ 1 → ⊥)) ⊎ (kindOf b soFar (f .parent) ≡ kind → ⊥)
+
   abbrev LaterWrong : Type 0
   LaterWrong =
-      ((soFar .areas ≤ f .parent)
-      ⊎ (((f .level ≡ 1 → ⊥) ⊎ (f .parent ≡ 0 → ⊥)) × ((f .level ≡ 2 → ⊥) ⊎ (levelOf b soFar (f .parent) ≡ 1 → ⊥))))
-      ⊎ (flatOf b soFar (f .parent) < f .«bicycle_flat»)
+      ((soFar .areas ≤ f .parent) ⊎ (((f .level ≡ 1 → ⊥) ⊎ (f .parent ≡ 0 → ⊥)) × CityWrong))
+      ⊎ (((f .level ≡ 1 → ⊥) ⊎ (kind ≡ aachenKind → ⊥)) × (flatOf b soFar (f .parent) < f .«bicycle_flat»))
 
-  first-fails : Fails (eqb (f .level) 0 && eqb (f .parent) 0) ((f .level ≡ 0 → ⊥) ⊎ (f .parent ≡ 0 → ⊥))
-  first-fails = both _ _ (other (f .level) 0) (other (f .parent) 0)
+  first-fails : Fails (eqb (f .level) 0 && eqb (f .parent) 0 && eqb kind commonKind) FirstWrong
+  first-fails = both _ _ (both _ _ (other (f .level) 0) (other (f .parent) 0)) (other kind commonKind)
 
   later-fails :
       Fails
       (ltb (f .parent) (soFar .areas)
-      && (eqb (f .level) 1 && eqb (f .parent) 0 || eqb (f .level) 2 && eqb (levelOf b soFar (f .parent)) 1)
-      && leb (f .«bicycle_flat») (flatOf b soFar (f .parent)))
+      && (eqb (f .level) 1 && eqb (f .parent) 0
+      || eqb (f .level) 2 && eqb (levelOf b soFar (f .parent)) 1 && eqb (kindOf b soFar (f .parent)) kind)
+      && (eqb (f .level) 1 && eqb kind aachenKind || leb (f .«bicycle_flat») (flatOf b soFar (f .parent))))
       LaterWrong
   later-fails =
       both _ _
       (both _ _ (not-below (f .parent) (soFar .areas))
-      (either _ _ (both _ _ (other (f .level) 1) (other (f .parent) 0)) (both _ _ (other (f .level) 2) (other (levelOf b soFar (f .parent)) 1))))
-      (above (f .«bicycle_flat») (flatOf b soFar (f .parent)))
+      (either _ _ (both _ _ (other (f .level) 1) (other (f .parent) 0))
+      (both _ _ (both _ _ (other (f .level) 2) (other (levelOf b soFar (f .parent)) 1)) (other (kindOf b soFar (f .parent)) kind))))
+      (either _ _ (both _ _ (other (f .level) 1) (other kind aachenKind)) (above (f .«bicycle_flat») (flatOf b soFar (f .parent))))
 
-  -- by the level, where a region's parent is wrong and a city's is
-  by-level :
-      0 < soFar .areas → (f .level ≡ 1 → f .parent ≡ 0 → ⊥) → (f .level ≡ 2 → f .parent < soFar .areas → levelOf b soFar (f .parent) ≡ 1 → ⊥)
-      → WrongPlace b soFar f
+  -- by the level: a region's parent is wrong, or what is wrong with a city
+  by-level : 0 < soFar .areas → (f .level ≡ 1 → f .parent ≡ 0 → ⊥) → (f .level ≡ 2 → WrongPlace b soFar kind f) → WrongPlace b soFar kind f
   by-level some region city =
       elim (ℕ-discrete (f .level) 0) [
         | yes is ↦ second-state some is
         | no not-state ↦
             elim (ℕ-discrete (f .level) 1) [
               | yes is ↦ region-parent some is (region is)
-              | no not-region ↦
-                  elim (ℕ-discrete (f .level) 2) [ yes is ↦ city-parent some is (city is) | no not-city ↦ high-level (omega arith) ]
+              | no not-region ↦ elim (ℕ-discrete (f .level) 2) [ yes is ↦ city is | no not-city ↦ high-level (omega arith) ]
             ]
       ]
 
-  later-words : 0 < soFar .areas → LaterWrong → WrongPlace b soFar f
-  later-words some (inl (inl lacking)) = by-level some (λ _ e. omega arith) (λ _ earlier _. omega arith)
-  later-words some (inl (inr (region, city))) =
-      by-level some (λ is zero-parent. ⊎-elim (λ never. never is) (λ never. never zero-parent) region)
-      (λ is _ parent. ⊎-elim (λ never. never is) (λ never. never parent) city)
-  later-words some (inr high) =
+  lacking-parent : 0 < soFar .areas → soFar .areas ≤ f .parent → WrongPlace b soFar kind f
+  lacking-parent some lacking = by-level some (λ _ e. omega arith) (λ is. city-parent some is (λ earlier _. omega arith))
+
+  city-words : 0 < soFar .areas → f .level ≡ 2 → CityWrong → WrongPlace b soFar kind f
+  city-words some is (inl (inl never)) = absurd (never is)
+  city-words some is (inl (inr never)) = city-parent some is (λ _ parent. never parent)
+  city-words some is (inr never) =
       elim (decLt (f .parent) (soFar .areas)) [
-        | yes earlier ↦ flat-above some earlier high
-        | no lacking ↦ by-level some (λ _ e. omega arith) (λ _ earlier _. omega arith)
+        | yes earlier ↦ city-kind some is earlier never
+        | no lacking ↦ city-parent some is (λ earlier _. lacking earlier)
       ]
 
-  words-later : 0 < soFar .areas → WrongPlace b soFar f → LaterWrong
+  later-words : 0 < soFar .areas → LaterWrong → WrongPlace b soFar kind f
+  later-words some (inl (inl lacking)) = lacking-parent some lacking
+  later-words some (inl (inr (region, city))) =
+      by-level some (λ is zero-parent. ⊎-elim (λ never. never is) (λ never. never zero-parent) region) (λ is. city-words some is city)
+  later-words some (inr (compared, high)) =
+      elim (decLt (f .parent) (soFar .areas)) [
+        | yes earlier ↦ flat-above some earlier (λ is long. ⊎-elim (λ never. never is) (λ never. never long) compared) high
+        | no lacking ↦ lacking-parent some (omega arith)
+      ]
+
+  words-later : 0 < soFar .areas → WrongPlace b soFar kind f → LaterWrong
   words-later some (state-level none never) = absurd (omega arith)
   words-later some (state-parent none never) = absurd (omega arith)
-  words-later some (second-state _ is) = inl (inr (inl (λ e. omega arith), inl (λ e. omega arith)))
-  words-later some (high-level w) = inl (inr (inl (λ e. omega arith), inl (λ e. omega arith)))
-  words-later some (region-parent _ is never) = inl (inr (inr never, inl (λ e. omega arith)))
+  words-later some (state-kind none never) = absurd (omega arith)
+  words-later some (second-state _ is) = inl (inr (inl (λ e. omega arith), inl (inl (λ e. omega arith))))
+  words-later some (high-level w) = inl (inr (inl (λ e. omega arith), inl (inl (λ e. omega arith))))
+  words-later some (region-parent _ is never) = inl (inr (inr never, inl (inl (λ e. omega arith))))
   words-later some (city-parent _ is never) =
       elim (decLt (f .parent) (soFar .areas)) [
-        | yes earlier ↦ inl (inr (inl (λ e. omega arith), inr (never earlier)))
+        | yes earlier ↦ inl (inr (inl (λ e. omega arith), inl (inr (never earlier))))
         | no lacking ↦ inl (inl (omega arith))
       ]
-  words-later some (flat-above _ earlier high) = inr high
+  words-later some (city-kind _ is earlier never) = inl (inr (inl (λ e. omega arith), inr never))
+  words-later some (flat-above _ earlier compared high) =
+      inr (elim (ℕ-discrete (f .level) 1) [ yes is ↦ (inr (compared is), high) | no never ↦ (inl never, high) ])
 
-  first-words : soFar .areas ≡ 0 → (f .level ≡ 0 → ⊥) ⊎ (f .parent ≡ 0 → ⊥) → WrongPlace b soFar f
-  first-words none (inl never) = state-level none never
-  first-words none (inr never) = state-parent none never
+  first-words : soFar .areas ≡ 0 → FirstWrong → WrongPlace b soFar kind f
+  first-words none (inl (inl never)) = state-level none never
+  first-words none (inl (inr never)) = state-parent none never
+  first-words none (inr never) = state-kind none never
 
-  words-first : soFar .areas ≡ 0 → WrongPlace b soFar f → (f .level ≡ 0 → ⊥) ⊎ (f .parent ≡ 0 → ⊥)
-  words-first none (state-level _ never) = inl never
-  words-first none (state-parent _ never) = inr never
+  words-first : soFar .areas ≡ 0 → WrongPlace b soFar kind f → FirstWrong
+  words-first none (state-level _ never) = inl (inl never)
+  words-first none (state-parent _ never) = inl (inr never)
+  words-first none (state-kind _ never) = inr never
   words-first none (second-state some is) = absurd (omega arith)
-  words-first none (high-level w) = inl (λ e. omega arith)
+  words-first none (high-level w) = inl (inl (λ e. omega arith))
   words-first none (region-parent some is never) = absurd (omega arith)
   words-first none (city-parent some is never) = absurd (omega arith)
-  words-first none (flat-above some earlier high) = absurd (omega arith)
+  words-first none (city-kind some is earlier never) = absurd (omega arith)
+  words-first none (flat-above some earlier compared high) = absurd (omega arith)
 
-  pub place-fails : placeRight b soFar f ≡ false ↔ WrongPlace b soFar f
+  pub place-fails : placeRight b soFar kind f ≡ false ↔ WrongPlace b soFar kind f
   unfolding placeRight
   place-fails =
       elim (ℕ-discrete (soFar .areas) 0) [
@@ -306,8 +460,9 @@ module _ (b : List ℕ) (soFar : Counts) (f : AreaFields) where
             (λ e. later-words (omega arith) (later-fails .0 e), λ w. later-fails .1 (words-later (omega arith) w))
       ]
 
-  -- ---- The whole area.
+-- ---- The whole area.
 
+module _ (b : List ℕ) (soFar : Counts) (kind : ℕ) (f : AreaFields) (g : LongFields) where
   abbrev PricesWrong : Type 0
   PricesWrong =
       (((((mostBasePrice < f .«base_price») ⊎ (mostPricePerKm < f .«price_per_km»)) ⊎ (f .validity < leastMinutes)) ⊎ (mostMinutes < f .validity))
@@ -334,10 +489,13 @@ module _ (b : List ℕ) (soFar : Counts) (f : AreaFields) where
       (both _ _ (cap-wrong f) (either _ _ (above (f .«day_cap») mostMoney) (other (f .«day_cap») noDayCap)))
       (above (f .«bicycle_flat») mostMoney)
 
-  area-fails : Fails (areaRight b soFar f) ((PricesWrong ⊎ CapsWrong) ⊎ WrongPlace b soFar f)
-  area-fails = both _ _ (both _ _ prices-fail caps-fail) place-fails
+  abbrev AreaWrong : Type 0
+  AreaWrong = ((PricesWrong ⊎ CapsWrong) ⊎ WrongPlace b soFar kind f) ⊎ ((kind ≡ aachenKind) × LongWrong f g)
 
-  prices-words : PricesWrong → WrongArea b soFar f
+  area-fails : Fails (areaRight b soFar kind f g) AreaWrong
+  area-fails = both _ _ (both _ _ (both _ _ prices-fail caps-fail) (place-fails b soFar kind f)) (kind-fails f g kind)
+
+  prices-words : PricesWrong → WrongArea b soFar kind f g
   prices-words (inl (inl (inl (inl (inl w))))) = high-base w
   prices-words (inl (inl (inl (inl (inr w))))) = high-rate w
   prices-words (inl (inl (inl (inr w)))) = short-validity w
@@ -345,26 +503,39 @@ module _ (b : List ℕ) (soFar : Counts) (f : AreaFields) where
   prices-words (inl (inr w)) = high-surcharge w
   prices-words (inr w) = high-reduction w
 
-  caps-words : CapsWrong → WrongArea b soFar f
+  caps-words : CapsWrong → WrongArea b soFar kind f g
   caps-words (inl (inl w)) = wrong-trip-cap w
   caps-words (inl (inr (much, some))) = high-day-cap much some
   caps-words (inr w) = high-flat w
 
-  words-area : WrongArea b soFar f → (PricesWrong ⊎ CapsWrong) ⊎ WrongPlace b soFar f
-  words-area (high-base w) = inl (inl (inl (inl (inl (inl (inl w))))))
-  words-area (high-rate w) = inl (inl (inl (inl (inl (inl (inr w))))))
-  words-area (short-validity w) = inl (inl (inl (inl (inl (inr w)))))
-  words-area (long-validity w) = inl (inl (inl (inl (inr w))))
-  words-area (high-surcharge w) = inl (inl (inl (inr w)))
-  words-area (high-reduction w) = inl (inl (inr w))
-  words-area (wrong-trip-cap w) = inl (inr (inl (inl w)))
-  words-area (high-day-cap much some) = inl (inr (inl (inr (much, some))))
-  words-area (high-flat w) = inl (inr (inr w))
-  words-area (wrong-place w) = inr w
+  long-words : kind ≡ aachenKind → LongWrong f g → WrongArea b soFar kind f g
+  long-words is (inl (inl w)) = ⊎-elim (wrong-tickets is) (λ high. wrong-trip-cap (no-sort high)) (tickets-words f g w)
+  long-words is (inl (inr w)) = high-bicycle-price is w
+  long-words is (inr (marked, inl high)) = high-town is high
+  long-words is (inr (marked, inr no-city)) = town-marked is marked no-city
+
+  words-area : WrongArea b soFar kind f g → AreaWrong
+  words-area (high-base w) = inl (inl (inl (inl (inl (inl (inl (inl w)))))))
+  words-area (high-rate w) = inl (inl (inl (inl (inl (inl (inl (inr w)))))))
+  words-area (short-validity w) = inl (inl (inl (inl (inl (inl (inr w))))))
+  words-area (long-validity w) = inl (inl (inl (inl (inl (inr w)))))
+  words-area (high-surcharge w) = inl (inl (inl (inl (inr w))))
+  words-area (high-reduction w) = inl (inl (inl (inr w)))
+  words-area (wrong-trip-cap w) = inl (inl (inr (inl (inl w))))
+  words-area (high-day-cap much some) = inl (inl (inr (inl (inr (much, some)))))
+  words-area (high-flat w) = inl (inl (inr (inr w)))
+  words-area (wrong-place w) = inl (inr w)
+  words-area (wrong-tickets is w) = inr (is, inl (inl (words-tickets f g w)))
+  words-area (high-bicycle-price is w) = inr (is, inl (inr w))
+  words-area (high-town is w) = inr (is, inr (λ e. omega arith, inl w))
+  words-area (town-marked is marked no-city) = inr (is, inr (marked, inr no-city))
 
   -- An area's values are refused exactly when one is wrong.
-  pub area-wrong : areaRight b soFar f ≡ false ↔ WrongArea b soFar f
-  area-wrong = (λ e. ⊎-elim (⊎-elim prices-words caps-words) wrong-place (area-fails .0 e), λ w. area-fails .1 (words-area w))
+  pub area-wrong : areaRight b soFar kind f g ≡ false ↔ WrongArea b soFar kind f g
+  area-wrong = (
+    λ e. ⊎-elim (⊎-elim (⊎-elim prices-words caps-words) wrong-place) (λ w. long-words (w .0) (w .1)) (area-fails .0 e),
+    λ w. area-fails .1 (words-area w),
+  )
 
 -- what the test of a factor record fails for
 abbrev FactorWrong : Factor → ℕ → Type 0

@@ -7,18 +7,32 @@ use mathlib.Core.Bool.{Bool, cond, _&&_}
 use lib.ListN.{length}
 use lib.Dec.{eqb}
 use Rattle.wire.specs.Number.{getLe}
+use Rattle.tariff.specs.declared.Area.{Area}
+use Rattle.tariff.specs.declared.Limits.{Limits}
 use Rattle.tariff.specs.declared.Counts.{Counts}
 use Rattle.tariff.specs.declared.Factor.{Factor}
-use Rattle.tariff.specs.Layout.{areaSize, stopBody, stopSize, mostAreas, areaPlace}
+use Rattle.tariff.specs.Layout.{stopBody, stopSize, mostAreas, areaEnd, areaPlace, longAreas}
 use Rattle.tariff.specs.Fields.{stopFields}
 use Rattle.tariff.specs.Rules.{mostMoney, mostFactor, levelOf, flatOf, stopRight}
-use Rattle.tariff.specs.Areas.{parentOf}
+use Rattle.tariff.specs.Areas.{parentOf, bicyclePriceOf}
 use Rattle.tariff.specs.Factors.{regionOf, factorOf}
 
--- an area's record is there, whatever follows it: so it is while the tariff is still being read
+-- an area's record is there, whatever follows it, and the areas of kind 8 before it are counted: so it is while the tariff is still being
+-- read
 pub record AreaThere (b : List ℕ) (counts : Counts) (number : ℕ) : Type 0 where
   pub few : number < mostAreas
-  pub inside : areaPlace counts number + areaSize ≤ length b
+  pub inside : areaEnd b (areaPlace b number) ≤ length b
+  pub long : longAreas b number ≤ counts .long
+
+-- the records of the areas so far are there
+pub record AreasThere (b : List ℕ) (soFar : Counts) : Type 0 where
+  pub few : soFar .areas ≤ mostAreas
+  pub inside : areaPlace b (soFar .areas) ≤ length b
+  pub long : soFar .long ≡ longAreas b (soFar .areas)
+
+-- what an area's caps are made of
+abbrev pub limitsOf : Area → Limits
+limitsOf area = record { «day_cap» = area .«day_cap»; surcharge = area .surcharge; reduction = area .reduction }
 
 pub record ParentOf (b : List ℕ) (counts : Counts) (number r : ℕ) : Type 0 where
   pub value : r ≡ parentOf b counts number
@@ -26,6 +40,10 @@ pub record ParentOf (b : List ℕ) (counts : Counts) (number r : ℕ) : Type 0 w
 
 pub record FlatOf (b : List ℕ) (counts : Counts) (number r : ℕ) : Type 0 where
   pub value : r ≡ flatOf b counts number
+  pub range : r ≤ mostMoney
+
+pub record BicyclePriceOf (b : List ℕ) (counts : Counts) (number r : ℕ) : Type 0 where
+  pub value : r ≡ bicyclePriceOf b counts number
   pub range : r ≤ mostMoney
 
 -- the region of an area, which is no city

@@ -1,13 +1,15 @@
--- Rules, section 4: where the fields of an area record (kind 1), of a factor record (kind 5) and of a stop record (kind 2) stand.
+-- Rules, section 4: where the fields of an area record (kind 1 or 8), of a factor record (kind 5) and of a stop record (kind 2) stand.
 use Prim.Native.Nat.{ℕ, _+_}
 use mathlib.Core.List.{List}
 use Rattle.wire.specs.Number.{getLe}
 use Rattle.tariff.specs.declared.Factor.{Factor}
 use Rattle.tariff.specs.declared.fields.AreaFields.{AreaFields}
+use Rattle.tariff.specs.declared.fields.LongFields.{LongFields}
 use Rattle.tariff.specs.declared.fields.StopFields.{StopFields}
 
 -- level 1 byte; parent 1; base price 2; price per km 2; base validity in minutes 2; first-class surcharge % 1; child reduction % 1;
--- trip-cap sort 1; five 2-byte trip-cap fields; day cap 2; bicycle flat 2; after a head of 4 bytes
+-- trip-cap sort 1; five 2-byte trip-cap fields; day cap 2; bicycle flat 2, which in kind 8 is the bicycle's cap per window; after a head of
+-- 4 bytes
 unfoldable pub areaFields : List ℕ → ℕ → AreaFields
 areaFields b at =
     record {
@@ -26,6 +28,19 @@ areaFields b at =
       cap5 = getLe 2 b (at + 23);
       «day_cap» = getLe 2 b (at + 25);
       «bicycle_flat» = getLe 2 b (at + 27);
+    }
+
+-- and behind them in a record of kind 8: five child tickets of 2; bicycle price per trip 2; town mark 1
+unfoldable pub longFields : List ℕ → ℕ → LongFields
+longFields b at =
+    record {
+      child1 = getLe 2 b (at + 29);
+      child2 = getLe 2 b (at + 31);
+      child3 = getLe 2 b (at + 33);
+      child4 = getLe 2 b (at + 35);
+      child5 = getLe 2 b (at + 37);
+      «bicycle_price» = getLe 2 b (at + 39);
+      town = getLe 1 b (at + 41);
     }
 
 -- factor 1, mark 1

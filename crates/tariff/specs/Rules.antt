@@ -1,14 +1,15 @@
 -- Rules, section 4: the ranges, and what one record's values have to do with another's.
 use Prim.Native.Nat.{ℕ, zero, suc, _+_}
 use mathlib.Core.List.{List}
-use mathlib.Core.Bool.{Bool, cond, _&&_, _||_}
+use mathlib.Core.Bool.{Bool, true, cond, _&&_, _||_}
 use lib.Dec.{leb, ltb, eqb}
 use Rattle.units.specs.Day.{dayMinutes}
 use Rattle.tariff.specs.declared.Counts.{Counts}
 use Rattle.tariff.specs.declared.Factor.{Factor}
 use Rattle.tariff.specs.declared.fields.AreaFields.{AreaFields}
+use Rattle.tariff.specs.declared.fields.LongFields.{LongFields}
 use Rattle.tariff.specs.declared.fields.StopFields.{StopFields}
-use Rattle.tariff.specs.Layout.{areaPlace}
+use Rattle.tariff.specs.Layout.{commonKind, aachenKind, kindAt, areaPlace}
 use Rattle.tariff.specs.Fields.{areaFields}
 
 -- base 0..10,000; km price 0..1,000; validity and flat-cap minutes 30..1,440; percentages 0..100; all other money 0..60,000; day cap
@@ -65,25 +66,45 @@ tripCapRight f =
 unfoldable pub capsRight : AreaFields → Bool
 capsRight f = tripCapRight f && (money (f .«day_cap») || eqb (f .«day_cap») noDayCap) && money (f .«bicycle_flat»)
 
--- the level and the flat of an area by number
+-- the last four child tickets are zeros
+abbrev pub ticketsUnused : LongFields → Bool
+ticketsUnused g = eqb (g .child2) 0 && eqb (g .child3) 0 && eqb (g .child4) 0 && eqb (g .child5) 0
+
+-- the child tickets go by the adult's sort. Sort 0: five zeros. Sort 1: amount, four zeros. Sort 2: amounts for levels K, A, B, C, D
+abbrev pub ticketsRight : AreaFields → LongFields → Bool
+ticketsRight f g =
+    eqb (f .sort) 0 && eqb (g .child1) 0 && ticketsUnused g
+    || eqb (f .sort) 1 && money (g .child1) && ticketsUnused g
+    || eqb (f .sort) 2 && money (g .child1) && money (g .child2) && money (g .child3) && money (g .child4) && money (g .child5)
+
+-- what kind 8 has besides: the child tickets; the bicycle price; the town mark 0, or 1 or 2 in a city
+unfoldable pub longRight : AreaFields → LongFields → Bool
+longRight f g = ticketsRight f g && money (g .«bicycle_price») && (eqb (g .town) 0 || leb (g .town) 2 && eqb (f .level) 2)
+
+-- the level, the flat and the kind of an area by number
 abbrev pub levelOf : List ℕ → Counts → ℕ → ℕ
-levelOf b counts number = areaFields b (areaPlace counts number) .level
+levelOf b counts number = areaFields b (areaPlace b number) .level
 
 abbrev pub flatOf : List ℕ → Counts → ℕ → ℕ
-flatOf b counts number = areaFields b (areaPlace counts number) .«bicycle_flat»
+flatOf b counts number = areaFields b (areaPlace b number) .«bicycle_flat»
 
--- the next area after those so far: area 0 alone has level 0, parent 0; a region's parent is 0; a city's is an earlier region; no flat
--- exceeds its parent's
-unfoldable pub placeRight : List ℕ → Counts → AreaFields → Bool
-placeRight b soFar f =
-    cond (eqb (soFar .areas) 0) (eqb (f .level) 0 && eqb (f .parent) 0)
+abbrev pub kindOf : List ℕ → Counts → ℕ → ℕ
+kindOf b counts number = kindAt b (areaPlace b number)
+
+-- the next area after those so far: area 0 alone has level 0, parent 0, and it is of kind 1; a region's parent is 0; a city's is an earlier
+-- region of its own kind; no flat exceeds its parent's, but that of a region of kind 8 is not compared with the state's
+unfoldable pub placeRight : List ℕ → Counts → ℕ → AreaFields → Bool
+placeRight b soFar kind f =
+    cond (eqb (soFar .areas) 0) (eqb (f .level) 0 && eqb (f .parent) 0 && eqb kind commonKind)
     (ltb (f .parent) (soFar .areas)
-    && (eqb (f .level) 1 && eqb (f .parent) 0 || eqb (f .level) 2 && eqb (levelOf b soFar (f .parent)) 1)
-    && leb (f .«bicycle_flat») (flatOf b soFar (f .parent)))
+    && (eqb (f .level) 1 && eqb (f .parent) 0
+    || eqb (f .level) 2 && eqb (levelOf b soFar (f .parent)) 1 && eqb (kindOf b soFar (f .parent)) kind)
+    && (eqb (f .level) 1 && eqb kind aachenKind || leb (f .«bicycle_flat») (flatOf b soFar (f .parent))))
 
 -- every rule about an area's values
-abbrev pub areaRight : List ℕ → Counts → AreaFields → Bool
-areaRight b soFar f = pricesRight f && capsRight f && placeRight b soFar f
+abbrev pub areaRight : List ℕ → Counts → ℕ → AreaFields → LongFields → Bool
+areaRight b soFar kind f g =
+    pricesRight f && capsRight f && placeRight b soFar kind f && cond (eqb kind aachenKind) (longRight f g) true
 
 -- how many of the first n areas are the state or a region, by their levels
 unfoldable pub wideAmong : (ℕ → ℕ) → ℕ → ℕ

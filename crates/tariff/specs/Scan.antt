@@ -2,8 +2,9 @@
 -- nothing else; the first faulty record decides.
 use Prim.Native.Nat.{ℕ, zero, suc, _+_, _≤_, _<_}
 use mathlib.Core.Path.{_≡_}
+use mathlib.Core.Logic.{_⊎_}
 use mathlib.Core.List.{List}
-use mathlib.Core.Bool.{cond, _&&_, _||_}
+use mathlib.Core.Bool.{Bool, cond, _&&_, _||_}
 use lib.ListN.{length}
 use lib.Dec.{leb, ltb, eqb}
 use Rattle.wire.specs.Frame.{frameAt}
@@ -14,40 +15,44 @@ use Rattle.tariff.specs.declared.scan.Entry.the-variants.{End, Area, Fac
 use Rattle.tariff.specs.declared.Reading.{Reading}
 use Rattle.tariff.specs.declared.Reading.the-variants.{Fault, Faultless}
 use Rattle.tariff.specs.Layout.{
-  areaBody,
-  areaSize,
+  commonKind,
+  aachenKind,
+  areaBodyOf,
   factorBody,
   factorSize,
   stopBody,
   stopSize,
   mostAreas,
   mostStops,
+  areaEnd,
   areaPlace,
+  longAreas,
   factorPlace,
   stopPlace,
   areasBefore,
   factorsBefore,
   stopsBefore,
-  moreAreas,
+  oneArea,
   moreFactors,
   moreStops,
 }
-use Rattle.tariff.specs.Fields.{areaFields, factorFields, stopFields}
-use Rattle.tariff.specs.Rules.{areaRight, factorsDue, factorRight, stopRight}
+use Rattle.tariff.specs.Fields.{areaFields, longFields, factorFields, stopFields}
+use Rattle.tariff.specs.Rules.{kindOf, areaRight, factorsDue, factorRight, stopRight}
 use Rattle.tariff.specs.WrongValues.{WrongArea, WrongFactor, WrongStop}
 
--- a place that so many areas, factor records and stops reach
+-- a place that so many areas, so many of them of kind 8, factor records and stops reach
 pub record Reached (b : List ℕ) (at : ℕ) (soFar : Counts) : Type 0 where
   pub place : at ≡ stopPlace soFar (soFar .stops)
   pub inside : at ≤ length b
   pub few : soFar .areas ≤ mostAreas
+  pub long : soFar .long ≡ longAreas b (soFar .areas)
 
--- an area record: its body is 25 bytes, no factor record and no stop goes before it and fewer than 32 areas do, or it is 2; its values are
--- right, or it is 3
-unfoldable pub areaEntry : List ℕ → ℕ → Counts → ℕ → Entry
-areaEntry b at soFar body =
-    cond (eqb body areaBody && eqb (soFar .factors) 0 && eqb (soFar .stops) 0 && ltb (soFar .areas) mostAreas)
-    (cond (areaRight b soFar (areaFields b at)) Area (Faulty 3))
+-- an area record of one of its kinds: its body is 25 bytes in kind 1, 38 in kind 8, no factor record and no stop goes before it and fewer
+-- than 32 areas do, or it is 2; its values are right, or it is 3
+unfoldable pub areaEntry : List ℕ → ℕ → Counts → ℕ → ℕ → Entry
+areaEntry b at soFar kind body =
+    cond (eqb body (areaBodyOf kind) && eqb (soFar .factors) 0 && eqb (soFar .stops) 0 && ltb (soFar .areas) mostAreas)
+    (cond (areaRight b soFar kind (areaFields b at) (longFields b at)) (Area kind) (Faulty 3))
     (Faulty 2)
 
 -- a factor record: its body is 2 bytes, no stop goes before it and fewer factor records do than are due, or it is 2; its values are right,
@@ -66,6 +71,10 @@ stopEntry b at soFar body =
     (cond (stopRight (stopFields b at) (soFar .areas)) Stop (Faulty 3))
     (Faulty 2)
 
+-- the kinds of an area record
+abbrev pub isArea : ℕ → Bool
+isArea kind = eqb kind commonKind || eqb kind aachenKind
+
 -- what stands at a place, after so many areas, factor records and stops. At the tariff's end an area or a factor record may still be due: 2.
 -- A broken frame is 1. A kind that is neither an area's nor a factor record's nor a stop's is 2
 unfoldable pub entryAt : List ℕ → ℕ → Counts → Entry
@@ -74,7 +83,7 @@ entryAt b at soFar =
     (elim (frameAt b at) [
       | Broken ↦ Faulty 1
       | Whole kind body ↦
-          cond (eqb kind 1) (areaEntry b at soFar body)
+          cond (isArea kind) (areaEntry b at soFar kind body)
           (cond (eqb kind 5) (factorEntry b at soFar body)
           (cond (eqb kind 2) (stopEntry b at soFar body) (Faulty 2)))
     ])
@@ -87,18 +96,18 @@ readFrom (suc turns) b at soFar =
     elim (entryAt b at soFar) [
       | End ↦ Faultless soFar
       | Faulty number ↦ Fault number at
-      | Area ↦ readFrom turns b (at + areaSize) (moreAreas soFar 1)
+      | Area kind ↦ readFrom turns b (areaEnd b at) (oneArea soFar kind)
       | Factor ↦ readFrom turns b (at + factorSize) (moreFactors soFar 1)
       | Stop ↦ readFrom turns b (at + stopSize) (moreStops soFar 1)
     ]
 
 unfoldable pub readTariff : List ℕ → Reading
-readTariff b = readFrom (suc (length b)) b 0 (areasBefore 0)
+readTariff b = readFrom (suc (length b)) b 0 (areasBefore b 0)
 
 -- every record before a place that so many areas, factor records and stops reach is faultless
 pub record Passed (b : List ℕ) (at : ℕ) (soFar : Counts) : Type 0 where
   pub reached : Reached b at soFar
-  pub area : (i : ℕ) → i < soFar .areas → entryAt b (areaPlace soFar i) (areasBefore i) ≡ Area
+  pub area : (i : ℕ) → i < soFar .areas → entryAt b (areaPlace b i) (areasBefore b i) ≡ Area (kindOf b soFar i)
   pub factor : (k : ℕ) → k < soFar .factors → entryAt b (factorPlace soFar k) (factorsBefore soFar k) ≡ Factor
   pub stop : (j : ℕ) → j < soFar .stops → entryAt b (stopPlace soFar j) (stopsBefore soFar j) ≡ Stop
 
@@ -108,8 +117,9 @@ pub record FirstFault (b : List ℕ) (number at : ℕ) (soFar : Counts) : Type 0
   pub faulty : entryAt b at soFar ≡ Faulty number
 
 -- kind, body length, order and number of an area record are right
-pub record AreaInPlace (b : List ℕ) (at : ℕ) (soFar : Counts) : Type 0 where
-  pub frame : frameAt b at ≡ Whole 1 areaBody
+pub record AreaInPlace (b : List ℕ) (at : ℕ) (soFar : Counts) (kind : ℕ) : Type 0 where
+  pub kinds : (kind ≡ commonKind) ⊎ (kind ≡ aachenKind)
+  pub frame : frameAt b at ≡ Whole kind (areaBodyOf kind)
   pub no-factor : soFar .factors ≡ 0
   pub no-stop : soFar .stops ≡ 0
   pub few : soFar .areas < mostAreas
@@ -137,12 +147,13 @@ pub record BrokenFrame (b : List ℕ) (at : ℕ) : Type 0 where
 pub data OutOfPlace (b : List ℕ) (at : ℕ) (soFar : Counts) : Type 0 where
   no-area : length b ≤ at → soFar .areas ≡ 0 → OutOfPlace b at soFar
   factor-due : length b ≤ at → soFar .factors < factorsDue b soFar → OutOfPlace b at soFar
-  wrong : (kind body : ℕ) → frameAt b at ≡ Whole kind body → (AreaInPlace b at soFar → ⊥) → (FactorInPlace b at soFar → ⊥)
+  wrong : (kind body : ℕ) → frameAt b at ≡ Whole kind body → (AreaInPlace b at soFar kind → ⊥) → (FactorInPlace b at soFar → ⊥)
       → (StopInPlace b at soFar → ⊥) → OutOfPlace b at soFar
 
 -- fault 3: the frame is whole, kind, body length, order and number are right, and a value breaks a rule
 pub data WrongValue (b : List ℕ) (at : ℕ) (soFar : Counts) : Type 0 where
-  area-value : AreaInPlace b at soFar → WrongArea b soFar (areaFields b at) → WrongValue b at soFar
+  area-value :
+      {kind : ℕ} → AreaInPlace b at soFar kind → WrongArea b soFar kind (areaFields b at) (longFields b at) → WrongValue b at soFar
   factor-value : FactorInPlace b at soFar → WrongFactor (factorFields b at) (soFar .factors) → WrongValue b at soFar
   stop-value : StopInPlace b at soFar → WrongStop (stopFields b at) (soFar .areas) → WrongValue b at soFar
 

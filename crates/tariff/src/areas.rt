@@ -1,45 +1,123 @@
 // Areas and stops by number, of a faultless tariff, and the areas above an area. Nobody else knows where a record stands.
 use crate::Area;
 use crate::Counts;
+use crate::Kind;
+use crate::Limits;
 use crate::Stop;
+use crate::Town;
 use crate::TripCap;
+use crate::fields::AACHEN_KIND;
 use crate::fields::AREA_SIZE;
 use crate::fields::AreaFields;
 use crate::fields::FACTOR_SIZE;
-use crate::fields::FLAT;
-use crate::fields::LEVEL;
+use crate::fields::LONG_MORE;
+use crate::fields::LongFields;
 use crate::fields::NO_DAY_CAP;
-use crate::fields::PARENT;
 use crate::fields::STOP_SIZE;
+use crate::fields::area_end;
 use crate::fields::area_fields;
+use crate::fields::bicycle_price_at;
+use crate::fields::day_cap_at;
+use crate::fields::flat_at;
+use crate::fields::kind_at;
+use crate::fields::level_at;
+use crate::fields::long_fields;
+use crate::fields::parent_at;
+use crate::fields::reduction_at;
 use crate::fields::stop_fields;
+use crate::fields::surcharge_at;
+use crate::fields::town_at;
 use units::Cap;
 use units::Cents;
 use units::Metres;
 use units::Minutes;
-use wire::one_at;
-use wire::two_at;
 ghost use mathlib.Core.Path.{_≡_};
+ghost use mathlib.Core.Bool.{true};
 ghost use Prim.Native.Nat.{_≤_, _<_};
-ghost use Rattle.tariff.specs.Layout.{mostAreas, mostStops, areaPlace, stopPlace};
-ghost use Rattle.tariff.specs.Areas.{tripCapOf, dayCapOf, areaOf, areaAt, stopAt, liesWithin, Read, Smallest};
-ghost use Rattle.tariff.specs.Contracts.{AreaThere, ParentOf, FlatOf};
-ghost use Rattle.tariff.specs.Rules.{levelOf, flatOf};
+ghost use lib.ListN.{length};
+ghost use Rattle.tariff.specs.Layout.{mostAreas, mostStops, kindAt, areaEnd, areaPlace, stopPlace};
+ghost use Rattle.tariff.specs.Fields.{longFields};
+ghost use Rattle.tariff.specs.Areas.{
+  capOf,
+  tripCapOf,
+  childTicketOf,
+  townOf,
+  kindWith,
+  dayCapOf,
+  areaOf,
+  areaAt,
+  stopAt,
+  isAachen,
+  townAt,
+  liesWithin,
+  Read,
+  Smallest,
+};
+ghost use Rattle.tariff.specs.Contracts.{AreaThere, limitsOf, ParentOf, FlatOf, BicyclePriceOf};
+ghost use Rattle.tariff.specs.Rules.{levelOf};
+
+// The trip cap of a sort: flat up to some minutes, or by level.
+fn cap_of(sort: u8, minutes: u16, k: u16, a: u16, b: u16, c: u16, d: u16) -> TripCap
+    ensures { λ r. ⌜ r ≡ capOf sort minutes k a b c d ⌝ }
+{
+    match sort {
+        1 => TripCap::Flat(Cents(k as u32), Minutes(minutes as u32)),
+        2 => TripCap::ByLevel(
+            Cents(k as u32),
+            Cents(a as u32),
+            Cents(b as u32),
+            Cents(c as u32),
+            Cents(d as u32),
+        ),
+        _ => TripCap::NoCap,
+    }
+}
 
 fn trip_cap_of(f: AreaFields) -> TripCap
     ensures { λ r. ⌜ r ≡ tripCapOf f ⌝ }
 {
-    let sort = f.sort;
-    match sort {
-        1 => TripCap::Flat(Cents(f.cap1 as u32), Minutes(f.cap2 as u32)),
-        2 => TripCap::ByLevel(
-            Cents(f.cap1 as u32),
-            Cents(f.cap2 as u32),
-            Cents(f.cap3 as u32),
-            Cents(f.cap4 as u32),
-            Cents(f.cap5 as u32),
-        ),
-        _ => TripCap::NoCap,
+    cap_of(f.sort, f.cap2, f.cap1, f.cap2, f.cap3, f.cap4, f.cap5)
+}
+
+// A child ticket has the adult's sort and minutes.
+fn child_ticket_of(f: AreaFields, g: LongFields) -> TripCap
+    ensures { λ r. ⌜ r ≡ childTicketOf f g ⌝ }
+{
+    cap_of(
+        f.sort,
+        f.cap2,
+        g.child1,
+        g.child2,
+        g.child3,
+        g.child4,
+        g.child5,
+    )
+}
+
+fn town_of(mark: u8) -> Town
+    ensures { λ r. ⌜ r ≡ townOf mark ⌝ }
+{
+    match mark {
+        1 => Town::BaseDropped,
+        2 => Town::KmDropped,
+        _ => Town::Unmarked,
+    }
+}
+
+// The kind of the area whose record stands at a place.
+fn kind_with(b: &[u8], at: usize, f: AreaFields) -> Kind
+    requires { ⌜ areaEnd (now b) at ≤ length (now b) ⌝ }
+    ensures { λ r. ⌜ r ≡ kindWith (kindAt (now (b .entry)) at) f (longFields (now (b .entry)) at) ⌝ }
+{
+    if kind_at(b, at) == AACHEN_KIND {
+        let g = long_fields(b, at);
+        Kind::Aachen {
+            child_ticket: child_ticket_of(f, g),
+            bicycle_price: Cents(g.bicycle_price as u32),
+            town: town_of(g.town),
+        }
+    } else {
+        Kind::Common
     }
 }
 
@@ -54,8 +132,8 @@ fn day_cap_of(amount: u16) -> Cap
 }
 
 // An area in its units, out of the numbers of its record.
-fn area_of(f: AreaFields) -> Area
-    ensures { λ r. ⌜ r ≡ areaOf f ⌝ }
+fn area_of(f: AreaFields, kind: Kind) -> Area
+    ensures { λ r. ⌜ r ≡ areaOf f kind ⌝ }
 {
     Area {
         level: f.level,
@@ -68,29 +146,43 @@ fn area_of(f: AreaFields) -> Area
         trip_cap: trip_cap_of(f),
         day_cap: day_cap_of(f.day_cap),
         bicycle_flat: Cents(f.bicycle_flat as u32),
+        kind,
     }
 }
 
-// Where the record of an area begins, and where that of a stop.
-fn area_place(counts: Counts, number: usize) -> usize
-    requires { ⌜ number < mostAreas ⌝ }
-    ensures { λ r. ⌜ r ≡ areaPlace counts number ⌝ }
+// Where the record of an area begins. Where no area is of kind 8 all records have one length; else those before it are walked over.
+pub fn area_place(b: &[u8], counts: Counts, number: usize) -> usize
+    requires { ⌜ AreaThere (now b) counts number ⌝ }
+    ensures { λ r. ⌜ r ≡ areaPlace (now (b .entry)) number ⌝ }
 {
-    AREA_SIZE * number
+    if counts.long == 0 {
+        return AREA_SIZE * number;
+    }
+    let mut at = 0;
+    for i in 0..number {
+        at = area_end(b, at);
+    }
+    at
 }
 
+// Where the record of a stop begins.
 fn stop_place(counts: Counts, number: usize) -> usize
-    requires { ⌜ (counts .areas ≤ mostAreas) × (counts .factors ≤ mostAreas) × (number < mostStops) ⌝ }
+    requires { ⌜ (counts .areas ≤ mostAreas) × (counts .long ≤ mostAreas) × (counts .factors ≤ mostAreas) × (number < mostStops) ⌝ }
     ensures { λ r. ⌜ r ≡ stopPlace counts number ⌝ }
 {
-    AREA_SIZE * counts.areas + FACTOR_SIZE * counts.factors + STOP_SIZE * number
+    AREA_SIZE * counts.areas as usize
+        + LONG_MORE * counts.long as usize
+        + FACTOR_SIZE * counts.factors as usize
+        + STOP_SIZE * number
 }
 
 pub fn area(tariff: &[u8], counts: Counts, number: usize) -> Area
     requires { ⌜ Read (now tariff) counts × (number < counts .areas) ⌝ }
     ensures { λ r. ⌜ r ≡ areaAt (now (tariff .entry)) counts number ⌝ }
 {
-    area_of(area_fields(tariff, area_place(counts, number)))
+    let at = area_place(tariff, counts, number);
+    let f = area_fields(tariff, at);
+    area_of(f, kind_with(tariff, at, f))
 }
 
 pub fn stop(tariff: &[u8], counts: Counts, number: usize) -> Stop
@@ -105,27 +197,24 @@ pub fn stop(tariff: &[u8], counts: Counts, number: usize) -> Stop
     }
 }
 
+pub fn limits(tariff: &[u8], counts: Counts, number: usize) -> Limits
+    requires { ⌜ Read (now tariff) counts × (number < counts .areas) ⌝ }
+    ensures { λ r. ⌜ r ≡ limitsOf (areaAt (now (tariff .entry)) counts number) ⌝ }
+{
+    let at = area_place(tariff, counts, number);
+    Limits {
+        day_cap: day_cap_of(day_cap_at(tariff, at)),
+        surcharge: surcharge_at(tariff, at),
+        reduction: reduction_at(tariff, at),
+    }
+}
+
 // The area above an area; the state is its own.
 pub fn parent(tariff: &[u8], counts: Counts, number: usize) -> usize
     requires { ⌜ Read (now tariff) counts × (number < counts .areas) ⌝ }
     ensures { λ r. ⌜ ParentOf (now (tariff .entry)) counts number r ⌝ }
 {
-    one_at(tariff, area_place(counts, number) + PARENT) as usize
-}
-
-// The level and the bicycle flat of an area whose record is there: what the rules ask of an earlier area.
-pub fn level_there(tariff: &[u8], counts: Counts, number: usize) -> u8
-    requires { ⌜ AreaThere (now tariff) counts number ⌝ }
-    ensures { λ r. ⌜ r ≡ levelOf (now (tariff .entry)) counts number ⌝ }
-{
-    one_at(tariff, area_place(counts, number) + LEVEL)
-}
-
-pub fn flat_there(tariff: &[u8], counts: Counts, number: usize) -> u16
-    requires { ⌜ AreaThere (now tariff) counts number ⌝ }
-    ensures { λ r. ⌜ r ≡ flatOf (now (tariff .entry)) counts number ⌝ }
-{
-    two_at(tariff, area_place(counts, number) + FLAT)
+    parent_at(tariff, area_place(tariff, counts, number)) as usize
 }
 
 // An area's level: 0 the state, 1 a region, 2 a city; as many areas lie above it.
@@ -133,15 +222,44 @@ pub fn level(tariff: &[u8], counts: Counts, number: usize) -> u8
     requires { ⌜ Read (now tariff) counts × (number < counts .areas) ⌝ }
     ensures { λ r. ⌜ r ≡ levelOf (now (tariff .entry)) counts number ⌝ }
 {
-    level_there(tariff, counts, number)
+    level_at(tariff, area_place(tariff, counts, number))
 }
 
-// An area's bicycle flat.
+// An area's bicycle flat; in an area of kind 8 the bicycle's cap per window.
 pub fn flat(tariff: &[u8], counts: Counts, number: usize) -> Cents
     requires { ⌜ Read (now tariff) counts × (number < counts .areas) ⌝ }
     ensures { λ r. ⌜ FlatOf (now (tariff .entry)) counts number (r .0) ⌝ }
 {
-    Cents(flat_there(tariff, counts, number) as u32)
+    Cents(flat_at(tariff, area_place(tariff, counts, number)) as u32)
+}
+
+// Whether an area is of kind 8.
+pub fn is_aachen(tariff: &[u8], counts: Counts, number: usize) -> bool
+    requires { ⌜ Read (now tariff) counts × (number < counts .areas) ⌝ }
+    ensures { λ r. ⌜ r ≡ isAachen (now (tariff .entry)) counts number ⌝ }
+{
+    kind_at(tariff, area_place(tariff, counts, number)) == AACHEN_KIND
+}
+
+// The bicycle price per trip of an area of kind 8.
+pub fn bicycle_price(tariff: &[u8], counts: Counts, number: usize) -> Cents
+    requires { ⌜ Read (now tariff) counts × (number < counts .areas) × (isAachen (now tariff) counts number ≡ true) ⌝ }
+    ensures { λ r. ⌜ BicyclePriceOf (now (tariff .entry)) counts number (r .0) ⌝ }
+{
+    Cents(bicycle_price_at(tariff, area_place(tariff, counts, number)) as u32)
+}
+
+// An area's town mark; an area of kind 1 has none.
+pub fn town(tariff: &[u8], counts: Counts, number: usize) -> Town
+    requires { ⌜ Read (now tariff) counts × (number < counts .areas) ⌝ }
+    ensures { λ r. ⌜ r ≡ townAt (now (tariff .entry)) counts number ⌝ }
+{
+    let at = area_place(tariff, counts, number);
+    if kind_at(tariff, at) == AACHEN_KIND {
+        town_of(town_at(tariff, at))
+    } else {
+        Town::Unmarked
+    }
 }
 
 // Whether an area is, or lies within, another.
@@ -158,6 +276,8 @@ pub fn smallest_containing(tariff: &[u8], counts: Counts, a: usize, b: usize) ->
     requires { ⌜ Read (now tariff) counts × ((a < counts .areas) × (b < counts .areas)) ⌝ }
     ensures { λ r. ⌜ Smallest (now (tariff .entry)) counts a b r ⌝ }
 {
+    // Borrowed anew, it comes in a register; else each caller keeps a copy of the slice on the stack for us.
+    let tariff = &*tariff;
     if lies_within(tariff, counts, b, a) {
         return a;
     }

@@ -3,42 +3,44 @@
 use crate::Counts;
 use crate::Factor;
 use crate::areas::level;
-use crate::areas::level_there;
 use crate::areas::parent;
 use crate::fields::AREA_SIZE;
 use crate::fields::FACTOR_SIZE;
+use crate::fields::LONG_MORE;
+use crate::fields::area_end;
 use crate::fields::factor_fields;
+use crate::fields::level_at;
 ghost use mathlib.Core.Path.{_≡_};
+ghost use mathlib.Core.Bool.{cond};
 ghost use Prim.Native.Nat.{_+_, _≤_, _<_};
+ghost use lib.Dec.{ltb};
 ghost use Rattle.tariff.specs.Layout.{mostAreas, factorPlace};
 ghost use Rattle.tariff.specs.Rules.{wideAreas};
 ghost use Rattle.tariff.specs.Areas.{Read};
 ghost use Rattle.tariff.specs.Factors.{isCity};
-ghost use Rattle.tariff.specs.Contracts.{AreaThere, RegionOf, FactorOf};
+ghost use Rattle.tariff.specs.Contracts.{RegionOf, FactorOf};
 
 // A city's level; the state and the regions have a lower one.
 const CITY: u8 = 2;
 
-// How many areas up to one, itself too, are the state or a region, from how many are before it.
-pub fn wide_with(b: &[u8], counts: Counts, number: usize, before: usize) -> usize
-    requires { ⌜ AreaThere (now b) counts number × (before ≡ wideAreas (now b) counts number) ⌝ }
-    ensures { λ r. ⌜ r ≡ wideAreas (now (b .entry)) counts (number + 1) ⌝ }
+// How many areas up to one, itself too, are the state or a region, from its level and how many are before it.
+pub fn wide_with(level: u8, before: u16) -> u16
+    requires { ⌜ before ≤ mostAreas ⌝ }
+    ensures { λ r. ⌜ r ≡ before + cond (ltb level 2) 1 0 ⌝ }
 {
-    if level_there(b, counts, number) < CITY {
-        before + 1
-    } else {
-        before
-    }
+    if level < CITY { before + 1 } else { before }
 }
 
-// How many areas before one are the state or a region.
-fn wide_before(tariff: &[u8], counts: Counts, number: usize) -> usize
+// How many areas before one are the state or a region: their records are walked over.
+fn wide_before(tariff: &[u8], counts: Counts, number: usize) -> u16
     requires { ⌜ Read (now tariff) counts × (number < counts .areas) ⌝ }
     ensures { λ r. ⌜ r ≡ wideAreas (now (tariff .entry)) counts number ⌝ }
 {
     let mut wide = 0;
+    let mut at = 0;
     for i in 0..number {
-        wide = wide_with(tariff, counts, i, wide);
+        wide = wide_with(level_at(tariff, at), wide);
+        at = area_end(tariff, at);
     }
     wide
 }
@@ -65,10 +67,10 @@ fn region_of(tariff: &[u8], counts: Counts, area: usize) -> usize
 
 // Where a factor record begins.
 fn factor_place(counts: Counts, number: usize) -> usize
-    requires { ⌜ (counts .areas ≤ mostAreas) × (number < mostAreas) ⌝ }
+    requires { ⌜ (counts .areas ≤ mostAreas) × (counts .long ≤ mostAreas) × (number < mostAreas) ⌝ }
     ensures { λ r. ⌜ r ≡ factorPlace counts number ⌝ }
 {
-    AREA_SIZE * counts.areas + FACTOR_SIZE * number
+    AREA_SIZE * counts.areas as usize + LONG_MORE * counts.long as usize + FACTOR_SIZE * number
 }
 
 pub fn factor_of(tariff: &[u8], counts: Counts, area: usize) -> Factor
@@ -76,5 +78,5 @@ pub fn factor_of(tariff: &[u8], counts: Counts, area: usize) -> Factor
     ensures { λ r. ⌜ FactorOf (now (tariff .entry)) counts area r ⌝ }
 {
     let number = wide_before(tariff, counts, region_of(tariff, counts, area));
-    factor_fields(tariff, factor_place(counts, number))
+    factor_fields(tariff, factor_place(counts, number as usize))
 }

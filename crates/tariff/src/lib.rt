@@ -27,6 +27,24 @@ pub enum TripCap {
     ByLevel(Cents, Cents, Cents, Cents, Cents),
 }
 
+// What a ride inside a town is priced without: nothing, the base price, or the price per km.
+pub enum Town {
+    Unmarked,
+    BaseDropped,
+    KmDropped,
+}
+
+// The kind of an area, by its record. The Aachen kind has child tickets of the trip cap's sort, a bicycle price per trip and a town mark.
+pub enum Kind {
+    Common,
+    Aachen {
+        child_ticket: TripCap,
+        bicycle_price: Cents,
+        town: Town,
+    },
+}
+
+// In an area of the Aachen kind the bicycle flat is the bicycle's cap per window.
 pub struct Area {
     pub level: u8,
     pub parent: u8,
@@ -38,6 +56,14 @@ pub struct Area {
     pub trip_cap: TripCap,
     pub day_cap: Cap,
     pub bicycle_flat: Cents,
+    pub kind: Kind,
+}
+
+// What an area's caps are made of: its day cap, the surcharge of first class and a child's reduction.
+pub struct Limits {
+    pub day_cap: Cap,
+    pub surcharge: u8,
+    pub reduction: u8,
 }
 
 // When a trip is broken in two: its factor, and whether trips wholly inside one city are left whole (mark 1).
@@ -52,11 +78,12 @@ pub struct Stop {
     pub y: Metres,
 }
 
-// How many areas, factor records and stops a faultless tariff has.
+// How many areas, factor records and stops a faultless tariff has; `long` of the areas have the longer record, kind 8.
 pub struct Counts {
-    pub areas: usize,
-    pub factors: usize,
-    pub stops: usize,
+    pub areas: u16,
+    pub long: u16,
+    pub factors: u16,
+    pub stops: u16,
 }
 
 // What reading a tariff comes to: the first faulty record's refusal and offset, or the counts.

@@ -18,7 +18,7 @@ pub const ROW_STOPS: usize = 4;
 pub const ROW_SIZE: usize = ROW_STOPS * STOP_SIZE;
 
 // Whether a whole stop record without fault stands at a place.
-fn stop_stands(b: &[u8], at: usize, areas: usize) -> bool
+fn stop_stands(b: &[u8], at: usize, areas: u16) -> bool
     requires { ⌜ at + stopSize ≤ length (now b) ⌝ }
     ensures { λ r. ⌜ r ≡ stopStands (now (b .entry)) at areas ⌝ }
 {
@@ -26,7 +26,7 @@ fn stop_stands(b: &[u8], at: usize, areas: usize) -> bool
 }
 
 // Whether four of them stand in a row. All are looked at, so that the compiler can take them together.
-fn row_stands(b: &[u8], at: usize, areas: usize) -> bool
+fn row_stands(b: &[u8], at: usize, areas: u16) -> bool
     requires { ⌜ at + rowSize ≤ length (now b) ⌝ }
     ensures { λ r. ⌜ r ≡ rowStands (now (b .entry)) at areas ⌝ }
 {
@@ -37,7 +37,7 @@ fn row_stands(b: &[u8], at: usize, areas: usize) -> bool
 }
 
 // How many rows stand one after another from a place on, of `most` that there is room for.
-pub fn rows_standing(b: &[u8], from: usize, areas: usize, most: usize) -> usize
+pub fn rows_standing(b: &[u8], from: usize, areas: u16, most: usize) -> usize
     requires { ⌜ from + rowSize * most ≤ length (now b) ⌝ }
     ensures { λ r. ⌜ (r ≡ rowsStanding most (now (b .entry)) from areas) × (r ≤ most) ⌝ }
 {

@@ -1,16 +1,36 @@
-// Which values a record may have: the ranges, the trip-cap sorts and their zeros, levels, parents and flats.
+// Which values a record may have: the ranges, the trip-cap sorts and their zeros, levels, parents, kinds and flats.
 use crate::Counts;
 use crate::Factor;
-use crate::areas::flat_there;
-use crate::areas::level_there;
+use crate::areas::area_place;
+use crate::fields::AACHEN_KIND;
 use crate::fields::AreaFields;
+use crate::fields::COMMON_KIND;
+use crate::fields::LongFields;
 use crate::fields::NO_DAY_CAP;
 use crate::fields::StopFields;
+use crate::fields::flat_at;
+use crate::fields::kind_at;
+use crate::fields::level_at;
+use crate::fields::long_fields;
 ghost use mathlib.Core.Path.{_≡_};
-ghost use Prim.Native.Nat.{_≤_};
+ghost use mathlib.Core.Bool.{true, cond};
+ghost use Prim.Native.Nat.{_+_, _≤_};
 ghost use lib.ListN.{length};
-ghost use Rattle.tariff.specs.Layout.{mostAreas, areaPlace};
-ghost use Rattle.tariff.specs.Rules.{pricesRight, tripCapRight, capsRight, placeRight, factorRight, stopRight};
+ghost use lib.Dec.{eqb};
+ghost use Rattle.wire.specs.Frame.{headSize};
+ghost use Rattle.tariff.specs.Layout.{aachenKind, areaBodyOf};
+ghost use Rattle.tariff.specs.Fields.{longFields};
+ghost use Rattle.tariff.specs.Rules.{
+  pricesRight,
+  tripCapRight,
+  capsRight,
+  ticketsRight,
+  longRight,
+  placeRight,
+  factorRight,
+  stopRight,
+};
+ghost use Rattle.tariff.specs.Contracts.{AreasThere};
 
 const MOST_BASE_PRICE: u16 = 10_000;
 
@@ -69,34 +89,74 @@ pub fn caps_right(f: AreaFields) -> bool
         & (f.bicycle_flat <= MONEY)
 }
 
-// The next area after those so far: area 0 alone has level 0, parent 0. A region's parent is 0; a city's is an earlier region. No flat exceeds the parent's.
-pub fn place_right(b: &[u8], so_far: Counts, f: AreaFields) -> bool
-    requires { ⌜ (areaPlace «so_far» («so_far» .areas) ≤ length (now b)) × («so_far» .areas ≤ mostAreas) ⌝ }
-    ensures { λ r. ⌜ r ≡ placeRight (now (b .entry)) «so_far» f ⌝ }
+// The child tickets, by the adult's sort. Sort 0: five zeros. Sort 1: amount, four zeros. Sort 2: five amounts.
+pub fn tickets_right(f: AreaFields, g: LongFields) -> bool
+    ensures { λ r. ⌜ r ≡ ticketsRight f g ⌝ }
+{
+    let unused = (g.child2 == 0) & (g.child3 == 0) & (g.child4 == 0) & (g.child5 == 0);
+    let none = (f.sort == 0) & (g.child1 == 0) & unused;
+    let flat = (f.sort == 1) & (g.child1 <= MONEY) & unused;
+    let by_level = (f.sort == 2)
+        & (g.child1 <= MONEY)
+        & (g.child2 <= MONEY)
+        & (g.child3 <= MONEY)
+        & (g.child4 <= MONEY)
+        & (g.child5 <= MONEY);
+    none | flat | by_level
+}
+
+// What kind 8 has besides: the child tickets, the bicycle price, and the town mark, which is 0 unless the area is a city.
+pub fn long_right(f: AreaFields, g: LongFields) -> bool
+    ensures { λ r. ⌜ r ≡ longRight f g ⌝ }
+{
+    tickets_right(f, g)
+        & (g.bicycle_price <= MONEY)
+        & ((g.town == 0) | ((g.town <= 2) & (f.level == 2)))
+}
+
+// Of the record at a place: kind 1 has nothing besides.
+pub fn rest_right(b: &[u8], at: usize, kind: u16, f: AreaFields) -> bool
+    requires { ⌜ at + headSize + areaBodyOf kind ≤ length (now b) ⌝ }
+    ensures { λ r. ⌜ r ≡ cond (eqb kind aachenKind) (longRight f (longFields (now (b .entry)) at)) true ⌝ }
+{
+    if kind == AACHEN_KIND {
+        long_right(f, long_fields(b, at))
+    } else {
+        true
+    }
+}
+
+// The next area after those so far: area 0 alone has level 0, parent 0, and is of kind 1. A region's parent is 0; a city's is an earlier
+// region of its own kind. No flat exceeds the parent's, but that of a region of kind 8 may.
+pub fn place_right(b: &[u8], so_far: Counts, kind: u16, f: AreaFields) -> bool
+    requires { ⌜ AreasThere (now b) «so_far» ⌝ }
+    ensures { λ r. ⌜ r ≡ placeRight (now (b .entry)) «so_far» kind f ⌝ }
 {
     let number = so_far.areas;
     if number == 0 {
-        return (f.level == 0) & (f.parent == 0);
+        return (f.level == 0) & (f.parent == 0) & (kind == COMMON_KIND);
     }
-    let parent = f.parent as usize;
-    if number <= parent {
+    let parent = f.parent;
+    if number <= parent as u16 {
         return false;
     }
+    let at = area_place(b, so_far, parent as usize);
     let region = (f.level == 1) & (f.parent == 0);
-    let city = (f.level == 2) & (level_there(b, so_far, parent) == 1);
-    (region | city) & (f.bicycle_flat <= flat_there(b, so_far, parent))
+    let city = (f.level == 2) & (level_at(b, at) == 1) & (kind_at(b, at) == kind);
+    let free = (f.level == 1) & (kind == AACHEN_KIND);
+    (region | city) & (free | (f.bicycle_flat <= flat_at(b, at)))
 }
 
 // The next factor record after so many: its factor, and its mark, which is 0 in the state's, the first.
-pub fn factor_right(f: Factor, before: usize) -> bool
+pub fn factor_right(f: Factor, before: u16) -> bool
     ensures { λ r. ⌜ r ≡ factorRight f before ⌝ }
 {
     (1 <= f.factor) & (f.factor <= MOST_FACTOR) & ((f.mark == 0) | ((f.mark == 1) & (0 < before)))
 }
 
 // A stop's area exists; x and y lie on the plane.
-pub fn stop_right(f: StopFields, areas: usize) -> bool
+pub fn stop_right(f: StopFields, areas: u16) -> bool
     ensures { λ r. ⌜ r ≡ stopRight f areas ⌝ }
 {
-    ((f.area as usize) < areas) & (f.x <= MOST_METRES) & (f.y <= MOST_METRES)
+    ((f.area as u16) < areas) & (f.x <= MOST_METRES) & (f.y <= MOST_METRES)
 }

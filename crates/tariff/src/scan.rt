@@ -2,19 +2,23 @@
 use crate::Counts;
 use crate::Reading;
 use crate::factors::wide_with;
+use crate::fields::AACHEN_KIND;
 use crate::fields::AREA_BODY;
-use crate::fields::AREA_KIND;
-use crate::fields::AREA_SIZE;
+use crate::fields::COMMON_KIND;
 use crate::fields::FACTOR_BODY;
 use crate::fields::FACTOR_KIND;
 use crate::fields::FACTOR_SIZE;
+use crate::fields::LONG_MORE;
 use crate::fields::MOST_AREAS;
 use crate::fields::MOST_STOPS;
 use crate::fields::STOP_BODY;
 use crate::fields::STOP_KIND;
 use crate::fields::STOP_SIZE;
+use crate::fields::area_end;
 use crate::fields::area_fields;
 use crate::fields::factor_fields;
+use crate::fields::level_at;
+use crate::fields::long_of;
 use crate::fields::stop_fields;
 use crate::rows::ROW_SIZE;
 use crate::rows::ROW_STOPS;
@@ -23,6 +27,7 @@ use crate::rules::caps_right;
 use crate::rules::factor_right;
 use crate::rules::place_right;
 use crate::rules::prices_right;
+use crate::rules::rest_right;
 use crate::rules::stop_right;
 use wire::Frame;
 use wire::frame_at;
@@ -34,28 +39,32 @@ ghost use Rattle.tariff.specs.Rules.{factorsDue};
 ghost use Rattle.tariff.specs.Contracts.{rowStops, rowSize};
 ghost use Rattle.tariff.specs.Scan.{Reached, areaEntry, factorEntry, stopEntry, entryAt, readTariff};
 
-// What stands at a place of the tariff: its end, a faultless area, factor record or stop, or a record with a fault (1, 2 or 3).
+// What stands at a place of the tariff: its end, a faultless area of some kind, factor record or stop, or a record with a fault (1, 2 or 3).
 pub enum Entry {
     End,
-    Area,
+    Area(u16),
     Factor,
     Stop,
     Faulty(u8),
 }
 
-// An area record with a whole frame, after those so far.
-fn area_entry(b: &[u8], at: usize, so_far: Counts, body: usize) -> Entry
+// An area record of a kind with a whole frame, after those so far.
+fn area_entry(b: &[u8], at: usize, so_far: Counts, kind: u16, body: usize) -> Entry
     requires { ⌜ Reached (now b) at «so_far» × (at + 4 + body ≤ length (now b)) ⌝ }
-    ensures { λ r. ⌜ r ≡ areaEntry (now (b .entry)) at «so_far» body ⌝ }
+    ensures { λ r. ⌜ r ≡ areaEntry (now (b .entry)) at «so_far» kind body ⌝ }
 {
-    if (body == AREA_BODY)
+    if (body == AREA_BODY + LONG_MORE * long_of(kind))
         & (so_far.factors == 0)
         & (so_far.stops == 0)
         & (so_far.areas < MOST_AREAS)
     {
         let f = area_fields(b, at);
-        if prices_right(f) & caps_right(f) & place_right(b, so_far, f) {
-            Entry::Area
+        if prices_right(f)
+            & caps_right(f)
+            & place_right(b, so_far, kind, f)
+            & rest_right(b, at, kind, f)
+        {
+            Entry::Area(kind)
         } else {
             Entry::Faulty(3)
         }
@@ -65,7 +74,7 @@ fn area_entry(b: &[u8], at: usize, so_far: Counts, body: usize) -> Entry
 }
 
 // A factor record with a whole frame, after those so far, of so many that are due.
-fn factor_entry(b: &[u8], at: usize, so_far: Counts, due: usize, body: usize) -> Entry
+fn factor_entry(b: &[u8], at: usize, so_far: Counts, due: u16, body: usize) -> Entry
     requires { ⌜ (due ≡ factorsDue (now b) «so_far») × (at + 4 + body ≤ length (now b)) ⌝ }
     ensures { λ r. ⌜ r ≡ factorEntry (now (b .entry)) at «so_far» body ⌝ }
 {
@@ -81,7 +90,7 @@ fn factor_entry(b: &[u8], at: usize, so_far: Counts, due: usize, body: usize) ->
 }
 
 // A stop record with a whole frame, after those so far, with so many factor records due.
-fn stop_entry(b: &[u8], at: usize, so_far: Counts, due: usize, body: usize) -> Entry
+fn stop_entry(b: &[u8], at: usize, so_far: Counts, due: u16, body: usize) -> Entry
     requires { ⌜ (due ≡ factorsDue (now b) «so_far») × (at + 4 + body ≤ length (now b)) ⌝ }
     ensures { λ r. ⌜ r ≡ stopEntry (now (b .entry)) at «so_far» body ⌝ }
 {
@@ -101,7 +110,7 @@ fn stop_entry(b: &[u8], at: usize, so_far: Counts, due: usize, body: usize) -> E
 }
 
 // What stands at the place that the records so far reach, with so many factor records due.
-pub fn entry_at(b: &[u8], at: usize, so_far: Counts, due: usize) -> Entry
+pub fn entry_at(b: &[u8], at: usize, so_far: Counts, due: u16) -> Entry
     requires { ⌜ Reached (now b) at «so_far» × (due ≡ factorsDue (now b) «so_far») ⌝ }
     ensures { λ r. ⌜ r ≡ entryAt (now (b .entry)) at «so_far» ⌝ }
 {
@@ -114,8 +123,8 @@ pub fn entry_at(b: &[u8], at: usize, so_far: Counts, due: usize) -> Entry
     match frame_at(b, at) {
         Frame::Broken => Entry::Faulty(1),
         Frame::Whole { kind, body } => {
-            if kind == AREA_KIND {
-                area_entry(b, at, so_far, body)
+            if (kind == COMMON_KIND) | (kind == AACHEN_KIND) {
+                area_entry(b, at, so_far, kind, body)
             } else if kind == FACTOR_KIND {
                 factor_entry(b, at, so_far, due, body)
             } else if kind == STOP_KIND {
@@ -128,12 +137,12 @@ pub fn entry_at(b: &[u8], at: usize, so_far: Counts, due: usize) -> Entry
 }
 
 // How many rows of stops there is room for: in the bytes that are left, and up to the most stops.
-fn rows_due(left: usize, stops: usize) -> usize
+fn rows_due(left: usize, stops: u16) -> usize
     requires { ⌜ stops ≤ mostStops ⌝ }
     ensures { λ r. ⌜ r ≡ min (left / rowSize) ((mostStops - stops) / rowStops) ⌝ }
 {
     let room = left / ROW_SIZE;
-    let due = (MOST_STOPS - stops) / ROW_STOPS;
+    let due = (MOST_STOPS - stops) as usize / ROW_STOPS;
     if room <= due { room } else { due }
 }
 
@@ -144,6 +153,7 @@ pub fn read_tariff(tariff: &[u8]) -> Reading
     let mut at = 0;
     let mut so_far = Counts {
         areas: 0,
+        long: 0,
         factors: 0,
         stops: 0,
     };
@@ -156,10 +166,11 @@ pub fn read_tariff(tariff: &[u8]) -> Reading
             Entry::Faulty(number) => {
                 break Reading::Fault { number, at };
             }
-            Entry::Area => {
-                due = wide_with(tariff, so_far, so_far.areas, due);
-                at += AREA_SIZE;
+            Entry::Area(kind) => {
+                due = wide_with(level_at(tariff, at), due);
+                at = area_end(tariff, at);
                 so_far.areas += 1;
+                so_far.long += long_of(kind) as u16;
             }
             Entry::Factor => {
                 at += FACTOR_SIZE;
@@ -175,7 +186,7 @@ pub fn read_tariff(tariff: &[u8]) -> Reading
                     rows_due(tariff.len() - at, so_far.stops),
                 );
                 at += ROW_SIZE * rows;
-                so_far.stops += ROW_STOPS * rows;
+                so_far.stops += (ROW_STOPS * rows) as u16;
             }
         }
     }

@@ -4,14 +4,17 @@ use super::random::Random;
 use super::trips::{DAY, LAST_MINUTE};
 use crate::numbers::number;
 
-pub const BYTES: usize = 5_428;
-pub const WORDS: usize = 1_357;
+pub const BYTES: usize = 5_468;
+pub const WORDS: usize = 1_367;
 /// The words of the window.
 pub const TRIPS: usize = 0;
 pub const OPENING: usize = 1;
 pub const LAST_CHECK_OUT: usize = 2;
 /// The first of the ten words of the bicycles.
 pub const BICYCLES: usize = 1_347;
+/// The first of the ten words of their payments per trip, none of which is larger than this.
+pub const PAYMENTS: usize = 1_357;
+pub const MOST_PAYMENTS: u64 = 15_360_000;
 /// The pairs of sums: 21 riders, 32 areas.
 const PAIRS: usize = 672;
 /// No sum is larger than this times the trips in the window.
@@ -64,7 +67,9 @@ pub fn sound_at_the_edges(random: &mut Random, areas: usize, latest: u64) -> Vec
     }
     for bicycle in 0..10 {
         let any = random.within(0, areas as u64);
-        set_word(&mut book, BICYCLES + bicycle, random.pick(&[0, 0, 1, areas as u64, any]));
+        set_word(&mut book, BICYCLES + bicycle, random.pick(&[0, 0, 0, 1, areas as u64, any]));
+        let paid = random.within(100, 600);
+        set_word(&mut book, PAYMENTS + bicycle, random.pick(&[0, paid, paid, paid, 60_000, MOST_PAYMENTS]));
     }
     book
 }
@@ -82,7 +87,7 @@ pub fn spoil(random: &mut Random, book: &mut Vec<u8>, areas: usize) {
     let opening = word(book, OPENING);
     let (second, all) = pair(random.index(PAIRS));
     let limit = trips * MOST_A_TRIP;
-    match random.below(10) {
+    match random.below(11) {
         0 => set_word(book, TRIPS, random.pick(&[257, 258, 512, 1_134, 65_536, 1 << 31, u64::from(u32::MAX)])),
         1 => {
             set_word(book, TRIPS, 0);
@@ -112,7 +117,12 @@ pub fn spoil(random: &mut Random, book: &mut Vec<u8>, areas: usize) {
             let covering = random.pick(&[areas as u64 + 1, areas as u64 + 1, 33, 256, u64::from(u32::MAX)]);
             set_word(book, BICYCLES + random.index(10), covering.max(areas as u64 + 1));
         }
-        _ => book.resize(random.pick(&[0, 1, 4, 5_424, 5_427, 5_429, 5_432, 10_856]), 0),
+        9 => {
+            let paid = random.pick(&[MOST_PAYMENTS + 1, MOST_PAYMENTS + 1, u64::from(u32::MAX)]);
+            set_word(book, PAYMENTS + random.index(10), paid);
+        }
+        // 5,428 bytes had a book before it had payments.
+        _ => book.resize(random.pick(&[0, 1, 4, 5_428, 5_428, 5_464, 5_467, 5_469, 5_472, 10_936]), 0),
     }
 }
 

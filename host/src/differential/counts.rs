@@ -1,8 +1,7 @@
 //! How many settled cases ended in each refusal and in each kind of acceptance, and what quotes and postings came to.
 
 use super::cases::Case;
-use super::cuts::RARE;
-use super::kinds::{kinds_of, KINDS};
+use super::kinds::{is_rare, kinds_of, KINDS};
 use super::offers::Offers;
 use super::particulars::PARTICULARS;
 use crate::answer::Refusal;
@@ -65,7 +64,7 @@ impl Counts {
     /// The refusals and kinds that fewer than 1 % of their half ended in, and what was not met at all.
     pub fn too_few(&self) -> Vec<String> {
         let refusals = refusals().filter(|&refusal| self.refusals[refusal as usize] * 100 < self.refused());
-        let is_few = |kind, count| if kind == RARE { count == 0 } else { count * 100 < self.accepted };
+        let is_few = |kind, count| if is_rare(kind) { count == 0 } else { count * 100 < self.accepted };
         let kinds = self.counted_kinds().filter(|&(kind, count)| is_few(kind, count));
         let refusals = refusals.map(|refusal| format!("refusal {}", refusal as u32));
         let mut all: Vec<String> = refusals.chain(kinds.map(|(kind, _)| kind.to_string())).collect();

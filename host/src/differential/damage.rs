@@ -7,19 +7,20 @@ mod trip;
 
 use super::books::{self, set_word, word, LAST_CHECK_OUT, OPENING, TRIPS};
 use super::cases::Draft;
-use super::fields::{Field, AREA, AREA_FIELDS, FACTOR, FACTOR_FIELDS, STOP, STOP_FIELDS};
+use super::fields::{Field, FACTOR, FACTOR_FIELDS, STOP, STOP_FIELDS};
 use super::random::Random;
 
 /// A way to damage a case, and what to call it.
 pub type Damage = (&'static str, fn(&mut Random, &mut Draft));
 
 /// In the order of the refusals that they aim at; the last three may end in any.
-pub const DAMAGES: [Damage; 20] = [
+pub const DAMAGES: [Damage; 21] = [
     ("the tariff's frames", tariff::frames),
     ("the tariff's shape", tariff::shape),
     ("the tariff's factor records", tariff::factors),
     ("a tariff's value", tariff::value),
     ("a tariff's value", tariff::value),
+    ("an area of the other kind", tariff::other_kind),
     ("an unsound book", unsound_book),
     ("a sound book at the edges", edge_book),
     ("a sound book at the edges", edge_book),
@@ -95,10 +96,13 @@ fn statement_length(random: &mut Random, draft: &mut Draft) {
 
 /// A record of the tariff as it was made: its offset, its bytes, its fields.
 fn some_record(random: &mut Random, draft: &Draft) -> (usize, usize, &'static [Field]) {
-    let layout = draft.layout;
+    let layout = &draft.layout;
     match random.below(10) {
         0..2 => (layout.factor(random.index(layout.factors)), FACTOR, &FACTOR_FIELDS),
         2..5 if layout.stops > 0 => (layout.stop(random.index(layout.stops)), STOP, &STOP_FIELDS),
-        _ => (AREA * random.index(layout.areas), AREA, &AREA_FIELDS),
+        _ => {
+            let area = random.index(layout.areas);
+            (layout.area(area), layout.area_size(area), layout.area_fields(area))
+        }
     }
 }

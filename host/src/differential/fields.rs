@@ -1,33 +1,57 @@
 //! Where each field of a record stands, and the values just inside and just outside its range.
 
-use crate::model::tariff::Tariff;
+use crate::model::tariff::{Area, Tariff};
 use crate::numbers::number;
 
-/// Bytes of an area record, of a factor record, of a stop record, and of a trip record before its stops.
+/// Bytes of an area record of kind 1 and of kind 8, of a factor record, of a stop record, and of a trip record before its
+/// stops.
 pub const AREA: usize = 29;
+pub const AACHEN_AREA: usize = 42;
 pub const FACTOR: usize = 6;
 pub const STOP: usize = 13;
 pub const TRIP_HEAD: usize = 24;
 
-/// How many records of each kind a tariff has; they stand in this order.
-#[derive(Clone, Copy, Debug)]
+/// How many areas, factor records and stops a tariff has; they stand in this order.
+#[derive(Clone, Debug)]
 pub struct Layout {
     pub areas: usize,
     pub factors: usize,
     pub stops: usize,
+    /// The bytes of each area.
+    sizes: Vec<usize>,
 }
 
 impl Layout {
     pub fn of(tariff: &Tariff) -> Layout {
-        Layout { areas: tariff.areas.len(), factors: tariff.factors.len(), stops: tariff.stops.len() }
+        let size = |area: &Area| if area.is_aachen() { AACHEN_AREA } else { AREA };
+        let sizes: Vec<usize> = tariff.areas.iter().map(size).collect();
+        Layout { areas: sizes.len(), factors: tariff.factors.len(), stops: tariff.stops.len(), sizes }
+    }
+
+    /// Where the area of this number begins; that behind the last one is where the factor records begin.
+    pub fn area(&self, number: usize) -> usize {
+        self.sizes[..number].iter().sum()
+    }
+
+    pub fn area_size(&self, number: usize) -> usize {
+        self.sizes[number]
+    }
+
+    /// The area's fields, those of kind 8 behind those of kind 1.
+    pub fn area_fields(&self, number: usize) -> &'static [Field] {
+        if self.sizes[number] == AREA {
+            &AREA_FIELDS[..COMMON_FIELDS]
+        } else {
+            &AREA_FIELDS
+        }
     }
 
     /// Where the factor record of this number begins; that behind the last one is where the stops begin.
-    pub fn factor(self, number: usize) -> usize {
-        AREA * self.areas + FACTOR * number
+    pub fn factor(&self, number: usize) -> usize {
+        self.area(self.areas) + FACTOR * number
     }
 
-    pub fn stop(self, number: usize) -> usize {
+    pub fn stop(&self, number: usize) -> usize {
         self.factor(self.factors) + STOP * number
     }
 }
@@ -44,8 +68,8 @@ const fn field(place: usize, width: usize, edges: &'static [u64]) -> Field {
     Field { place, width, edges }
 }
 
-pub const LENGTHS: Field = field(0, 2, &[0, 1, 2, 3, 4, 11, 27, 1_023, 1_024, 1_025, 65_535]);
-pub const KINDS: Field = field(2, 2, &[0, 1, 2, 3, 4, 5, 6, 7, 8, 256, 257, 258, 259, 261, 263, 65_535]);
+pub const LENGTHS: Field = field(0, 2, &[0, 1, 2, 3, 4, 11, 27, 40, 1_023, 1_024, 1_025, 65_535]);
+pub const KINDS: Field = field(2, 2, &[0, 1, 2, 3, 4, 5, 6, 7, 8, 9, 256, 257, 258, 259, 261, 263, 264, 65_535]);
 
 const PERCENTAGE: &[u64] = &[0, 1, 99, 100, 101, 255];
 const MINUTES: &[u64] = &[0, 29, 30, 31, 1_439, 1_440, 1_441, 65_535];
@@ -53,7 +77,10 @@ const MONEY: &[u64] = &[0, 1, 59_999, 60_000, 60_001, 65_534, 65_535];
 const MONEY_OR_MINUTES: &[u64] = &[0, 1, 29, 30, 1_440, 1_441, 60_000, 60_001, 65_535];
 const METRES: &[u64] = &[0, 1, 999_999, 1_000_000, 1_000_001, 2_147_483_648, 4_294_967_295];
 
-pub static AREA_FIELDS: [Field; 17] = [
+/// So many of them are kind 1's.
+const COMMON_FIELDS: usize = 17;
+
+static AREA_FIELDS: [Field; 24] = [
     LENGTHS,
     KINDS,
     field(4, 1, &[0, 1, 2, 3, 255]),
@@ -71,6 +98,13 @@ pub static AREA_FIELDS: [Field; 17] = [
     field(23, 2, MONEY),
     field(25, 2, MONEY),
     field(27, 2, MONEY),
+    field(29, 2, MONEY),
+    field(31, 2, MONEY),
+    field(33, 2, MONEY),
+    field(35, 2, MONEY),
+    field(37, 2, MONEY),
+    field(39, 2, MONEY),
+    field(41, 1, &[0, 1, 2, 3, 255]),
 ];
 
 pub static FACTOR_FIELDS: [Field; 4] =

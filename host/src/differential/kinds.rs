@@ -1,7 +1,8 @@
 //! The kinds of acceptance that the run has to meet.
 
+use super::aachen::{self, kinds_of_aachen, AACHEN};
 use super::cases::Case;
-use super::cuts::{kinds_of_cuts, CUTS};
+use super::cuts::{self, kinds_of_cuts, CUTS};
 use crate::model::book::Book;
 use crate::model::charge::{costs_of, window_for};
 use crate::model::clock::{Stamp, MINUTES_IN_AN_HOUR};
@@ -14,7 +15,7 @@ use crate::model::trip::Trip;
 use crate::model::Minutes;
 
 /// Those of a trip.
-const OF_A_TRIP: [&str; 17] = [
+const OF_A_TRIP: [&str; 18] = [
     "next window opened",
     "first class",
     "child",
@@ -32,13 +33,19 @@ const OF_A_TRIP: [&str; 17] = [
     "not broken inside a city whose region says so",
     "broken, and another change is as far",
     "largest statement",
+    "broken, and a bicycle pays per trip in both parts",
 ];
 
 /// Those of a part of one.
 const OF_A_PART: [&str; 3] = ["bicycle moved up", "several periods", "price cut by a trip cap"];
 
-/// All of them, with those of cuts.
-pub const KINDS: [&[&str]; 3] = [&OF_A_TRIP, &OF_A_PART, &CUTS];
+/// All of them, with those of cuts and of kind 8.
+pub const KINDS: [&[&str]; 4] = [&OF_A_TRIP, &OF_A_PART, &CUTS, &AACHEN];
+
+/// Whether a kind is enough if it is met at all.
+pub fn is_rare(kind: &str) -> bool {
+    kind == cuts::RARE || aachen::RARE.contains(&kind)
+}
 
 /// Which kinds an accepted case is of; it may be of several, or of none.
 pub fn kinds_of(case: &Case, records: &[ChargeRecord]) -> Vec<bool> {
@@ -59,13 +66,18 @@ pub fn kinds_of(case: &Case, records: &[ChargeRecord]) -> Vec<bool> {
     let of_stamps = kinds_of_stamps(&trip, check_in);
     let of_breaking = kinds_of_breaking(&tariff, &trip, records.len() == 2);
     let (mut of_part, mut of_cuts) = ([false; OF_A_PART.len()], [false; CUTS.len()]);
+    let mut of_aachen = [false; AACHEN.len()];
+    let mut paid = vec![book.payments(0)];
     for (part, record) in parts_of(&tariff, &trip.stops, duration).iter().zip(records) {
         let ride = Ride::of(&tariff, &trip, part);
         join(&mut of_part, &kinds_of_part(&tariff, &trip, &ride, &book, record));
         join(&mut of_cuts, &kinds_of_cuts(&tariff, &trip, &ride, &book, record));
+        join(&mut of_aachen, &kinds_of_aachen(&tariff, &trip, &ride, &book, record));
         costs_of(&tariff, &trip, &ride, &mut book);
+        paid.push(book.payments(0));
     }
-    [of_trip.as_slice(), &of_stamps, &of_breaking, &of_part, &of_cuts].concat()
+    let of_paying = [paid.len() == 3 && paid[0] < paid[1] && paid[1] < paid[2]];
+    [of_trip.as_slice(), &of_stamps, &of_breaking, &of_paying, &of_part, &of_cuts, &of_aachen].concat()
 }
 
 /// Those of one, and those of another besides.

@@ -1,13 +1,16 @@
 //! What the run has to meet of single refusals: the ways in which one comes about that few cases show.
 
-use super::books::{word, TRIPS};
+use super::books::{word, BYTES, MOST_PAYMENTS, PAYMENTS, TRIPS, WORDS};
 use super::cases::Case;
+use super::faulty::is_faulty;
 use super::trips::HOUR;
 use crate::model::book::TRIPS_IN_A_WINDOW;
 use crate::model::clock::{Stamp, LAST_YEAR};
-use crate::model::record::record_at;
+use crate::model::read_tariff;
+use crate::model::record::{record_at, Record, KIND_AACHEN_AREA, KIND_AREA};
 use crate::model::statement::ChargeRecord;
 use crate::model::trip::Trip;
+use crate::numbers::number;
 
 /// Trips came as this kind before their stamps had offsets.
 const KIND_WITHOUT_OFFSETS: u64 = 3;
@@ -15,10 +18,50 @@ const KIND_WITHOUT_OFFSETS: u64 = 3;
 /// Of a refusal, by its number: a way in which it comes about, and whether it is that of a case that was so refused.
 pub type Particular = (u32, &'static str, fn(&Case) -> bool);
 
-pub const PARTICULARS: [Particular; 8] = [
+pub const PARTICULARS: [Particular; 23] = [
+    (2, "kind 8 with the body of kind 1", |case| is_faulty(case, |fault| fault.is(KIND_AACHEN_AREA, 25))),
+    (2, "kind 1 with the body of kind 8", |case| is_faulty(case, |fault| fault.is(KIND_AREA, 38))),
+    (3, "a state of kind 8", |case| {
+        is_faulty(case, |fault| fault.is_aachen() && fault.place == 0 && fault.level() == 0)
+    }),
+    (3, "a city of kind 8 in a region of kind 1", |case| {
+        is_faulty(case, |fault| fault.is_aachen() && fault.region().is_some_and(|region| region.kind == KIND_AREA))
+    }),
+    (3, "a city of kind 1 in a region of kind 8", |case| {
+        is_faulty(case, |fault| !fault.is_aachen() && fault.region().is_some_and(|region| region.kind != KIND_AREA))
+    }),
+    (3, "child tickets that the sort does not use", |case| {
+        let used = |sort| [0, 1, 5].get(sort as usize).copied().unwrap_or(5);
+        is_faulty(case, |fault| {
+            fault.is_aachen() && fault.tickets()[used(fault.sort())..].iter().any(|&ticket| ticket != 0)
+        })
+    }),
+    (3, "a child ticket above 60,000", |case| {
+        is_faulty(case, |fault| fault.is_aachen() && fault.tickets().iter().any(|&ticket| ticket > 60_000))
+    }),
+    (3, "a bicycle's price above 60,000", |case| {
+        is_faulty(case, |fault| fault.is_aachen() && fault.bicycle_price() > 60_000)
+    }),
+    (3, "a town mark above 2", |case| is_faulty(case, |fault| fault.is_aachen() && fault.mark() > 2)),
+    (3, "a region with a town mark", |case| {
+        is_faulty(case, |fault| fault.is_aachen() && fault.level() == 1 && (1..3).contains(&fault.mark()))
+    }),
+    (3, "a city's bicycle cap above its region's", |case| {
+        let cap = |area: &Record| number(&area.body[23..25]);
+        is_faulty(case, |fault| {
+            let region = fault.region().filter(|region| region.kind == KIND_AACHEN_AREA);
+            fault.is_aachen() && region.is_some_and(|region| cap(&fault.record) > cap(&region))
+        })
+    }),
+    (4, "payments above 15,360,000", |case| {
+        case.book.len() == BYTES && (PAYMENTS..WORDS).any(|place| word(&case.book, place) > MOST_PAYMENTS)
+    }),
+    (4, "a book of 5,428 bytes, without payments", |case| case.book.len() == 5_428),
     (5, "a record of kind 3", |case| {
         record_at(&case.trip, 0).is_some_and(|record| record.kind == KIND_WITHOUT_OFFSETS)
     }),
+    (6, "first class in a marked town, the whole trip", |case| is_in_a_town(case, true)),
+    (6, "first class in a marked town, a part alone", |case| is_in_a_town(case, false)),
     (8, "no local date or no clock time", |case| is_wrong(case, |stamp| !is_date_and_time(stamp))),
     (8, "another offset than 1 or 2", |case| is_wrong(case, |stamp| is_date_and_time(stamp) && !stamp.is_offset())),
     (8, "before minute 0 UTC", |case| is_wrong(case, is_before_minute_0)),
@@ -31,6 +74,13 @@ pub const PARTICULARS: [Particular; 8] = [
         Trip::read(&case.trip).is_some_and(|trip| ChargeRecord::size(&trip) <= case.room)
     }),
 ];
+
+/// Whether all that the trip asks for is in range, so that it is refused for a town: that which contains all of its stops,
+/// or one that contains a part alone.
+fn is_in_a_town(case: &Case, is_whole: bool) -> bool {
+    let (Ok(tariff), Some(trip)) = (read_tariff(&case.tariff), Trip::read(&case.trip)) else { return false };
+    trip.counts_are_in_range() && tariff.areas[tariff.area_of_stops(&trip.stops)].is_marked_town() == is_whole
+}
 
 /// Whether the first of the trip's stamps that is wrong is so in this way.
 fn is_wrong(case: &Case, way: impl Fn(&Stamp) -> bool) -> bool {

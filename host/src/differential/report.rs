@@ -1,6 +1,6 @@
 //! A case and a difference in words.
 
-use super::books::{word, BICYCLES, BYTES, WORDS};
+use super::books::{word, BICYCLES, BYTES, PAYMENTS, WORDS};
 use super::cases::{Call, Case};
 use crate::answer::Answer;
 
@@ -63,7 +63,7 @@ pub fn slices_differ(what: &str, model: &[u8], other: &[u8], name: &str) -> Opti
     ))
 }
 
-/// Lines of up to 29 bytes: an area fills one.
+/// Lines of up to 29 bytes: an area of kind 1 fills one.
 fn hexadecimal(bytes: &[u8]) -> String {
     let line = |bytes: &[u8]| {
         let bytes: Vec<String> = bytes.iter().map(|byte| format!("{byte:02x}")).collect();
@@ -93,6 +93,7 @@ fn word_in_words(place: usize) -> String {
         0 => "trips".to_string(),
         1 => "opening".to_string(),
         2 => "last check-out".to_string(),
+        PAYMENTS.. => format!("payments of bicycle {}", place - PAYMENTS + 1),
         BICYCLES.. => format!("bicycle {}", place - BICYCLES + 1),
         _ => {
             let (rider, area) = ((place - 3) / 64, (place - 3) % 64 / 2);

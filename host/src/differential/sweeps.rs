@@ -3,9 +3,9 @@
 //! book a little off, each length of the statement, each record that is not quite the quote, the ends of months, the first and
 //! the last hours.
 
-use super::books::{fresh, set_word, word, BICYCLES, WORDS};
+use super::books::{fresh, set_word, word, BICYCLES, BYTES, MOST_PAYMENTS, PAYMENTS, WORDS};
 use super::cases::Case;
-use super::fields::{set, stop_field, value, values, Field, Layout, AREA, AREA_FIELDS, COUNT_FIELDS, FACTOR};
+use super::fields::{set, stop_field, value, values, Field, Layout, AACHEN_AREA, COUNT_FIELDS, FACTOR};
 use super::fields::{CHECK_IN, FACTOR_FIELDS, KINDS, LENGTHS, NUMBER_OF_STOPS, STAMP, STAMP_FIELDS, STOP, STOP_FIELDS};
 use super::quotes::records_beside;
 use super::random::Random;
@@ -13,8 +13,9 @@ use super::run::{Difference, Run};
 use super::tariffs::ordinary_tariff;
 use super::trips::{local_stamp, plan, start, Plan, LAST_MINUTE};
 use crate::model::read_tariff;
+use crate::model::tariff::{Area, Level, Tariff};
 
-const AREAS: usize = 5;
+const AREAS: usize = 6;
 const STOPS: usize = 12;
 const TRIPS_BEFORE: usize = 6;
 
@@ -38,8 +39,7 @@ pub fn sweep(random: &mut Random, run: &mut Run) -> Result<(), Difference> {
 
 /// A trip with some of everything that is charged in so many parts, after a few others on the same book.
 fn good_case(random: &mut Random, run: &mut Run, parts: usize) -> Result<Case, Difference> {
-    let bytes = ordinary_tariff(random, AREAS, STOPS);
-    let tariff = read_tariff(&bytes).expect("the makers of tariffs make no faults");
+    let (bytes, tariff) = good_tariff(random);
     let (mut book, now) = (fresh(), start(random) / 2);
     for _ in 0..TRIPS_BEFORE {
         let plan = Plan { party: [2, 2, 2], ..plan(random, &tariff, &book, now) };
@@ -47,8 +47,20 @@ fn good_case(random: &mut Random, run: &mut Run, parts: usize) -> Result<Case, D
     }
     loop {
         let plan = Plan { party: [1, 2, 3], ..plan(random, &tariff, &book, now) };
-        if plan.parts(&tariff) == parts {
+        if plan.parts(&tariff) == parts && (plan.class == 2 || !plan.is_in_a_marked_town(&tariff)) {
             return Ok(case_of(&bytes, &book, &plan, parts));
+        }
+    }
+}
+
+/// A tariff that has both kinds of region, and a marked town.
+fn good_tariff(random: &mut Random) -> (Vec<u8>, Tariff) {
+    loop {
+        let bytes = ordinary_tariff(random, AREAS, STOPS);
+        let tariff = read_tariff(&bytes).expect("the makers of tariffs make no faults");
+        let has_common_region = tariff.areas.iter().any(|area| area.level == Level::Region && !area.is_aachen());
+        if has_common_region && tariff.areas.iter().any(Area::is_marked_town) {
+            return (bytes, tariff);
         }
     }
 }
@@ -77,7 +89,7 @@ fn layout(good: &Case) -> Layout {
 
 fn tariff_fields(run: &mut Run, good: &Case) -> Result<(), Difference> {
     let layout = layout(good);
-    let areas = (0..AREAS).map(|area| (area, AREA * area, &AREA_FIELDS[..]));
+    let areas = (0..AREAS).map(|area| (area, layout.area(area), layout.area_fields(area)));
     let factors = (0..layout.factors).map(|factor| (0, layout.factor(factor), &FACTOR_FIELDS[..]));
     let stops = (0..STOPS).map(|stop| (0, layout.stop(stop), &STOP_FIELDS[..]));
     for (number, record, fields) in areas.chain(factors).chain(stops) {
@@ -95,7 +107,7 @@ fn tariff_fields(run: &mut Run, good: &Case) -> Result<(), Difference> {
 /// Each record left out, and each put in once more at each place.
 fn tariff_records(run: &mut Run, good: &Case) -> Result<(), Difference> {
     let layout = layout(good);
-    let areas = (0..AREAS).map(|area| AREA * area);
+    let areas = (0..AREAS).map(|area| layout.area(area));
     let factors = (0..layout.factors).map(|factor| layout.factor(factor));
     let places: Vec<usize> = areas.chain(factors).chain((0..=STOPS).map(|stop| layout.stop(stop))).collect();
     for ends in places.windows(2) {
@@ -136,7 +148,7 @@ fn bits_and_cuts(
         }
         check_with(run, good, "cut", |case| slice(case).truncate(place))?;
     }
-    for more in 1..=STOP + AREA + FACTOR {
+    for more in 1..=STOP + AACHEN_AREA + FACTOR {
         // Zeros, and the same bytes once more.
         check_with(run, good, what, |case| slice(case).resize(length + more, 0))?;
         check_with(run, good, what, |case| {
@@ -154,8 +166,11 @@ fn book_words(run: &mut Run, good: &Case) -> Result<(), Difference> {
         if place < 3 {
             tried.extend([255, 256, 257, present + 1_440, present + 1_441, 52_595_999, 52_596_000]);
         }
-        if place >= BICYCLES {
+        if (BICYCLES..PAYMENTS).contains(&place) {
             tried.extend([AREAS as u64, AREAS as u64 + 1, 32, 33]);
+        }
+        if place >= PAYMENTS {
+            tried.extend([300, MOST_PAYMENTS, MOST_PAYMENTS + 1]);
         }
         for value in tried {
             check_with(run, good, "a word of the book", |case| set_word(&mut case.book, place, value))?;
@@ -165,7 +180,8 @@ fn book_words(run: &mut Run, good: &Case) -> Result<(), Difference> {
 }
 
 fn book_lengths(run: &mut Run, good: &Case) -> Result<(), Difference> {
-    for length in (0..12).chain(5_416..5_440) {
+    // 5,428 bytes had a book before it had payments.
+    for length in (0..12).chain(5_416..5_440).chain(BYTES - 12..BYTES + 12) {
         check_with(run, good, "a book of another length", |case| case.book.resize(length, 0))?;
     }
     Ok(())

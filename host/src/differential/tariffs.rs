@@ -1,6 +1,6 @@
 //! Faultless tariffs of all sorts.
 
-use super::fields::{AREA, FACTOR, STOP};
+use super::fields::{AACHEN_AREA, FACTOR, STOP};
 use super::random::Random;
 use crate::numbers::put;
 
@@ -20,6 +20,14 @@ struct Area {
     trip_cap: [u64; 5],
     day_cap: u64,
     flat: u64,
+    aachen: Option<Aachen>,
+}
+
+/// What only an area of kind 8 has.
+struct Aachen {
+    tickets: [u64; 5],
+    bicycle_price: u64,
+    town: u64,
 }
 
 /// How a tariff's numbers are chosen.
@@ -63,8 +71,8 @@ pub fn ordinary_tariff(random: &mut Random, areas: usize, stops: usize) -> Vec<u
 }
 
 fn tariff_with(random: &mut Random, areas: usize, stops: usize, numbers: Numbers) -> Vec<u8> {
-    let mut bytes = Vec::with_capacity((AREA + FACTOR) * areas + STOP * stops);
-    let per_cent_regions = random.pick(&[30, 30, 30, 30, 30, 100]);
+    let mut bytes = Vec::with_capacity((AACHEN_AREA + FACTOR) * areas + STOP * stops);
+    let per_cent_regions = random.pick(&[25, 25, 25, 25, 25, 100]);
     let mut earlier: Vec<Area> = Vec::new();
     for _ in 0..areas {
         let area = next_area(random, &earlier, per_cent_regions, numbers);
@@ -139,7 +147,13 @@ fn next_area(random: &mut Random, earlier: &[Area], per_cent_regions: u64, numbe
         (2, random.pick(&regions))
     };
     let above = earlier.get(parent);
-    let most = above.map_or(60_000, |above| above.flat);
+    let is_aachen = match level {
+        0 => false,
+        1 => random.chance(60),
+        _ => above.is_some_and(|above| above.aachen.is_some()),
+    };
+    // A cap is not compared with the state's flat.
+    let most = above.filter(|_| level == 2 || !is_aachen).map_or(60_000, |above| above.flat);
     let (sort, trip_cap) = trip_cap(random, numbers);
     let mut area = Area {
         level,
@@ -153,7 +167,13 @@ fn next_area(random: &mut Random, earlier: &[Area], per_cent_regions: u64, numbe
         trip_cap,
         day_cap: day_cap(random, numbers, level),
         flat: money(random, numbers, 100, 600, 60_000).min(most),
+        aachen: is_aachen.then(|| aachen(random, numbers, level, sort)),
     };
+    // What a marked town does not compare would mostly cut.
+    if area.aachen.as_ref().is_some_and(|aachen| aachen.town != 0) {
+        let amounts = if area.sort == 2 { 5 } else { 1 };
+        area.trip_cap[..amounts].iter_mut().for_each(|amount| *amount /= 4);
+    }
     match (random.below(10), above) {
         // The caps of the area above, so that both leave the same.
         (0..2, Some(above)) => (area.first, area.child, area.day_cap) = (above.first, above.child, above.day_cap),
@@ -162,6 +182,18 @@ fn next_area(random: &mut Random, earlier: &[Area], per_cent_regions: u64, numbe
         _ => (),
     }
     area
+}
+
+/// Child tickets by the trip cap's sort, a price per trip that a few rides bring to the cap, and at times a mark.
+fn aachen(random: &mut Random, numbers: Numbers, level: u64, sort: u64) -> Aachen {
+    let used = [0, 1, 5][sort as usize];
+    let mut tickets = [0; 5];
+    for ticket in &mut tickets[..used] {
+        *ticket = money(random, numbers, 20, 150, 60_000);
+    }
+    let bicycle_price = money(random, numbers, 80, 250, 60_000);
+    let town = if level == 2 { random.pick(&[0, 0, 0, 1, 2]) } else { 0 };
+    Aachen { tickets, bicycle_price, town }
 }
 
 /// An amount of up to `most`; an ordinary one is from `low` to `high`.
@@ -191,7 +223,7 @@ fn percentage(random: &mut Random, numbers: Numbers) -> u64 {
 
 fn trip_cap(random: &mut Random, numbers: Numbers) -> (u64, [u64; 5]) {
     let mut amounts = [0; 5];
-    let sort = random.below(3);
+    let sort = random.pick(&[0, 1, 1, 2, 2]);
     if sort == 1 {
         amounts[0] = money(random, numbers, 100, 400, 60_000);
         amounts[1] = minutes(random, numbers);
@@ -230,8 +262,9 @@ fn next_position(random: &mut Random, last: [u64; 2]) -> [u64; 2] {
 }
 
 fn put_area(bytes: &mut Vec<u8>, area: &Area) {
-    put(bytes, 2, 27);
-    put(bytes, 2, 1);
+    let (length, kind) = if area.aachen.is_some() { (40, 8) } else { (27, 1) };
+    put(bytes, 2, length);
+    put(bytes, 2, kind);
     put(bytes, 1, area.level);
     put(bytes, 1, area.parent as u64);
     put(bytes, 2, area.base);
@@ -245,6 +278,13 @@ fn put_area(bytes: &mut Vec<u8>, area: &Area) {
     }
     put(bytes, 2, area.day_cap);
     put(bytes, 2, area.flat);
+    if let Some(Aachen { tickets, bicycle_price, town }) = &area.aachen {
+        for &ticket in tickets {
+            put(bytes, 2, ticket);
+        }
+        put(bytes, 2, *bicycle_price);
+        put(bytes, 1, *town);
+    }
 }
 
 fn put_factor(bytes: &mut Vec<u8>, factor: u64, mark: u64) {

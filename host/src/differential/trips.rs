@@ -4,7 +4,7 @@ use super::books::{word, LAST_CHECK_OUT, OPENING, TRIPS};
 use super::fields::{STAMP, TRIP_HEAD};
 use super::random::Random;
 use crate::model::fare::squared_distance;
-use crate::model::parts::parts_of;
+use crate::model::parts::{parts_of, rides_in_a_marked_town};
 use crate::model::record::KIND_TRIP;
 use crate::model::tariff::{Tariff, TripCap};
 use crate::numbers::put;
@@ -55,12 +55,20 @@ impl Plan {
 
     /// In how many parts the trip is charged; one where the tariff lacks a stop.
     pub fn parts(&self, tariff: &Tariff) -> usize {
-        let known = self.stops.iter().all(|&stop| stop < tariff.stops.len());
-        if known {
+        if self.is_known(tariff) {
             parts_of(tariff, &self.stops, 0).len()
         } else {
             1
         }
+    }
+
+    /// Whether the trip is refused in first class.
+    pub fn is_in_a_marked_town(&self, tariff: &Tariff) -> bool {
+        self.is_known(tariff) && rides_in_a_marked_town(tariff, &self.stops)
+    }
+
+    fn is_known(&self, tariff: &Tariff) -> bool {
+        self.stops.iter().all(|&stop| stop < tariff.stops.len())
     }
 }
 
@@ -132,7 +140,7 @@ pub fn plan(random: &mut Random, tariff: &Tariff, book: &[u8], now: u64) -> Plan
     };
     let duration = duration.min(DAY);
     let check_in = check_in(random, book, now, duration);
-    Plan {
+    let mut plan = Plan {
         check_in,
         check_out: check_in + duration,
         offsets: offsets(random),
@@ -140,7 +148,11 @@ pub fn plan(random: &mut Random, tariff: &Tariff, book: &[u8], now: u64) -> Plan
         level: random.pick(&[0, 0, 1, 2, 3, 4, 5]),
         party: party(random),
         stops,
+    };
+    if plan.is_in_a_marked_town(tariff) && random.chance(80) {
+        plan.class = 2;
     }
+    plan
 }
 
 /// Mostly one for both; at times the clock is put back or put on in between, whatever the season.
@@ -186,8 +198,23 @@ fn stops(random: &mut Random, tariff: &Tariff) -> Vec<usize> {
     match random.below(20) {
         0..4 => out_and_back(random, tariff),
         4..7 => at_the_factor(random, tariff),
+        7 => partly_in_a_town(random, tariff),
         _ => some_stops(random, tariff),
     }
+}
+
+/// Some stops in a marked town, and one anywhere before or behind them.
+fn partly_in_a_town(random: &mut Random, tariff: &Tariff) -> Vec<usize> {
+    let is_in_a_town = |&stop: &usize| tariff.areas[tariff.stops[stop].area].is_marked_town();
+    let all: Vec<usize> = (0..tariff.stops.len()).filter(is_in_a_town).collect();
+    if all.is_empty() {
+        return some_stops(random, tariff);
+    }
+    let town = tariff.stops[random.pick(&all)].area;
+    let inside: Vec<usize> = all.into_iter().filter(|&stop| tariff.stops[stop].area == town).collect();
+    let mut stops: Vec<usize> = (0..random.within(2, 3)).map(|_| random.pick(&inside)).collect();
+    stops.insert(random.pick(&[0, stops.len()]), random.index(tariff.stops.len()));
+    stops
 }
 
 /// Mostly all in one area or within it.

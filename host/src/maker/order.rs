@@ -1,7 +1,7 @@
 //! The rules that look at more than one line: which record may follow which, and what a record names.
 
 use super::words::with_commas;
-use crate::model::record::{KIND_AREA, KIND_FACTOR, KIND_STOP, KIND_TRIP};
+use crate::model::record::{KIND_AACHEN_AREA, KIND_AREA, KIND_FACTOR, KIND_STOP, KIND_TRIP};
 use crate::model::tariff::{MOST_AREAS, MOST_STOPS};
 use crate::numbers::number;
 
@@ -11,11 +11,18 @@ const TRIPS_STOPS: usize = 20;
 const STATE: u8 = 0;
 const REGION: u8 = 1;
 
+/// What other areas are compared with.
+struct Area {
+    kind: u64,
+    level: u8,
+    /// Of kind 8 the bicycle's cap.
+    flat: u64,
+}
+
 /// What stands in the lines so far.
 #[derive(Default)]
 pub struct Order {
-    /// Level and bicycle flat of each.
-    areas: Vec<(u8, u64)>,
+    areas: Vec<Area>,
     factors: usize,
     stops: usize,
     trips: usize,
@@ -27,7 +34,7 @@ impl Order {
     /// The mistakes of the next record, which then counts as one of them.
     pub fn follow(&mut self, kind: u64, body: &[u8]) -> Vec<String> {
         match kind {
-            KIND_AREA => self.area(body),
+            KIND_AREA | KIND_AACHEN_AREA => self.area(kind, body),
             KIND_FACTOR => self.factor(body),
             KIND_STOP => self.stop(body),
             KIND_TRIP => self.trip(body),
@@ -40,7 +47,7 @@ impl Order {
         self.factors_missing().into_iter().collect()
     }
 
-    fn area(&mut self, body: &[u8]) -> Vec<String> {
+    fn area(&mut self, kind: u64, body: &[u8]) -> Vec<String> {
         let (level, parent, flat) = (body[0], usize::from(body[1]), number(&body[23..25]));
         let mut mistakes = self.in_a_tariff("an area");
         let place = self.areas.len();
@@ -58,13 +65,24 @@ impl Order {
             (_, 0) => mistakes.push("the first area has to be the state".to_string()),
             (REGION, _) if parent == 0 => (),
             (REGION, _) => mistakes.push("a region's parent is 0, the state".to_string()),
-            _ if self.areas.get(parent).is_some_and(|above| above.0 == REGION) => (),
+            _ if self.areas.get(parent).is_some_and(|above| above.level == REGION) => (),
             _ => mistakes.push(format!("a city's parent is a region before it, and area {parent} is none")),
         }
-        if let Some(&(_, above)) = self.areas.get(parent).filter(|above| flat > above.1) {
-            mistakes.push(format!("bike {} is above its parent's {}", with_commas(flat), with_commas(above)));
+        match self.areas.get(parent) {
+            None if place == 0 && kind == KIND_AACHEN_AREA => {
+                mistakes.push("the state is a line 'area', not 'aachen'".to_string());
+            }
+            None => (),
+            Some(above) if above.kind == kind && flat > above.flat => {
+                mistakes.push(format!("bike {} is above its parent's {}", with_commas(flat), with_commas(above.flat)));
+            }
+            Some(above) if above.kind != kind && above.level == REGION && level > REGION => {
+                let word = if kind == KIND_AREA { "aachen" } else { "area" };
+                mistakes.push(format!("a city is of its region's kind: area {parent} is a line '{word}'"));
+            }
+            Some(_) => (),
         }
-        self.areas.push((level, flat));
+        self.areas.push(Area { kind, level, flat });
         mistakes
     }
 
@@ -136,7 +154,7 @@ impl Order {
 
     /// One for the state and one for each region.
     fn factors_due(&self) -> usize {
-        self.areas.iter().filter(|area| area.0 <= REGION).count()
+        self.areas.iter().filter(|area| area.level <= REGION).count()
     }
 
     fn factors_missing(&self) -> Option<String> {

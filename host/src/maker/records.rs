@@ -1,10 +1,10 @@
-//! The lines that give bytes: `area`, `factor`, `stop`, `trip`, `record`, `bytes` and `repeat`; and `tariff`, which names one.
+//! The lines that give bytes: `area`, `aachen`, `factor`, `stop`, `trip`, `record`, `bytes` and `repeat`; and `tariff`, which names one.
 
 use super::order::Order;
 use super::stamps::{duration, stamp};
 use super::words::{hexadecimal, whole, Words};
 use super::{Fault, StopsOf};
-use crate::model::record::{KIND_AREA, KIND_FACTOR, KIND_STOP, KIND_TRIP};
+use crate::model::record::{KIND_AACHEN_AREA, KIND_AREA, KIND_FACTOR, KIND_STOP, KIND_TRIP};
 use crate::model::tariff::{
     BASE_PRICES, FACTORS, METRES, MONEY, MOST_AREAS, NO_DAY_CAP, PERCENTAGES, PRICES_PER_KM, VALIDITIES,
 };
@@ -15,10 +15,11 @@ use std::ops::RangeInclusive;
 /// The most that `repeat` repeats.
 const MOST_TIMES: u64 = 1_000_000;
 
-/// Numbers of areas, and of marks and levels of areas.
+/// Numbers of areas, and of marks, levels and town marks of areas.
 const AREAS: RangeInclusive<u64> = 0..=MOST_AREAS as u64 - 1;
 const MARKS: RangeInclusive<u64> = 0..=1;
 const LEVELS: RangeInclusive<u64> = 0..=2;
+const TOWNS: RangeInclusive<u64> = 0..=2;
 
 /// The bytes gathered so far, and what waits for the next line.
 ///
@@ -140,6 +141,7 @@ fn content_of<'a>(words: &mut Words<'a>) -> Result<Content<'a>, String> {
     };
     let content = match name {
         "area" => record(KIND_AREA, area_body(words)?)?,
+        "aachen" => record(KIND_AACHEN_AREA, aachen_body(words)?)?,
         "factor" => record(KIND_FACTOR, factor_body(words)?)?,
         "stop" => record(KIND_STOP, stop_body(words)?)?,
         "trip" => record(KIND_TRIP, trip_body(words)?)?,
@@ -197,6 +199,26 @@ fn area_body(words: &mut Words) -> Result<Vec<u8>, String> {
     Ok(body)
 }
 
+/// That of an area, and what only kind 8 has.
+fn aachen_body(words: &mut Words) -> Result<Vec<u8>, String> {
+    let mut body = area_body(words)?;
+    let (is_city, cap_sort) = (body[0] == 2, u64::from(body[10]));
+    let (sort, tickets) = child_tickets(words)?;
+    if words.checks() && sort != cap_sort {
+        words.mistakes.push("the child tickets are not of the trip cap's sort: none, flat or levels".to_string());
+    }
+    for ticket in tickets {
+        put(&mut body, 2, ticket);
+    }
+    put(&mut body, 2, words.field("trip", 2, &MONEY)?);
+    let mark = town(words)?;
+    if words.checks() && mark != 0 && !is_city {
+        words.mistakes.push("only a city is a town that drops something".to_string());
+    }
+    put(&mut body, 1, mark);
+    Ok(body)
+}
+
 fn area_level(words: &mut Words) -> Result<u64, String> {
     match words.next("the area's level")? {
         "state" => Ok(0),
@@ -219,14 +241,42 @@ fn trip_cap(words: &mut Words) -> Result<(u64, [u64; 5]), String> {
             let amount = words.number_in("the amount", 2, &MONEY)?;
             Ok((1, [amount, words.number_in("the minutes", 2, &VALIDITIES)?, 0, 0, 0]))
         }
-        "levels" => {
-            let mut amounts = [0; 5];
-            for (amount, level) in amounts.iter_mut().zip(["K", "A", "B", "C", "D"]) {
-                *amount = words.number_in(&format!("the amount of level {level}"), 2, &MONEY)?;
-            }
-            Ok((2, amounts))
-        }
+        "levels" => Ok((2, amounts_by_level(words)?)),
         word => Err(format!("'{word}' is no sort of trip cap: none, flat or levels")),
+    }
+}
+
+/// The sort of trip cap that they go by, and their five fields.
+fn child_tickets(words: &mut Words) -> Result<(u64, [u64; 5]), String> {
+    words.fixed("tickets")?;
+    match words.next("the sort of child tickets")? {
+        "none" => Ok((0, [0; 5])),
+        "flat" => Ok((1, [words.number_in("the child ticket", 2, &MONEY)?, 0, 0, 0, 0])),
+        "levels" => Ok((2, amounts_by_level(words)?)),
+        word => Err(format!("'{word}' is no sort of child tickets: none, flat or levels")),
+    }
+}
+
+fn amounts_by_level(words: &mut Words) -> Result<[u64; 5], String> {
+    let mut amounts = [0; 5];
+    for (amount, level) in amounts.iter_mut().zip(["K", "A", "B", "C", "D"]) {
+        *amount = words.number_in(&format!("the amount of level {level}"), 2, &MONEY)?;
+    }
+    Ok(amounts)
+}
+
+/// What the town drops, as the mark's number.
+fn town(words: &mut Words) -> Result<u64, String> {
+    words.fixed("town")?;
+    match words.next("what the town drops")? {
+        "none" => Ok(0),
+        "base" => Ok(1),
+        "km" => Ok(2),
+        word if words.checks() && whole("", word).is_err() => {
+            words.mistakes.push(format!("'{word}' is nothing that a town drops: none, base or km"));
+            Ok(0)
+        }
+        word => words.value_in("what the town drops", word, 1, &TOWNS),
     }
 }
 

@@ -47,6 +47,22 @@ fn levels_and_caps_of_an_area() {
 }
 
 #[test]
+fn an_area_of_kind_8() {
+    let area = "city parent 7 base 141 km 27 valid 180 first 50 child 50 cap levels 1 2 3 4 5 day none bike 347";
+    let body = |tickets, town| bytes(&format!("aachen {area} tickets {tickets} trip 228 town {town}"));
+    for (tickets, fields) in [
+        ("none", [0, 0, 0, 0, 0, 0, 0, 0, 0, 0]),
+        ("flat 160", [160, 0, 0, 0, 0, 0, 0, 0, 0, 0]),
+        ("levels 1 2 3 4 65535", [1, 0, 2, 0, 3, 0, 4, 0, 255, 255]),
+    ] {
+        for (town, mark) in [("none", 0), ("base", 1), ("km", 2), ("0", 0), ("255", 255)] {
+            let common = &bytes(&format!("area {area}"))[4..];
+            assert_eq!(body(tickets, town), [&[40, 0, 8, 0], common, &fields[..], &[228, 0, mark]].concat());
+        }
+    }
+}
+
+#[test]
 fn a_factor() {
     assert_eq!(bytes("factor 3 mark 1"), [4, 0, 5, 0, 3, 1]);
     assert_eq!(bytes("factor 255 mark 255"), [4, 0, 5, 0, 255, 255]);
@@ -149,6 +165,18 @@ fn faults_name_their_line() {
     let area = "area state parent 0 base 0 km 0 valid 0 first 0 child 0 cap";
     assert_eq!(fault(&format!("{area} some")), "line 1: 'some' is no sort of trip cap: none, flat or levels");
     assert_eq!(fault(&format!("{area} levels 1 2")), "line 1: the amount of level B is missing");
+    let aachen = format!("{} none day 0 bike 0", area.replace("area", "aachen"));
+    for (rest, told) in [
+        ("", "line 1: the word 'tickets' is missing"),
+        ("tickets some", "line 1: 'some' is no sort of child tickets: none, flat or levels"),
+        ("tickets levels 1 2", "line 1: the amount of level B is missing"),
+        ("tickets flat 65536", "line 1: the child ticket 65536 does not fit in 2 bytes"),
+        ("tickets none town 0", "line 1: the word 'trip' is due, not 'town'"),
+        ("tickets none trip 0 town", "line 1: what the town drops is missing"),
+        ("tickets none trip 0 town all", "line 1: what the town drops 'all' is not a number"),
+    ] {
+        assert_eq!(fault(&format!("{aachen} {rest}")), told);
+    }
     assert_eq!(
         fault(&format!("record 1 {}", "00".repeat(65_534))),
         "line 1: a body of 65534 bytes is too long for a record"
@@ -268,6 +296,46 @@ repeat 2";
     assert_eq!(mistakes(text), due);
     let raw = raw_bytes_of("route\nstop 0 0\nrecord x").expect_err("mistakes");
     assert_eq!(raw.iter().map(|fault| fault.line).collect::<Vec<usize>>(), [1, 2, 3]);
+}
+
+#[test]
+fn mistakes_of_areas_of_kind_8_are_told() {
+    let state = "area state parent 0 base 180 km 28 valid 360 first 50 child 50 cap none day 3000 bike 300\n";
+    let common = "base 141 km 27 valid 180 first 50 child 50";
+    let region =
+        format!("aachen region parent 0 {common} cap none day 2060 bike 347 tickets none trip 228 town none\n");
+    let city =
+        format!("aachen city parent 1 {common} cap flat 320 60 day none bike 347 tickets flat 160 trip 228 town km\n");
+    let factors = "factor 3 mark 0\n".repeat(2);
+    let well = [state, &region, &city, &factors].concat();
+    assert_eq!(mistakes(&well), [""; 0], "a region's cap is not compared with the state's flat");
+    let common_city = format!("area city parent 1 {common} cap none day none bike 200\n");
+    for (text, told) in [
+        (
+            well.replace("tickets flat 160", "tickets flat 60001"),
+            "the child ticket 60,001 is not allowed, only 0 to 60,000",
+        ),
+        (
+            well.replace("tickets flat 160", "tickets none"),
+            "the child tickets are not of the trip cap's sort: none, flat or levels",
+        ),
+        (well.replace("trip 228 town km", "trip 60001 town km"), "trip 60,001 is not allowed, only 0 to 60,000"),
+        (well.replace("town km", "town 3"), "what the town drops 3 is not allowed, only 0 to 2"),
+        (well.replace("town km", "town all"), "'all' is nothing that a town drops: none, base or km"),
+        (well.replacen("bike 347 tickets flat", "bike 348 tickets flat", 1), "bike 348 is above its parent's 347"),
+        (
+            [state, &region, &common_city, &factors].concat(),
+            "a city is of its region's kind: area 1 is a line 'aachen'",
+        ),
+    ] {
+        assert_eq!(mistakes(&text), [format!("line 3: {told}")]);
+    }
+    let marked = well.replace("town none", "town base");
+    assert_eq!(mistakes(&marked), ["line 2: only a city is a town that drops something"]);
+    let aachen_state = region.replace("region", "state") + "factor 3 mark 0\n";
+    assert_eq!(mistakes(&aachen_state), ["line 1: the state is a line 'area', not 'aachen'"]);
+    let in_common = well.replace(&region, &state.replace("state", "region"));
+    assert_eq!(mistakes(&in_common), ["line 3: a city is of its region's kind: area 1 is a line 'area'"]);
 }
 
 #[test]
@@ -435,7 +503,7 @@ fn faults_of_a_case_file() {
         ("post:\nquote whole", "line 1: post: has no record"),
         ("post:\nroom 16\nrecord 3", "line 2: 'room' is no sort of line"),
         ("book:\nrecord 3", "line 2: 'record' is no line of a book"),
-        ("book:\nword 1357 1", "line 2: a book has no word 1357"),
+        ("book:\nword 1367 1", "line 2: a book has no word 1367"),
         ("book:\nword 3 7 7", "line 2: '7' is one word too many"),
         ("words:\nrecord 3", "line 1: words: takes no record"),
         // What only examples have.

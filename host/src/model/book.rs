@@ -1,12 +1,12 @@
-//! The book: 1,357 little-endian words of 4 bytes.
+//! The book: 1,367 little-endian words of 4 bytes.
 
 use super::clock::{LAST_MINUTE, MINUTES_IN_A_DAY};
 use super::tariff::MOST_AREAS;
 use super::{Cents, Minutes};
 use crate::numbers::{number, put};
 
-pub const BOOK_BYTES: usize = 5_428;
-const WORDS: usize = 1_357;
+pub const BOOK_BYTES: usize = 5_468;
+const WORDS: usize = 1_367;
 
 /// 0 is the account holder, 1..10 the adults carried, 11..20 the children.
 pub const RIDERS: usize = 21;
@@ -15,6 +15,8 @@ pub const TRIPS_IN_A_WINDOW: u64 = 256;
 
 /// The largest price that a tariff within its ranges can give.
 pub const LARGEST_PRICE: Cents = 3_790_000;
+/// As many payments as a window may have trips, each of the largest price per trip.
+pub const MOST_PAYMENTS: Cents = 15_360_000;
 
 #[derive(Clone, Debug, PartialEq, Eq)]
 pub struct Book {
@@ -33,6 +35,10 @@ fn all_classes_word(rider: usize, area: usize) -> usize {
 
 fn bicycle_word(bicycle: usize) -> usize {
     1_347 + bicycle
+}
+
+fn payments_word(bicycle: usize) -> usize {
+    1_357 + bicycle
 }
 
 impl Book {
@@ -91,6 +97,11 @@ impl Book {
         }
     }
 
+    /// What the bicycle paid per trip in the window.
+    pub fn payments(&self, bicycle: usize) -> Cents {
+        self.words[payments_word(bicycle)]
+    }
+
     /// Whether the book is sound under a tariff of that many areas.
     pub fn is_sound(&self, areas: usize) -> bool {
         self.words.iter().all(|&word| word == 0)
@@ -117,7 +128,8 @@ impl Book {
     }
 
     fn bicycles_are_sound(&self, areas: usize) -> bool {
-        (0..BICYCLES).all(|bicycle| self.words[bicycle_word(bicycle)] <= areas as u64)
+        (0..BICYCLES)
+            .all(|bicycle| self.words[bicycle_word(bicycle)] <= areas as u64 && self.payments(bicycle) <= MOST_PAYMENTS)
     }
 
     /// One more trip, which ended at this minute.
@@ -136,5 +148,9 @@ impl Book {
 
     pub fn set_covering_area(&mut self, bicycle: usize, area: usize) {
         self.words[bicycle_word(bicycle)] = 1 + area as u64;
+    }
+
+    pub fn add_payment(&mut self, bicycle: usize, charge: Cents) {
+        self.words[payments_word(bicycle)] += charge;
     }
 }

@@ -4,12 +4,12 @@ use super::book::Book;
 use super::caps::{caps_of, Cap, Cut};
 use super::clock::MINUTES_IN_A_DAY;
 use super::fare::{child_price, price, Ride};
-use super::tariff::Tariff;
+use super::tariff::{Kind, Tariff};
 use super::trip::Trip;
 use super::{Cents, Minutes};
 
 /// The book as the trip finds it: that of the open window if the trip belongs to it, else that of the next window,
-/// which opens at the trip's check-in with all sums and bicycles back to none.
+/// which opens at the trip's check-in with all sums, bicycles and payments back to none.
 pub fn window_for(book: Book, check_in: Minutes, check_out: Minutes) -> Book {
     let is_open = book.trips() != 0;
     if is_open && check_out <= book.opening() + MINUTES_IN_A_DAY {
@@ -53,8 +53,12 @@ pub fn costs_of(tariff: &Tariff, trip: &Trip, ride: &Ride, book: &mut Book) -> C
     }
     for bicycle in 0..trip.bicycles {
         let covering_area = new_covering_area(tariff, ride, book, bicycle);
-        charges.push(bicycle_charge(tariff, book, bicycle, covering_area));
+        let charge = bicycle_charge(tariff, book, bicycle, covering_area);
+        if tariff.areas[covering_area].is_aachen() {
+            book.add_payment(bicycle, charge);
+        }
         book.set_covering_area(bicycle, covering_area);
+        charges.push(charge);
     }
     Costs { charges, cuts }
 }
@@ -87,8 +91,20 @@ fn new_covering_area(tariff: &Tariff, ride: &Ride, book: &Book, bicycle: usize) 
     }
 }
 
-/// The new covering area's flat less the old one's, 0 if unused.
+/// The new covering area decides. Of kind 1: its flat less the old one's. Of kind 8: its price per trip, or what its cap has
+/// left over the bicycle's payments in the window, if that is less; 0 if passed already.
 fn bicycle_charge(tariff: &Tariff, book: &Book, bicycle: usize, new_covering_area: usize) -> Cents {
-    let old_flat = book.covering_area(bicycle).map_or(0, |old| tariff.areas[old].bicycle_flat);
-    tariff.areas[new_covering_area].bicycle_flat - old_flat
+    let area = &tariff.areas[new_covering_area];
+    match area.kind {
+        Kind::Common => area.bicycle_flat - old_flat(tariff, book, bicycle),
+        Kind::Aachen { bicycle_price, .. } => {
+            bicycle_price.min(area.bicycle_flat.saturating_sub(book.payments(bicycle)))
+        }
+    }
+}
+
+/// That of the bicycle's old covering area: 0 if unused, and where that area is of kind 8, which has no flat.
+fn old_flat(tariff: &Tariff, book: &Book, bicycle: usize) -> Cents {
+    let old = book.covering_area(bicycle).map(|old| &tariff.areas[old]);
+    old.filter(|old| !old.is_aachen()).map_or(0, |old| old.bicycle_flat)
 }

@@ -1,7 +1,7 @@
-//! Kilometres, and the price in its four steps.
+//! Kilometres, and the price: in four steps, or as an area of kind 8 has it.
 
 use super::parts::Part;
-use super::tariff::{Area, Stop, Tariff, TripCap};
+use super::tariff::{Area, Kind, Stop, Tariff, Town, TripCap};
 use super::trip::Trip;
 use super::{Cents, Km, Minutes};
 
@@ -46,21 +46,41 @@ pub fn squared_distance(one: &Stop, other: &Stop) -> u64 {
     dx * dx + dy * dy
 }
 
-/// Steps 1 to 3: the price of the holder and of each adult carried. `area` is the ride's own.
+/// The price of the holder and of each adult carried. `area` is the ride's own.
 pub fn price(area: &Area, ride: &Ride) -> Cents {
     let by_distance = step_1(area, ride);
-    let capped = step_2(area, ride, by_distance);
-    step_3(area, ride, capped)
+    match area.kind {
+        // Steps 1 to 3.
+        Kind::Common => {
+            let capped = step_2(area, ride, by_distance);
+            step_3(area, ride, capped)
+        }
+        Kind::Aachen { .. } => compared_or_raised(area, ride, &area.trip_cap, by_distance),
+    }
 }
 
-/// Step 4: the price of a child, from step 3.
+/// The price of a child.
 pub fn child_price(area: &Area, ride: &Ride) -> Cents {
-    reduced_for_children(area, price(area, ride))
+    match &area.kind {
+        // Step 4, from step 3.
+        Kind::Common => reduced_for_children(area, price(area, ride)),
+        // From step 1.
+        Kind::Aachen { child_ticket, .. } => {
+            let reduced = reduced_for_children(area, step_1(area, ride));
+            compared_or_raised(area, ride, child_ticket, reduced)
+        }
+    }
 }
 
-/// Base price × periods + km price × km.
+/// Base price × periods + km price × km; a marked town drops one of the two.
 fn step_1(area: &Area, ride: &Ride) -> Cents {
-    area.base_price * periods(ride.minutes, area.base_validity) + area.price_per_km * ride.km
+    let base = area.base_price * periods(ride.minutes, area.base_validity);
+    let distance = area.price_per_km * ride.km;
+    match area.town() {
+        Town::Unmarked => base + distance,
+        Town::BaseDropped => distance,
+        Town::KmDropped => base,
+    }
 }
 
 /// Duration ÷ validity rounded up, at least 1.
@@ -70,15 +90,27 @@ fn periods(duration: Minutes, validity: Minutes) -> u64 {
 
 /// The smaller of that and the trip cap.
 fn step_2(area: &Area, ride: &Ride, amount: Cents) -> Cents {
-    match trip_cap(area, ride) {
-        Some(cap) => amount.min(cap),
-        None => amount,
+    compared(ride, &area.trip_cap, amount)
+}
+
+/// In an area of kind 8. Class 2: compared with the trip cap or the child ticket, unless the area is a marked town.
+/// Class 1: with the surcharge, and not compared.
+fn compared_or_raised(area: &Area, ride: &Ride, ticket: &TripCap, amount: Cents) -> Cents {
+    match ride.class {
+        1 => raised_for_first_class(area, amount),
+        _ if area.is_marked_town() => amount,
+        _ => compared(ride, ticket, amount),
     }
 }
 
-/// The trip cap that applies, if any: a flat one up to its minutes, one by level as the ticket says.
-fn trip_cap(area: &Area, ride: &Ride) -> Option<Cents> {
-    match area.trip_cap {
+/// The smaller of that and the cap, where it applies.
+fn compared(ride: &Ride, cap: &TripCap, amount: Cents) -> Cents {
+    amount_of(ride, cap).map_or(amount, |cap| amount.min(cap))
+}
+
+/// What applies of a trip cap or a child ticket, if anything: a flat one up to its minutes, one by level as the ticket says.
+fn amount_of(ride: &Ride, cap: &TripCap) -> Option<Cents> {
+    match *cap {
         TripCap::None => None,
         TripCap::Flat { amount, minutes } => (ride.minutes <= minutes).then_some(amount),
         TripCap::ByLevel { k, a, b, c, d } => match ride.ticket_level {

@@ -24,6 +24,12 @@ pub fn parts_of(tariff: &Tariff, stops: &[usize], duration: Minutes) -> Vec<Part
     }
 }
 
+/// Whether a trip through these stops has a part whose area is a marked town. Where it is not broken, it is that part.
+pub fn rides_in_a_marked_town(tariff: &Tariff, stops: &[usize]) -> bool {
+    let parts = parts_of(tariff, stops, 0);
+    parts.iter().any(|part| tariff.areas[tariff.area_of_stops(&part.stops)].is_marked_town())
+}
+
 /// The place among the stops of the change farthest from the first stop, the first of equals; nothing without a change. A
 /// change is a stop between first and last, by its place and not by its number.
 pub fn farthest_change(tariff: &Tariff, stops: &[usize]) -> Option<usize> {

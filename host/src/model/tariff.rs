@@ -1,7 +1,7 @@
 //! A tariff: 1 to 32 areas, then a factor record for the state and for each region, then 0 to 1,000 stops, nothing
 //! else. Refusals 1 to 3.
 
-use super::record::{record_at, Fields, Record, KIND_AREA, KIND_FACTOR, KIND_STOP};
+use super::record::{record_at, Fields, Record, KIND_AACHEN_AREA, KIND_AREA, KIND_FACTOR, KIND_STOP};
 use super::{Cents, Metres, Minutes, Refusal};
 use std::ops::RangeInclusive;
 
@@ -9,6 +9,7 @@ pub const MOST_AREAS: usize = 32;
 pub const MOST_STOPS: usize = 1_000;
 
 const AREA_BODY: usize = 25;
+const AACHEN_AREA_BODY: usize = 38;
 const FACTOR_BODY: usize = 2;
 const STOP_BODY: usize = 9;
 
@@ -39,6 +40,23 @@ pub enum TripCap {
     ByLevel { k: Cents, a: Cents, b: Cents, c: Cents, d: Cents },
 }
 
+/// An area's kind, with what only that kind has.
+#[derive(Clone, Debug, PartialEq, Eq)]
+pub enum Kind {
+    /// Kind 1.
+    Common,
+    /// Kind 8. The child ticket is of the same sort as the adult's trip cap.
+    Aachen { child_ticket: TripCap, bicycle_price: Cents, town: Town },
+}
+
+/// What a town drops from the price of rides inside it. One that drops something is marked.
+#[derive(Clone, Copy, Debug, PartialEq, Eq)]
+pub enum Town {
+    Unmarked,
+    BaseDropped,
+    KmDropped,
+}
+
 #[derive(Clone, Debug, PartialEq, Eq)]
 pub struct Area {
     pub level: Level,
@@ -52,7 +70,27 @@ pub struct Area {
     pub reduction: u64,
     pub trip_cap: TripCap,
     pub day_cap: Option<Cents>,
+    /// Of kind 8 it is no flat, but the cap on a bicycle's payments in a window.
     pub bicycle_flat: Cents,
+    pub kind: Kind,
+}
+
+impl Area {
+    pub fn is_aachen(&self) -> bool {
+        self.kind != Kind::Common
+    }
+
+    pub fn town(&self) -> Town {
+        match self.kind {
+            Kind::Common => Town::Unmarked,
+            Kind::Aachen { town, .. } => town,
+        }
+    }
+
+    /// Whether it has no trip cap, no child ticket and no first class.
+    pub fn is_marked_town(&self) -> bool {
+        self.town() != Town::Unmarked
+    }
 }
 
 /// What a factor record says: when a trip is broken.
@@ -91,8 +129,8 @@ pub fn read_tariff(bytes: &[u8]) -> Result<Tariff, Refusal> {
             return Err(fault(2));
         }
         match record.kind {
-            KIND_AREA => {
-                let area = read_area(record.body, &tariff.areas).ok_or(fault(3))?;
+            KIND_AREA | KIND_AACHEN_AREA => {
+                let area = read_area(&record, &tariff.areas).ok_or(fault(3))?;
                 tariff.areas.push(area);
             }
             KIND_FACTOR => {
@@ -118,9 +156,8 @@ impl Tariff {
     fn may_go_on_with(&self, record: &Record) -> bool {
         let length = record.body.len();
         match record.kind {
-            KIND_AREA => {
-                length == AREA_BODY && self.factors.is_empty() && self.stops.is_empty() && self.areas.len() < MOST_AREAS
-            }
+            KIND_AREA => length == AREA_BODY && self.may_have_another_area(),
+            KIND_AACHEN_AREA => length == AACHEN_AREA_BODY && self.may_have_another_area(),
             KIND_FACTOR => length == FACTOR_BODY && self.stops.is_empty() && self.factors.len() < self.factors_due(),
             KIND_STOP => {
                 length == STOP_BODY
@@ -130,6 +167,11 @@ impl Tariff {
             }
             _ => false,
         }
+    }
+
+    /// Of either kind; 32 together.
+    fn may_have_another_area(&self) -> bool {
+        self.factors.is_empty() && self.stops.is_empty() && self.areas.len() < MOST_AREAS
     }
 
     /// One factor record for the state and one for each region.
@@ -179,8 +221,8 @@ impl Tariff {
 }
 
 /// The area that comes after the `earlier` ones, or nothing where a value is outside the rules.
-fn read_area(body: &[u8], earlier: &[Area]) -> Option<Area> {
-    let mut fields = Fields::of(body);
+fn read_area(record: &Record, earlier: &[Area]) -> Option<Area> {
+    let mut fields = Fields::of(record.body);
     let level = read_level(fields.next(1))?;
     let parent = fields.next(1) as usize;
     let base_price = fields.next(2);
@@ -192,6 +234,10 @@ fn read_area(body: &[u8], earlier: &[Area]) -> Option<Area> {
     let trip_cap = read_trip_cap(sort, &fields.next_many(5, 2))?;
     let day_cap = read_day_cap(fields.next(2))?;
     let bicycle_flat = fields.next(2);
+    let kind = match record.kind {
+        KIND_AACHEN_AREA => read_aachen(&mut fields, level, &trip_cap)?,
+        _ => Kind::Common,
+    };
 
     let in_range = BASE_PRICES.contains(&base_price)
         && PRICES_PER_KM.contains(&price_per_km)
@@ -202,13 +248,7 @@ fn read_area(body: &[u8], earlier: &[Area]) -> Option<Area> {
     if !in_range || !is_parent(level, parent, earlier) {
         return None;
     }
-    // Area 0 is its own parent.
-    if let Some(above) = earlier.get(parent) {
-        if bicycle_flat > above.bicycle_flat {
-            return None;
-        }
-    }
-    Some(Area {
+    let area = Area {
         level,
         parent,
         base_price,
@@ -219,7 +259,54 @@ fn read_area(body: &[u8], earlier: &[Area]) -> Option<Area> {
         trip_cap,
         day_cap,
         bicycle_flat,
-    })
+        kind,
+    };
+    // Area 0 is its own parent, and none is above it.
+    let well = match earlier.get(parent) {
+        None => !area.is_aachen(),
+        Some(above) => fits_below(&area, above),
+    };
+    well.then_some(area)
+}
+
+/// A city is of its region's kind. A flat is at most the flat above, a cap at most the cap above; a region's cap has none
+/// above it.
+fn fits_below(area: &Area, above: &Area) -> bool {
+    let is_of_one_kind = area.is_aachen() == above.is_aachen();
+    (area.level == Level::Region || is_of_one_kind) && (!is_of_one_kind || area.bicycle_flat <= above.bicycle_flat)
+}
+
+/// What stands behind the 25 bytes of kind 1, in an area with this level and trip cap.
+fn read_aachen(fields: &mut Fields, level: Level, trip_cap: &TripCap) -> Option<Kind> {
+    let child_ticket = read_child_ticket(trip_cap, &fields.next_many(5, 2))?;
+    let bicycle_price = fields.next(2);
+    let town = read_town(fields.next(1), level)?;
+    MONEY.contains(&bicycle_price).then_some(Kind::Aachen { child_ticket, bicycle_price, town })
+}
+
+/// By the trip cap's sort. Sort 0: five zeros. Sort 1: amount, four zeros; the minutes are the trip cap's. Sort 2: amounts
+/// for levels K, A, B, C, D.
+fn read_child_ticket(trip_cap: &TripCap, fields: &[u64]) -> Option<TripCap> {
+    match (trip_cap, fields) {
+        (TripCap::None, &[0, 0, 0, 0, 0]) => Some(TripCap::None),
+        (&TripCap::Flat { minutes, .. }, &[amount, 0, 0, 0, 0]) if MONEY.contains(&amount) => {
+            Some(TripCap::Flat { amount, minutes })
+        }
+        (TripCap::ByLevel { .. }, &[k, a, b, c, d]) if fields.iter().all(|amount| MONEY.contains(amount)) => {
+            Some(TripCap::ByLevel { k, a, b, c, d })
+        }
+        _ => None,
+    }
+}
+
+/// 0 is no mark, 1 drops the base price, 2 the price per kilometre. Only a city has one.
+fn read_town(mark: u64, level: Level) -> Option<Town> {
+    match (mark, level) {
+        (0, _) => Some(Town::Unmarked),
+        (1, Level::City) => Some(Town::BaseDropped),
+        (2, Level::City) => Some(Town::KmDropped),
+        _ => None,
+    }
 }
 
 fn read_level(level: u64) -> Option<Level> {

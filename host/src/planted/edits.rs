@@ -7,7 +7,7 @@ pub struct Planted {
     pub edits: &'static [(&'static str, &'static str, &'static str)],
 }
 
-pub const PLANTED: [Planted; 13] = [
+pub const PLANTED: [Planted; 18] = [
     // Promise 1: a refusal changes nothing, and the refusals are tried in their order.
     Planted {
         name: "refusal_12_writes_the_book",
@@ -20,12 +20,17 @@ pub const PLANTED: [Planted; 13] = [
     Planted {
         name: "stops_after_stamps",
         edits: &[
-            ("model.rs", "unless(trip.stops.iter().all(|&stop| stop < tariff.stops.len()), 7)?;", ""),
+            (
+                "model.rs",
+                "unless(trip.stops.iter().all(|&stop| stop < tariff.stops.len()), 7)?;",
+                "let known = trip.stops.iter().all(|&stop| stop < tariff.stops.len());",
+            ),
+            ("model.rs", "unless(trip.class != 1 ||", "unless(!known || trip.class != 1 ||"),
             (
                 "model.rs",
                 "let check_out = trip.check_out.minute_number().ok_or(refused(8))?;",
                 "let check_out = trip.check_out.minute_number().ok_or(refused(8))?;
-                 unless(trip.stops.iter().all(|&stop| stop < tariff.stops.len()), 7)?;",
+                 unless(known, 7)?;",
             ),
         ],
     },
@@ -69,6 +74,50 @@ pub const PLANTED: [Planted; 13] = [
     Planted {
         name: "second_part_with_the_duration",
         edits: &[("parts.rs", "minutes: 0 },", "minutes: duration },")],
+    },
+    // The Aachen tariff: what is compared with a ticket and when, what a bicycle has paid, and where the town's 6 stands.
+    Planted {
+        name: "first_class_compared",
+        edits: &[(
+            "fare.rs",
+            "1 => raised_for_first_class(area, amount),
+        _ if",
+            "1 => raised_for_first_class(area, compared(ride, ticket, amount)),
+        _ if",
+        )],
+    },
+    Planted {
+        name: "child_reduced_after_the_ticket",
+        edits: &[(
+            "fare.rs",
+            "let reduced = reduced_for_children(area, step_1(area, ride));
+            compared_or_raised(area, ride, child_ticket, reduced)",
+            "reduced_for_children(area, compared_or_raised(area, ride, child_ticket, step_1(area, ride)))",
+        )],
+    },
+    Planted {
+        name: "towns_ticket_compared",
+        edits: &[("fare.rs", "_ if area.is_marked_town() => amount,", "")],
+    },
+    Planted {
+        name: "payments_credited",
+        edits: &[(
+            "charge.rs",
+            "Kind::Common => area.bicycle_flat - old_flat(tariff, book, bicycle),",
+            "Kind::Common => area.bicycle_flat.saturating_sub(old_flat(tariff, book, bicycle) + book.payments(bicycle)),",
+        )],
+    },
+    Planted {
+        name: "town_after_stamps",
+        edits: &[
+            ("model.rs", "unless(trip.class != 1 || !rides_in_a_marked_town(&tariff, &trip.stops), 6)?;", ""),
+            (
+                "model.rs",
+                "let check_out = trip.check_out.minute_number().ok_or(refused(8))?;",
+                "let check_out = trip.check_out.minute_number().ok_or(refused(8))?;
+                 unless(trip.class != 1 || !rides_in_a_marked_town(&tariff, &trip.stops), 6)?;",
+            ),
+        ],
     },
     // The night with two half past twos: the offset is taken off.
     Planted {

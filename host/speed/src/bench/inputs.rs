@@ -30,7 +30,7 @@ pub fn largest() -> Network {
     Network { name: "largest", tariff: made(&(areas(MOST_AREAS) + &spread_stops(MOST_STOPS))), stops: largest_stops }
 }
 
-/// samples/tariff.bin: 7 areas, 28 stops.
+/// samples/tariff.bin: 10 areas, 35 stops. Trips are those of its first areas.
 pub fn sample() -> Network {
     Network { name: "sample", tariff: include_bytes!("../../../../samples/tariff.bin").to_vec(), stops: sample_stops }
 }
@@ -57,6 +57,8 @@ const MOST_AREAS: usize = 32;
 const MOST_STOPS: usize = 1_000;
 /// Areas 1 to 4; the areas behind them are their cities.
 const REGIONS: usize = 4;
+/// It and its cities are of kind 8.
+const AACHEN: usize = REGIONS;
 
 fn made(text: &str) -> Vec<u8> {
     bytes_of(text).unwrap_or_else(|fault| panic!("{fault} in\n{text}"))
@@ -84,8 +86,9 @@ fn area_line(area: usize) -> String {
         0 => format!("area state parent 0 base {base} km {km} valid {valid} {} day 3000 bike 500\n", shares(random, 0)),
         1..=REGIONS => {
             let (day, bike) = (random.within(2_400, 2_900), random.within(350, 450));
+            let (kind, behind) = kind_of(area, area);
             format!(
-                "area region parent 0 base {base} km {km} valid {valid} {} day {day} bike {bike}\n",
+                "{kind} region parent 0 base {base} km {km} valid {valid} {} day {day} bike {bike}{behind}\n",
                 shares(random, area)
             )
         }
@@ -98,7 +101,21 @@ fn city_line(area: usize, region: usize) -> String {
     let random = &mut Random::of(SEED, area as u64);
     let (base, km, bike) = (random.within(120, 170), random.within(22, 30), random.within(200, 300));
     let day = if area % 8 == 7 { "none".to_string() } else { random.within(400, 900).to_string() };
-    format!("area city parent {region} base {base} km {km} valid 90 {} day {day} bike {bike}\n", shares(random, area))
+    let (kind, behind) = kind_of(area, region);
+    format!(
+        "{kind} city parent {region} base {base} km {km} valid 90 {} day {day} bike {bike}{behind}\n",
+        shares(random, area)
+    )
+}
+
+/// The first word of an area of this region, or of the region itself, and what stands behind its fields: of kind 8 tickets of
+/// its own sort of trip cap, the price per trip and no mark.
+fn kind_of(area: usize, region: usize) -> (&'static str, String) {
+    if region != AACHEN {
+        return ("area", String::new());
+    }
+    let tickets = ["none", "levels 100 170 370 620 840", "flat 110"][area % 3];
+    ("aachen", format!(" tickets {tickets} trip 150 town none"))
 }
 
 /// The percentages and the trip cap, of which all three sorts come in turn.
@@ -200,7 +217,9 @@ mod tests {
 
     #[test]
     fn tariffs_are_faultless_and_as_large_as_they_are_called() {
-        for (network, areas, stops) in [(largest(), 32, 1_000), (three_areas(), 3, 4), (smallest(), 1, 1)] {
+        for (network, areas, stops) in
+            [(largest(), 32, 1_000), (sample(), 10, 35), (three_areas(), 3, 4), (smallest(), 1, 1)]
+        {
             let tariff = read_tariff(&network.tariff).expect("a faultless tariff");
             assert_eq!((tariff.areas.len(), tariff.stops.len()), (areas, stops), "{}", network.name);
         }
@@ -219,6 +238,7 @@ mod tests {
         assert!(tariff.areas.iter().any(|area| matches!(area.trip_cap, TripCap::ByLevel { .. })));
         assert!(tariff.areas.iter().any(|area| area.day_cap.is_none()));
         assert!((0..32).all(|area| tariff.stops.iter().any(|stop| stop.area == area)));
+        assert!((1..32).all(|area| tariff.areas[area].is_aachen() == tariff.contains(AACHEN, area)));
     }
 
     #[test]

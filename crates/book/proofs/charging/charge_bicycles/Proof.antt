@@ -1,22 +1,23 @@
 -- `book::charging::charge_bicycles` meets its contract. The loop's invariant: the charges of the first `i` bicycles are in. The measure is
 -- the number of bicycles left.
 -- Assumes nothing.
-use Prim.Native.Nat.{_-_, _<_}
+use Prim.Native.Nat.{_-_, _≤_, _<_}
 use native.Mathlib.Omega.{arith}
 use mathlib.Core.Path.{_∙_}
-use Rattle.book.specs.Words.{coverWord}
+use Rattle.book.specs.Words.{coverWord, paidWord}
 use Rattle.book.specs.Windows.{inWindow}
 use Rattle.book.specs.Charging.{bicycleCharge}
 use Rattle.book.specs.Posting.{wordsAfter}
 use Rattle.book.proofs.SoundLaws.{sound-has}
-use Rattle.book.proofs.ChargeLaws.{Filled, filled-none, filled-size, filled-more, filled-all, bicycles-listed, cover-known}
-use Rattle.book.proofs.EarlierLaws.{earlier-there, cover-after}
+use Rattle.book.proofs.ChargeLaws.{Filled, filled-none, filled-size, filled-more, filled-all, bicycles-listed, cover-known, paid-known}
+use Rattle.book.proofs.EarlierLaws.{earlier-there, cover-after, paid-after}
 use Rattle.book.proofs.charging.charge_bicycles.Statement.{statement}
 use Rattle.book.proofs.charging.charge_bicycles.Tie as tie
 
 abbrev Inv-loop : tie.InvT-loop
 Inv-loop tariff counts book current earlier amounts₀ from at count i₀ amounts i =
-    Filled (λ k. bicycleCharge tariff counts at (coverWord (wordsAfter tariff counts (inWindow current book) earlier) k)) amounts₀ amounts from count i
+    let after = wordsAfter tariff counts (inWindow current book) earlier in
+    Filled (λ k. bicycleCharge tariff counts at (coverWord after k) (paidWord after k)) amounts₀ amounts from count i
 
 abbrev μ-loop : tie.MeasureT-loop
 μ-loop tariff counts book current earlier amounts₀ from at count i₀ amounts i = count - i
@@ -36,27 +37,61 @@ get-in-requires c κs = (sound-has _ _ (c .before .before .before .before .befor
 cast-found : tie.Need-cast-found Inv-loop μ-loop
 cast-found c = omega arith
 
+payments-requires : tie.Need-payments-requires Inv-loop μ-loop
+payments-requires c κs = omega (arith, c .before .before .before .before .before .before .before .before .before .pre .0 .rideable .bicycles)
+
+get-in-requires-2 : tie.Need-get-in-requires-2 Inv-loop μ-loop
+get-in-requires-2 c κs =
+    let r = c .before .before .before .before .before .before .before .before .before .before .pre .0 in
+    (sound-has _ _ (r .rideable .sound-book) .size, c .payments .ensures .1)
+
+-- the bicycle's covering area in the book is one of the tariff's
+old-known :
+    (c : tie.After-get-in2 Inv-loop μ-loop)
+    → c .before .before .get-in .result ≤ c .before .before .before .before .before .before .before .before .before .before .before .args .counts .areas
+old-known c =
+    let s = c .before .before .before .before in
+    let first = s .before .before .before .before .before .before .before in
+    let r = first .pre .0 in
+    let few : s .before .loop .i < 10 = omega (arith, r .rideable .bicycles) in
+    rw (c .before .before .get-in .ensures .value, c .before .before .before .cover .ensures .0)
+    (cover-known (first .args .current) (sound-has _ _ (r .rideable .sound-book)) _ few)
+
 cover-after-requires : tie.Need-cover-after-requires Inv-loop μ-loop
 cover-after-requires c κs =
-    let s = c .before .before .before in
-    let first = s .before .before .before .before .before .before in
+    let r = c .before .before .before .before .before .before .before .before .before .before .before .pre .0 in
+    (r .rideable .read, (earlier-there r, old-known c))
+
+paid-after-requires : tie.Need-paid-after-requires Inv-loop μ-loop
+paid-after-requires c κs =
+    let s = c .before .before .before .before .before in
+    let first = s .before .before .before .before .before .before .before in
     let r = first .pre .0 in
-    let few : s .loop .i < 10 = omega (arith, r .rideable .bicycles) in
-    let known = cover-known (first .args .current) (sound-has _ _ (r .rideable .sound-book)) _ few in
-    (r .rideable .read, (earlier-there r, rw (c .get-in .ensures .value, c .before .cover .ensures .0) known))
+    let few : s .before .loop .i < 10 = omega (arith, r .rideable .bicycles) in
+    let known = paid-known (first .args .current) (sound-has _ _ (r .rideable .sound-book)) _ few in (
+      r .rideable .read,
+      (earlier-there r, (old-known (c .before), rw (c .before .get-in2 .ensures .value, c .before .before .payments .ensures .0) known)),
+    )
 
 charge-bicycle-requires : tie.Need-charge-bicycle-requires Inv-loop μ-loop
 charge-bicycle-requires c κs =
-    let p = c .before .before .before .before .before .before .before .before .before .before .pre .0 .rideable in (p .read, (p .area, c .cover-after .ensures .known))
+    let p = c .before .before .before .before .before .before .before .before .before .before .before .before .before .pre .0 .rideable in
+    (p .read, (p .area, c .before .cover-after .ensures .known))
 
 add-amounts : tie.Need-add-amounts Inv-loop μ-loop
-add-amounts c = omega arith
+add-amounts c =
+    let s = c .before .before .before .before .before .before .before .before in
+    let first = s .before .before .before .before .before .before .before in
+    omega (arith, s .loop-test .taken, first .pre .1, first .good)
 
 mul-amounts : tie.Need-mul-amounts Inv-loop μ-loop
-mul-amounts c = omega (arith, filled-size (c .before .before .before .before .before .before .loop .inv))
+mul-amounts c =
+    let s = c .before .before .before .before .before .before .before .before in
+    let first = s .before .before .before .before .before .before .before in
+    omega (arith, s .loop-test .taken, first .pre .1, first .good, filled-size (s .before .loop .inv))
 
 slice-write-amounts : tie.Need-slice-write-amounts Inv-loop μ-loop
-slice-write-amounts c = omega (arith, filled-size (c .before .before .before .before .before .before .loop .inv))
+slice-write-amounts c = omega (arith, filled-size (c .before .before .before .before .before .before .before .before .before .loop .inv))
 
 add-i : tie.Need-add-i Inv-loop μ-loop
 add-i c = omega arith
@@ -66,14 +101,19 @@ loop-less c = omega arith
 
 loop-again : tie.Need-loop-again Inv-loop μ-loop
 loop-again c =
-    let s = c .before .before .before .before .before in
+    let s = c .before .before .before .before .before .before .before .before in
+    let r = s .before .before .before .before .before .before .before .pre .0 in
     filled-more (s .before .loop .inv) _ (s .loop-test .taken)
     (c .before .charge-bicycle .ensures .value
     ∙ rw (
-      c .before .before .cover-after .ensures .value,
-      c .before .before .before .get-in .ensures .value,
-      c .before .before .before .before .cover .ensures .0,
-      cover-after (s .before .before .before .before .before .before .before .pre .0) _ (s .loop-test .taken),
+      c .before .before .paid-after .ensures .value,
+      c .before .before .before .cover-after .ensures .value,
+      c .before .before .before .before .get-in2 .ensures .value,
+      c .before .before .before .before .before .payments .ensures .0,
+      c .before .before .before .before .before .before .get-in .ensures .value,
+      c .before .before .before .before .before .before .before .cover .ensures .0,
+      cover-after r _ (s .loop-test .taken),
+      paid-after r _ (s .loop-test .taken),
     ))
 
 same-length : tie.Need-same-length Inv-loop μ-loop
@@ -96,7 +136,10 @@ charge-bicycles-spec =
     cover-requires
     get-in-requires
     cast-found
+    payments-requires
+    get-in-requires-2
     cover-after-requires
+    paid-after-requires
     charge-bicycle-requires
     add-amounts
     mul-amounts

@@ -1,10 +1,12 @@
--- Each turn reads one bicycle's word and writes it, and leaves those of the bicycles to come as they were.
+-- Each turn reads one bicycle's two words and writes them, and leaves those of the bicycles to come as they were.
 -- Assumes nothing.
 use Prim.Native.Nat.{_-_, _≤_}
 use native.Mathlib.Omega.{arith}
 use mathlib.Core.Path.{sym, ap, _∙_}
+use lib.ListN.{length}
 use Rattle.tariff.proofs.Faultless.{faultless}
 use Rattle.book.specs.Words.{word}
+use Rattle.book.proofs.WordLaws.{size-put}
 use Rattle.book.proofs.PostTurns.{BicyclesCovered, bicycles-start, bicycles-turn, bicycles-end}
 use Rattle.book.proofs.posting.cover_bicycles.Statement.{statement}
 use Rattle.book.proofs.posting.cover_bicycles.Tie as tie
@@ -16,7 +18,7 @@ abbrev μ-loop : tie.MeasureT-loop
 μ-loop tariff counts book₀ count at i₀ book i = count - i
 
 loop-holds : tie.Need-loop-holds Inv-loop μ-loop
-loop-holds c = bicycles-start (c .before .before .pre .size) (c .before .before .pre .covers)
+loop-holds c = let p = c .before .before .pre in bicycles-start (p .size) (p .few) (p .covers) (p .payments)
 
 cover-requires : tie.Need-cover-requires Inv-loop μ-loop
 cover-requires c κs = omega (arith, c .before .before .before .before .pre .few)
@@ -27,35 +29,67 @@ get-requires c κs = (c .before .before .before .loop .inv .size, c .before .cov
 cast-old : tie.Need-cast-old Inv-loop μ-loop
 cast-old c = omega (arith, c .get .ensures .range)
 
+payments-requires : tie.Need-payments-requires Inv-loop μ-loop
+payments-requires c κs = omega (arith, c .before .before .before .before .before .before .before .pre .few)
+
+get-requires-2 : tie.Need-get-requires-2 Inv-loop μ-loop
+get-requires-2 c κs = (c .before .before .before .before .before .before .loop .inv .size, c .before .payments .ensures .1)
+
 new-cover-requires : tie.Need-new-cover-requires Inv-loop μ-loop
 new-cover-requires c κs =
-    let p = c .before .before .before .before .before .before .before .pre in
-    let l = c .before .before .before .before .loop in
-    let old = c .get .ensures .value ∙ ap (word (l .book)) (c .before .before .cover .ensures .0) in
-    (p .read, (p .area, omega (arith, old, l .inv .covers (l .i) (omega arith) (c .before .before .before .loop-test .taken))))
+    let p = c .before .before .before .before .before .before .before .before .before .before .pre in
+    let l = c .before .before .before .before .before .before .before .loop in
+    let old = c .before .before .before .get .ensures .value ∙ ap (word (l .book)) (c .before .before .before .before .before .cover .ensures .0) in
+    (p .read, (p .area, omega (arith, old, l .inv .covers (l .i) (omega arith) (c .before .before .before .before .before .before .loop-test .taken))))
 
-few-areas : (c : tie.After-put-arg Inv-loop μ-loop) → c .before .before .before .before .before .before .before .before .before .args .counts .areas ≤ 32
-few-areas c = faultless _ _ (c .before .before .before .before .before .before .before .before .before .pre .read) .few-areas
+paid-with-requires : tie.Need-paid-with-requires Inv-loop μ-loop
+paid-with-requires c κs =
+    let p = c .before .before .before .before .before .before .before .before .before .before .before .pre in
+    let l = c .before .before .before .before .before .before .before .before .loop in
+    let paid = c .before .get2 .ensures .value ∙ ap (word (l .book)) (c .before .before .before .payments .ensures .0) in
+    (p .read, (c .new-cover .ensures .there, omega (arith, paid, l .inv .payments (l .i) (omega arith) (c .before .before .before .before .before .before .before .loop-test .taken))))
+
+few-areas :
+    (c : tie.After-put-arg Inv-loop μ-loop)
+    → c .before .before .before .before .before .before .before .before .before .before .before .before .before .args .counts .areas ≤ 32
+few-areas c =
+    let first = c .before .before .before .before .before .before .before .before .before .before .before .before .before in
+    faultless _ _ (first .pre .read) .few-areas
 
 cast-put : tie.Need-cast-put Inv-loop μ-loop
-cast-put c = omega (arith, c .before .new-cover .ensures .there, few-areas c)
+cast-put c = omega (arith, c .before .before .new-cover .ensures .there, few-areas c)
 
 add-put : tie.Need-add-put Inv-loop μ-loop
-add-put c = omega (arith, c .before .new-cover .ensures .there, few-areas c)
+add-put c = omega (arith, c .before .before .new-cover .ensures .there, few-areas c)
 
 put-requires : tie.Need-put-requires Inv-loop μ-loop
-put-requires c κs = (c .before .before .before .before .before .before .loop .inv .size, c .before .before .before .before .cover .ensures .1)
+put-requires c κs =
+    let s = c .before .before .before .before .before .before .before .before in
+    (s .before .before .loop .inv .size, s .cover .ensures .1)
+
+put-requires-2 : tie.Need-put-requires-2 Inv-loop μ-loop
+put-requires-2 c κs =
+    let s = c .before .before .before .before .before .before .before .before .before in
+    (ap length (c .before .before .before .put .ensures) ∙ size-put _ _ _ ∙ s .before .before .before .before .before .loop .inv .size, s .payments .ensures .1)
+
+-- a turn, from its end
+abbrev turn : tie.After-slice-known3 Inv-loop μ-loop → tie.In-loop Inv-loop μ-loop
+turn c = c .before .before .before .before .before .before .before .before .before .before .before .before .before .before .before .before
 
 add-i : tie.Need-add-i Inv-loop μ-loop
-add-i c = omega (arith, c .before .before .before .before .before .before .before .before .loop-test .taken, c .before .before .before .before .before .before .before .before .before .before .before .before .pre .few)
+add-i c = omega (arith, turn c .loop-test .taken, turn c .before .before .before .before .pre .few)
 
 loop-less : tie.Need-loop-less Inv-loop μ-loop
-loop-less c = omega (arith, c .before .before .before .before .before .before .before .before .loop-test .taken)
+loop-less c = omega (arith, turn c .loop-test .taken)
 
 loop-again : tie.Need-loop-again Inv-loop μ-loop
 loop-again c =
-    bicycles-turn (c .before .before .before .before .before .before .before .before .before .loop .inv) (c .before .before .before .before .before .before .before .before .loop-test .taken) (c .before .before .before .before .before .before .before .cover .ensures .0) (c .before .before .before .before .before .get .ensures .value)
-    (c .before .before .before .before .new-cover .ensures .value) (c .before .before .put .ensures)
+    let put = c .before .before .before .before .before .before in
+    let s = put .before .before .before .before in
+    bicycles-turn (turn c .before .loop .inv) (turn c .loop-test .taken) (s .before .before .before .before .before .cover .ensures .0)
+    (s .before .before .before .get .ensures .value) (s .before .before .payments .ensures .0) (s .get2 .ensures .value)
+    (put .before .before .before .new-cover .ensures .value) (put .before .before .paid-with .ensures .value) (put .put .ensures)
+    (c .before .before .put2 .ensures)
 
 same-length : tie.Need-same-length Inv-loop μ-loop
 same-length c = c .before .loop .inv .size ∙ sym (c .before .before .before .before .pre .size)
@@ -73,10 +107,14 @@ cover-bicycles-spec =
     cover-requires
     get-requires
     cast-old
+    payments-requires
+    get-requires-2
     new-cover-requires
+    paid-with-requires
     cast-put
     add-put
     put-requires
+    put-requires-2
     add-i
     loop-less
     loop-again

@@ -67,10 +67,13 @@ pairs-sound-requires c κs = search needs
 covers-sound-requires : tie.Need-covers-sound-requires
 covers-sound-requires c κs = search needs
 
+payments-sound-requires : tie.Need-payments-sound-requires
+payments-sound-requires c κs = search needs
+
 returns-4 : tie.Need-returns-4
 returns-4 c =
-    rw (c .before .pairs-sound .ensures, c .covers-sound .ensures)
-    (sym (told-right _ _ (used (c .before .before .before .before)) (right (c .before .before))))
+    rw (c .before .before .pairs-sound .ensures, c .before .covers-sound .ensures, c .payments-sound .ensures)
+    (sym (told-right _ _ (used (c .before .before .before .before .before)) (right (c .before .before .before))))
 
 pub is-sound-spec : {M : Type 1} → statement M
 is-sound-spec =
@@ -87,4 +90,5 @@ is-sound-spec =
     mul-pairs-sound
     pairs-sound-requires
     covers-sound-requires
+    payments-sound-requires
     returns-4)

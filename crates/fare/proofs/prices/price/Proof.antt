@@ -1,44 +1,58 @@
--- `fare::prices::price` meets its contract: the four steps, one after the other, each by its own contract.
+-- `fare::prices::price` meets its contract: each arm's kind, and the test of the child in kind 8, decide the definition's cases.
 -- Assumes nothing.
 use borrow.Author.Needs.{needs}
-use Rattle.fare.specs.Prices.{step4}
-use Rattle.fare.proofs.Steps.{priced}
+use Rattle.fare.specs.Prices.{priceOf}
 use Rattle.fare.proofs.prices.price.Statement.{statement}
 use Rattle.fare.proofs.prices.price.Tie as tie
 
-distance-price-requires : tie.Need-distance-price-requires
-distance-price-requires c κs = search needs
+enum-told : tie.Need-enum-told
+enum-told c = search needs
 
-trip-capped-requires : tie.Need-trip-capped-requires
-trip-capped-requires c κs = search needs
+common-price-requires : tie.Need-common-price-requires
+common-price-requires c κs = search needs
 
-in-class-requires : tie.Need-in-class-requires
-in-class-requires c κs = search needs
+enum-known-kind : tie.Need-enum-known-kind
+enum-known-kind c = search needs
 
-reduced-requires : tie.Need-reduced-requires
-reduced-requires c κs = search needs
+aachen-child-requires : tie.Need-aachen-child-requires
+aachen-child-requires c κs = search needs
+
+aachen-adult-requires : tie.Need-aachen-adult-requires
+aachen-adult-requires c κs = search needs
 
 returns : tie.Need-returns
-unfolding step4
+unfolding priceOf
 returns c =
-    let s = c .before .before in
-    priced _ (s .before .before .distance-price .ensures) (s .before .trip-capped .ensures) (s .in-class .ensures)
-    (rw (c .before .if1 .taken) (c .reduced .ensures .value))
+    record {
+      value = rw (c .before .enum-told .given .1) (c .common-price .ensures .value);
+      range = c .common-price .ensures .range;
+    }
 
 returns-2 : tie.Need-returns-2
-unfolding step4
+unfolding priceOf
 returns-2 c =
-    let s = c .before in
-    priced _ (s .before .before .distance-price .ensures) (s .before .trip-capped .ensures) (s .in-class .ensures)
-    (rw (c .if1 .left))
+    record {
+      value = rw (c .before .before .before .kind .given .1, c .before .if1 .taken) (c .aachen-child .ensures .value);
+      range = c .aachen-child .ensures .range;
+    }
+
+returns-3 : tie.Need-returns-3
+unfolding priceOf
+returns-3 c =
+    record {
+      value = rw (c .before .before .before .kind .given .1, c .before .if1 .left) (c .aachen-adult .ensures .value);
+      range = c .aachen-adult .ensures .range;
+    }
 
 pub price-spec : {M : Type 1} → statement M
 price-spec =
     tie.close
     (tie.spec
-    distance-price-requires
-    trip-capped-requires
-    in-class-requires
-    reduced-requires
+    enum-told
+    common-price-requires
+    enum-known-kind
+    aachen-child-requires
+    aachen-adult-requires
     returns
-    returns-2)
+    returns-2
+    returns-3)

@@ -1,22 +1,27 @@
 -- `settle::decide::decide` meets its contract: each early return is a row of the table that holds, and what goes on behind it has skipped
 -- that row. For each row there is the place where it is past, with its way back to the start.
 -- Assumes nothing.
-use Prim.Native.Nat.{ℕ, _+_}
+use Prim.Native.Nat.{ℕ, _+_, _≤_}
 use native.Mathlib.Nat.{le-of-eq}
 use native.Mathlib.Omega.{arith}
-use mathlib.Core.Path.{_≡_, sym, _∙_}
+use mathlib.Core.Path.{_≡_, sym, ap, _∙_}
+use mathlib.Core.Bool.{not}
 use mathlib.Core.List.{List}
 use borrow.Author.Needs.{needs}
 use borrow.Author.Tests.{lt-ltb, le-ltb, not-false}
 use lib.ListN.{length, drop}
+use lib.Dec.{ltb}
 use Rattle.trip.specs.Record.{classAt, levelAt, partyAt, countAt}
 use Rattle.trip.specs.Moments.{checkinOf, checkoutOf}
 use Rattle.trip.specs.Trips.{partyRight, stopsKnown, inOrder, tripOf}
 use Rattle.trip.specs.Contracts.{timesOf}
 use Rattle.trip.specs.declared.Times.the-variants.{Of}
 use Rattle.trip.proofs.Shapes.{Filling, whole-fills, whole-none}
+use Rattle.trip.proofs.Ranges.{party-ranges}
 use Rattle.trip.proofs.Stamps.{times-are, times-none, times-range}
 use Rattle.fare.specs.Parts.{breakOf, ridesOf}
+use Rattle.fare.specs.Towns.{townRefuses}
+use Rattle.fare.specs.Contracts.{Riding}
 use Rattle.book.specs.Windows.{tooEarly, windowOf}
 use Rattle.book.proofs.SoundLaws.{sound-has}
 use Rattle.settle.specs.Refusals.{Row, rows, firstOf}
@@ -100,41 +105,93 @@ party c =
 returns-2 : tie.Need-returns-2
 unfolding rows
 returns-2 c =
-    sym (refused-first _ _ _ _ _ (past-5 (c .before .before .before .before .before) ∙ stop _ _ (rw (party (c .before)) (c .if1 .taken))))
+    sym (refused-first _ _ _ _ _ (past-5 (c .before .before .before .before .before) ∙ stop _ _ (ap not (party (c .before)) ∙ c .if1 .taken)))
 
 abbrev start-6 : tie.Else1 → tie.Start
 start-6 c = start-5 (c .before .before .before .before .before)
 
 past-6 : (c : tie.Else1) → Past 3 (start-6 c)
 unfolding rows
-past-6 c = past-5 (c .before .before .before .before .before) ∙ skip _ _ (rw (party (c .before)) (c .if1 .left))
+past-6 c = past-5 (c .before .before .before .before .before) ∙ skip _ _ (ap not (party (c .before)) ∙ c .if1 .left)
 
 -- ---- 7.
 
+cast-stops-known : tie.Need-cast-stops-known
+cast-stops-known c = search needs
+
 stops-known-requires : tie.Need-stops-known-requires
-stops-known-requires c κs = omega (arith, filling (c .before .before .before .before .before) .size)
+stops-known-requires c κs = omega (arith, filling (c .before .before .before .before .before .before) .size)
 
 stops :
     (c : tie.After-stops-known)
-    → stopsKnown (start-6 (c .before) .args .trip .now) (countAt (start-6 (c .before) .args .trip .now) 0) (start-6 (c .before) .args .counts .stops)
-    ≡ c .stops-known .result
-stops c = rw (filling (c .before .before .before .before .before .before) .count) (sym (c .stops-known .ensures))
+    → let s = start-6 (c .before .before) in
+    stopsKnown (s .args .trip .now) (countAt (s .args .trip .now) 0) (s .args .counts .stops) ≡ c .stops-known .result
+stops c = rw (filling (c .before .before .before .before .before .before .before) .count) (sym (c .stops-known .ensures))
 
 returns-3 : tie.Need-returns-3
 unfolding rows
-returns-3 c = sym (refused-first _ _ _ _ _ (past-6 (c .before .before) ∙ stop _ _ (rw (stops (c .before)) (c .if2 .taken))))
+returns-3 c = sym (refused-first _ _ _ _ _ (past-6 (c .before .before .before) ∙ stop _ _ (ap not (stops (c .before)) ∙ c .if2 .taken)))
 
 abbrev start-7 : tie.Else2 → tie.Start
-start-7 c = start-6 (c .before .before)
+start-7 c = start-6 (c .before .before .before)
 
 past-7 : (c : tie.Else2) → Past 4 (start-7 c)
 unfolding rows
-past-7 c = past-6 (c .before .before) ∙ skip _ _ (rw (stops (c .before)) (c .if2 .left))
+past-7 c = past-6 (c .before .before .before) ∙ skip _ _ (ap not (stops (c .before)) ∙ c .if2 .left)
+
+-- ---- 6 again: the town's, by where the trip is broken.
+
+-- the way back to the number of stops
+abbrev told-7 : tie.Else2 → tie.After-known-told
+told-7 c = c .before .before .before .before .before .before .before .before
+
+riding : (c : tie.Else2) → Riding (start-7 c .args .tariff .now) (start-7 c .args .counts) (start-7 c .args .trip .now) (told-7 c .before .stops .given .0 .0)
+riding c =
+    record {
+      read = start-7 c .pre .read;
+      known = sym (c .before .stops-known .ensures) ∙ not-false _ (c .if2 .left);
+      fits = le-of-eq (filling (told-7 c) .size);
+    }
+
+break-of-requires : tie.Need-break-of-requires
+break-of-requires c κs = riding c
+
+broken :
+    (c : tie.After-break-of)
+    → let s = start-7 (c .before) in
+    breakOf (s .args .tariff .now) (s .args .counts) (s .args .trip .now) (countAt (s .args .trip .now) 0) ≡ c .break-of .result
+broken c = rw (filling (told-7 (c .before)) .count) (sym (c .break-of .ensures .value))
+
+two-stops : (c : tie.Else1) → 2 ≤ c .before .before .before .before .before .before .stops .given .0 .0
+two-stops c = party-ranges _ _ _ _ (sym (c .before .party-right .ensures) ∙ not-false _ (c .if1 .left)) .least
+
+town-refuses-requires : tie.Need-town-refuses-requires
+town-refuses-requires c κs = (riding (c .before), (two-stops (c .before .before .before .before), c .break-of .ensures))
+
+town :
+    (c : tie.After-town-refuses)
+    → let s = start-7 (c .before .before) in
+    townRefuses (s .args .tariff .now) (s .args .counts) (s .args .trip .now) (tripOf (s .args .trip .now)) ≡ c .town-refuses .result
+town c =
+    sym
+    (c .town-refuses .ensures .value (tripOf _) (filling (told-7 (c .before .before)) .count)
+    (sym (c .before .before .before .before .before .before .before .before .before .class-at .ensures)))
+
+returns-4 : tie.Need-returns-4
+unfolding rows
+returns-4 c = sym (refused-first _ _ _ _ _ (past-7 (c .before .before .before) ∙ stop _ _ (town (c .before) ∙ c .if3 .taken)))
+
+abbrev start-town : tie.Else3 → tie.Start
+start-town c = start-7 (c .before .before .before)
+
+past-town : (c : tie.Else3) → Past 5 (start-town c)
+unfolding rows
+past-town c = past-7 (c .before .before .before) ∙ skip _ _ (town (c .before) ∙ c .if3 .left)
 
 -- ---- 8.
 
 times-of-requires : tie.Need-times-of-requires
-times-of-requires c κs = omega (arith, filling (c .before .before .before .before .before .before .before) .size)
+times-of-requires c κs = omega (arith, filling (told-7 (c .before .before .before)) .size)
 
 enum-known-checkin : tie.Need-enum-known-checkin
 enum-known-checkin c = search needs
@@ -142,29 +199,32 @@ enum-known-checkin c = search needs
 enum-told-2 : tie.Need-enum-told-2
 enum-told-2 c = search needs
 
-returns-4 : tie.Need-returns-4
+returns-5 : tie.Need-returns-5
 unfolding rows
-returns-4 c =
+returns-5 c =
     let times = c .before .before in
     sym
     (refused-first _ _ _ _ _
-    (past-7 (times .before) ∙ stop _ _ (rw (times-none _ (sym (times .times-of .ensures) ∙ c .enum-told2 .given .1)))))
+    (past-town (times .before) ∙ stop _ _ (ap not (times-none _ (sym (times .times-of .ensures) ∙ c .enum-told2 .given .1)))))
 
 abbrev start-8 : tie.After-known-told2 → tie.Start
-start-8 c = start-7 (c .before .before .before .before)
+start-8 c = start-town (c .before .before .before .before)
 
--- the way back to class, level and party
+-- the way back to where the trip is broken, and to class, level and party
+abbrev broken-8 : tie.After-known-told2 → tie.After-break-of
+broken-8 c = c .before .before .before .before .before .before
+
 abbrev party-8 : tie.After-known-told2 → tie.After-party-at
-party-8 c = c .before .before .before .before .before .before .before .before
+party-8 c = broken-8 c .before .before .before .before .before .before
 
 times :
     (c : tie.After-known-told2)
     → timesOf (start-8 c .args .trip .now) ≡ Of (c .before .checkin .given .0 .0) (c .before .checkin .given .0 .1 .0)
 times c = sym (c .before .before .before .times-of .ensures) ∙ c .before .checkin .given .1
 
-past-8 : (c : tie.After-known-told2) → Past 5 (start-8 c)
+past-8 : (c : tie.After-known-told2) → Past 6 (start-8 c)
 unfolding rows
-past-8 c = past-7 (c .before .before .before .before) ∙ skip _ _ (rw (times-are _ _ _ (times c) .0))
+past-8 c = past-town (c .before .before .before .before) ∙ skip _ _ (ap not (times-are _ _ _ (times c) .0))
 
 -- ---- 9.
 
@@ -173,7 +233,7 @@ in-order-requires c κs =
     let (right, (from, to)) = times-are _ _ _ (times c) in omega (arith, times-range _ right)
 
 -- behind row 8 the way back leads to the two minutes first
-abbrev timed-9 : tie.Else3 → tie.After-known-told2
+abbrev timed-9 : tie.Else4 → tie.After-known-told2
 timed-9 c = c .before .before
 
 order :
@@ -181,13 +241,13 @@ order :
     → inOrder (checkinOf (start-8 (c .before) .args .trip .now)) (checkoutOf (start-8 (c .before) .args .trip .now)) ≡ c .in-order .result
 order c = let (right, (from, to)) = times-are _ _ _ (times (c .before)) in rw (from, to) (sym (c .in-order .ensures))
 
-returns-5 : tie.Need-returns-5
+returns-6 : tie.Need-returns-6
 unfolding rows
-returns-5 c = sym (refused-first _ _ _ _ _ (past-8 (c .before .before) ∙ stop _ _ (rw (order (c .before)) (c .if3 .taken))))
+returns-6 c = sym (refused-first _ _ _ _ _ (past-8 (c .before .before) ∙ stop _ _ (ap not (order (c .before)) ∙ c .if4 .taken)))
 
-past-9 : (c : tie.Else3) → Past 6 (start-8 (timed-9 c))
+past-9 : (c : tie.Else4) → Past 7 (start-8 (timed-9 c))
 unfolding rows
-past-9 c = past-8 (c .before .before) ∙ skip _ _ (rw (order (c .before)) (c .if3 .left))
+past-9 c = past-8 (c .before .before) ∙ skip _ _ (ap not (order (c .before)) ∙ c .if4 .left)
 
 -- ---- 10.
 
@@ -200,45 +260,32 @@ early :
 early c =
     let (right, (from, to)) = times-are _ _ _ (times (timed-9 (c .before))) in rw from (sym (c .too-early .ensures))
 
-returns-6 : tie.Need-returns-6
+returns-7 : tie.Need-returns-7
 unfolding rows
-returns-6 c = sym (refused-first _ _ _ _ _ (past-9 (c .before .before) ∙ stop _ _ (early (c .before) ∙ c .if4 .taken)))
+returns-7 c = sym (refused-first _ _ _ _ _ (past-9 (c .before .before) ∙ stop _ _ (early (c .before) ∙ c .if5 .taken)))
 
-abbrev timed-10 : tie.Else4 → tie.After-known-told2
+abbrev timed-10 : tie.Else5 → tie.After-known-told2
 timed-10 c = timed-9 (c .before .before)
 
-past-10 : (c : tie.Else4) → Past 7 (start-8 (timed-10 c))
+past-10 : (c : tie.Else5) → Past 8 (start-8 (timed-10 c))
 unfolding rows
-past-10 c = past-9 (c .before .before) ∙ skip _ _ (early (c .before) ∙ c .if4 .left)
+past-10 c = past-9 (c .before .before) ∙ skip _ _ (early (c .before) ∙ c .if5 .left)
 
 -- ---- 11.
 
+cast-window-of : tie.Need-cast-window-of
+cast-window-of c = search needs
+
 window-of-requires : tie.Need-window-of-requires
-window-of-requires c κs = start-8 (timed-10 c) .pre .sound-book
+window-of-requires c κs = start-8 (timed-10 (c .before)) .pre .sound-book
 
 window :
     (c : tie.After-window-of)
-    → let s = start-8 (timed-10 (c .before)) in
+    → let s = start-8 (timed-10 (c .before .before)) in
     windowOf (s .args .book .now) (checkinOf (s .args .trip .now)) (checkoutOf (s .args .trip .now)) ≡ c .window-of .result
 window c =
-    let (right, (from, to)) = times-are _ _ _ (times (timed-10 (c .before))) in
+    let (right, (from, to)) = times-are _ _ _ (times (timed-10 (c .before .before))) in
     rw (from, to) (sym (c .window-of .ensures .0))
-
-break-of-requires : tie.Need-break-of-requires
-break-of-requires c κs =
-    let timed = timed-10 (c .before) in
-    let told = party-8 timed .before .before .before in
-    record {
-      read = start-8 timed .pre .read;
-      known = sym (timed .before .before .before .before .before .stops-known .ensures) ∙ not-false _ (timed .before .before .before .before .if2 .left);
-      fits = le-of-eq (filling told .size);
-    }
-
-broken :
-    (c : tie.After-break-of)
-    → let s = start-8 (timed-10 (c .before .before)) in
-    breakOf (s .args .tariff .now) (s .args .counts) (s .args .trip .now) (countAt (s .args .trip .now) 0) ≡ c .break-of .result
-broken c = rw (filling (party-8 (timed-10 (c .before .before)) .before .before .before) .count) (sym (c .break-of .ensures .value))
 
 rides-in-requires : tie.Need-rides-in-requires
 rides-in-requires c κs = search needs
@@ -252,26 +299,26 @@ trips :
     → let s = start-8 (counted c) in
     windowOf (s .args .book .now) (checkinOf (s .args .trip .now)) (checkoutOf (s .args .trip .now)) .trips
     + length (ridesOf (s .args .tariff .now) (s .args .counts) (s .args .trip .now) (tripOf (s .args .trip .now)))
-    ≡ c .before .before .window-of .result .trips + c .rides-in .result
-trips c = rw (rides-count, window (c .before .before), broken (c .before), c .rides-in .ensures .0)
+    ≡ c .before .window-of .result .trips + c .rides-in .result
+trips c = rw (rides-count, window (c .before), broken (broken-8 (counted c)), c .rides-in .ensures .0)
 
-add-if5 : tie.Need-add-if5
-add-if5 c = search needs
+add-if6 : tie.Need-add-if6
+add-if6 c = search needs
 
-returns-7 : tie.Need-returns-7
+returns-8 : tie.Need-returns-8
 unfolding rows
-returns-7 c =
+returns-8 c =
     let found = c .before .before in
-    sym (refused-first _ _ _ _ _ (past-10 (found .before .before .before) ∙ stop _ _ (rw (trips found) (lt-ltb _ _ (c .if5 .taken)))))
+    sym (refused-first _ _ _ _ _ (past-10 (found .before .before .before) ∙ stop _ _ (ap (ltb 256) (trips found) ∙ lt-ltb _ _ (c .if6 .taken))))
 
-abbrev timed-11 : tie.Else5 → tie.After-known-told2
+abbrev timed-11 : tie.Else6 → tie.After-known-told2
 timed-11 c = counted (c .before .before)
 
-past-11 : (c : tie.Else5) → Past 8 (start-8 (timed-11 c))
+past-11 : (c : tie.Else6) → Past 9 (start-8 (timed-11 c))
 unfolding rows
 past-11 c =
     let found = c .before .before in
-    past-10 (found .before .before .before) ∙ skip _ _ (rw (trips found) (le-ltb _ _ (c .if5 .left)))
+    past-10 (found .before .before .before) ∙ skip _ _ (ap (ltb 256) (trips found) ∙ le-ltb _ _ (c .if6 .left))
 
 -- ---- 12.
 
@@ -283,29 +330,29 @@ size :
     → let s = start-8 (timed-11 (c .before)) in
     statementSize (ridesOf (s .args .tariff .now) (s .args .counts) (s .args .trip .now) (tripOf (s .args .trip .now))) ≡ c .records-size .result
 size c =
-    rw (rides-size, ← party-8 (timed-11 (c .before)) .party-at .ensures, broken (c .before .before .before .before))
+    rw (rides-size, ← party-8 (timed-11 (c .before)) .party-at .ensures, broken (broken-8 (timed-11 (c .before))))
     (sym (c .records-size .ensures))
-
-returns-8 : tie.Need-returns-8
-unfolding rows
-returns-8 c = sym (refused-first _ _ _ _ _ (past-11 (c .before .before) ∙ stop _ _ (rw (size (c .before)) (lt-ltb _ _ (c .if6 .taken)))))
-
-past-12 : (c : tie.Else6) → Past 9 (start-8 (timed-11 (c .before .before)))
-unfolding rows
-past-12 c = past-11 (c .before .before) ∙ skip _ _ (rw (size (c .before)) (le-ltb _ _ (c .if6 .left)))
-
--- ---- None of them holds.
 
 returns-9 : tie.Need-returns-9
 unfolding rows
-returns-9 c =
+returns-9 c = sym (refused-first _ _ _ _ _ (past-11 (c .before .before) ∙ stop _ _ (ap (ltb _) (size (c .before)) ∙ lt-ltb _ _ (c .if7 .taken))))
+
+past-12 : (c : tie.Else7) → Past 10 (start-8 (timed-11 (c .before .before)))
+unfolding rows
+past-12 c = past-11 (c .before .before) ∙ skip _ _ (ap (ltb _) (size (c .before)) ∙ le-ltb _ _ (c .if7 .left))
+
+-- ---- None of them holds.
+
+returns-10 : tie.Need-returns-10
+unfolding rows
+returns-10 c =
     let timed = timed-11 (c .before .before) in
     let read = party-8 timed in
     let (right, (from, to)) = times-are _ _ _ (times timed) in
     let found = c .before .before .before .before in
     clear-with _ _ _ _ _ (past-12 c ∙ end) from to
     (read .before .before .class-at .ensures) (read .before .level-at .ensures) (read .party-at .ensures)
-    (filling (read .before .before .before) .count) (window (found .before .before)) (broken (found .before))
+    (filling (read .before .before .before) .count) (window (found .before)) (broken (broken-8 timed))
 
 pub decide-spec : {M : Type 1} → statement M
 decide-spec =
@@ -320,21 +367,25 @@ decide-spec =
     party-at-requires
     party-right-requires
     returns-2
+    cast-stops-known
     stops-known-requires
     returns-3
+    break-of-requires
+    town-refuses-requires
+    returns-4
     times-of-requires
     enum-known-checkin
     enum-told-2
-    returns-4
-    in-order-requires
     returns-5
-    too-early-requires
+    in-order-requires
     returns-6
-    window-of-requires
-    break-of-requires
-    rides-in-requires
-    add-if5
+    too-early-requires
     returns-7
-    records-size-requires
+    cast-window-of
+    window-of-requires
+    rides-in-requires
+    add-if6
     returns-8
-    returns-9)
+    records-size-requires
+    returns-9
+    returns-10)

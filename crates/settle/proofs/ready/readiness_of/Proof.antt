@@ -15,6 +15,9 @@ enum-known-number c = search needs
 enum-known-counts : tie.Need-enum-known-counts
 enum-known-counts c = search needs
 
+cast-is-sound : tie.Need-cast-is-sound
+cast-is-sound c = search needs
+
 is-sound-requires : tie.Need-is-sound-requires
 is-sound-requires c κs = search needs
 
@@ -25,10 +28,10 @@ returns : tie.Need-returns
 returns c = at-fault (sym (c .before .before .before .read-tariff .ensures) ∙ c .before .number .given .1)
 
 returns-2 : tie.Need-returns-2
-returns-2 c = made-ready (record { read = sym (c .before .before .before .before .before .read-tariff .ensures) ∙ c .before .before .before .counts .given .1; sound-book = sym (c .before .is-sound .ensures) ∙ c .if1 .taken })
+returns-2 c = made-ready (record { read = sym (c .before .before .before .before .before .before .read-tariff .ensures) ∙ c .before .before .before .before .counts .given .1; sound-book = sym (c .before .is-sound .ensures) ∙ c .if1 .taken })
 
 returns-3 : tie.Need-returns-3
-returns-3 c = not-sound (sym (c .before .before .before .before .before .before .read-tariff .ensures) ∙ c .before .before .before .before .counts .given .1) (sym (c .before .before .is-sound .ensures) ∙ c .before .if1 .left) (c .number2 .ensures) refl
+returns-3 c = not-sound (sym (c .before .before .before .before .before .before .before .read-tariff .ensures) ∙ c .before .before .before .before .before .counts .given .1) (sym (c .before .before .is-sound .ensures) ∙ c .before .if1 .left) (c .number2 .ensures) refl
 
 pub readiness-of-spec : {M : Type 1} → statement M
 readiness-of-spec =
@@ -37,6 +40,7 @@ readiness-of-spec =
     read-tariff-requires
     enum-known-number
     enum-known-counts
+    cast-is-sound
     is-sound-requires
     number-requires
     returns

@@ -6,14 +6,14 @@ use Rattle.tariff.specs.Areas.{areaOf}
 use Rattle.tariff.proofs.areas.area_of.Statement.{statement}
 use Rattle.tariff.proofs.areas.area_of.Tie as tie
 
-cast-t2 : tie.Need-cast-t2
-cast-t2 c = search needs
+cast-t3 : tie.Need-cast-t3
+cast-t3 c = search needs
 
-cast-t4 : tie.Need-cast-t4
-cast-t4 c = search needs
+cast-t5 : tie.Need-cast-t5
+cast-t5 c = search needs
 
-cast-t6 : tie.Need-cast-t6
-cast-t6 c = search needs
+cast-t7 : tie.Need-cast-t7
+cast-t7 c = search needs
 
 trip-cap-of-requires : tie.Need-trip-cap-of-requires
 trip-cap-of-requires c κs = search needs
@@ -21,8 +21,8 @@ trip-cap-of-requires c κs = search needs
 day-cap-of-requires : tie.Need-day-cap-of-requires
 day-cap-of-requires c κs = search needs
 
-cast-t10 : tie.Need-cast-t10
-cast-t10 c = omega (arith, c .struct-known4 .given)
+cast-t11 : tie.Need-cast-t11
+cast-t11 c = omega (arith, c .struct-known4 .given)
 
 returns : tie.Need-returns
 unfolding areaOf
@@ -31,4 +31,4 @@ returns c = rw (c .before .before .trip-cap-of .ensures, c .before .day-cap-of .
 pub area-of-spec : {M : Type 1} → statement M
 area-of-spec =
     tie.close
-    (tie.spec cast-t2 cast-t4 cast-t6 trip-cap-of-requires day-cap-of-requires cast-t10 returns)
+    (tie.spec cast-t3 cast-t5 cast-t7 trip-cap-of-requires day-cap-of-requires cast-t11 returns)

@@ -1,11 +1,10 @@
--- The parent is one byte of the area's record, which lies within the tariff; in a faultless tariff it is the number of an area.
+-- The record of an area of a faultless tariff is there, and its parent is the number of an area.
 -- Assumes nothing.
 use native.Mathlib.Omega.{arith}
 use mathlib.Core.Path.{_≡_, _∙_}
 use borrow.Author.Needs.{needs}
-use Rattle.tariff.specs.Fields.{areaFields}
-use Rattle.tariff.specs.Areas.{parentOf}
 use Rattle.tariff.specs.Contracts.{AreaThere}
+use Rattle.tariff.specs.Areas.{parentOf}
 use Rattle.tariff.proofs.Faultless.{faultless, area-there}
 use Rattle.tariff.proofs.Within.{parent-there}
 use Rattle.tariff.proofs.areas.parent.Statement.{statement}
@@ -15,23 +14,19 @@ there : (c : tie.Start) → AreaThere (c .args .tariff .now) (c .args .counts) (
 there c = area-there (c .args .tariff .now) (c .args .counts) (c .args .number) (c .pre)
 
 area-place-requires : tie.Need-area-place-requires
-area-place-requires c κs = there (c .before) .few
+area-place-requires c κs = there (c .before)
 
-add-one-at : tie.Need-add-one-at
-add-one-at c = omega (arith, c .area-place .ensures, there (c .before .before) .inside)
-
-one-at-requires : tie.Need-one-at-requires
-one-at-requires c κs = omega (arith, c .area-place .ensures, there (c .before .before) .inside)
+parent-at-requires : tie.Need-parent-at-requires
+parent-at-requires c κs = omega (arith, c .area-place .ensures, there (c .before .before) .inside)
 
 cast-result : tie.Need-cast-result
 cast-result c = search needs
 
 returns : tie.Need-returns
-unfolding areaFields
 returns c =
     let start = c .before .before .before in
-    let value : c .one-at .result ≡ parentOf (start .args .tariff .now) (start .args .counts) (start .args .number) =
-    c .one-at .ensures .value ∙ rw (c .before .area-place .ensures)
+    let value : c .parent-at .result ≡ parentOf (start .args .tariff .now) (start .args .counts) (start .args .number) =
+    c .parent-at .ensures ∙ rw (c .before .area-place .ensures)
     in
     record {
       value = value;
@@ -40,4 +35,4 @@ returns c =
     }
 
 pub parent-spec : {M : Type 1} → statement M
-parent-spec = tie.close (tie.spec area-place-requires add-one-at one-at-requires cast-result returns)
+parent-spec = tie.close (tie.spec area-place-requires parent-at-requires cast-result returns)

@@ -9,7 +9,7 @@ use Rattle.tariff.proofs.areas.stop.Tie as tie
 stop-place-requires : tie.Need-stop-place-requires
 stop-place-requires c κs =
     let t = faultless (c .before .args .tariff .now) (c .before .args .counts) (c .before .pre .0) in
-    (t .few-areas, t .few-factors, omega (arith, t .few-stops, c .before .pre .1))
+    (t .few-areas, omega (arith, t .few-long, t .few-areas), t .few-factors, omega (arith, t .few-stops, c .before .pre .1))
 
 stop-fields-requires : tie.Need-stop-fields-requires
 stop-fields-requires c κs = omega (arith, c .stop-place .ensures, stop-inside _ (c .before .before .args .counts) _ (c .before .before .pre))

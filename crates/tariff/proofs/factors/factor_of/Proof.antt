@@ -26,10 +26,13 @@ there c =
     let region = c .before .region-of in
     omega (arith, c .wide-before .ensures, factor-there (tariff (c .before .before .before)) (region .result) (region .ensures .there) (region .ensures .wide))
 
+cast-factor-place : tie.Need-cast-factor-place
+cast-factor-place c = search needs
+
 factor-place-requires : tie.Need-factor-place-requires
 factor-place-requires c κs =
     let t = tariff (c .before .before .before) in
-    (t .few-areas, omega (arith, t .few-factors, there c))
+    (t .few-areas, omega (arith, t .few-long, t .few-areas), omega (arith, t .few-factors, there c))
 
 factor-fields-requires : tie.Need-factor-fields-requires
 factor-fields-requires c κs =
@@ -52,6 +55,7 @@ factor-of-spec =
     (tie.spec
     region-of-requires
     wide-before-requires
+    cast-factor-place
     factor-place-requires
     factor-fields-requires
     returns)

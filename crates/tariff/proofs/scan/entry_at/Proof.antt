@@ -51,7 +51,7 @@ returns-3 : tie.Need-returns-3
 returns-3 c = sym (broken-frame _ _ _ (c .before .before .before .if1 .left) (sym (c .before .before .frame-at .ensures) ∙ c .enum-told .given .1))
 
 returns-4 : tie.Need-returns-4
-returns-4 c = c .area-entry .ensures ∙ sym (area-frame _ _ _ _ (rw (c .before .if3 .taken) at (frame (c .before .before .before))))
+returns-4 c = c .area-entry .ensures ∙ sym (area-frame _ _ _ _ _ (c .before .if3 .taken) (frame (c .before .before .before)))
 
 returns-5 : tie.Need-returns-5
 returns-5 c = c .factor-entry .ensures ∙ sym (factor-frame _ _ _ _ (rw (c .before .if4 .taken) at (frame (c .before .before .before .before))))

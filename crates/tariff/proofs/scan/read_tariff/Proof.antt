@@ -7,13 +7,15 @@ use native.Mathlib.Omega.{arith}
 use mathlib.Core.Path.{_≡_, sym, _∙_}
 use borrow.Author.Needs.{needs}
 use lib.ListN.{length}
-use Rattle.tariff.specs.Rules.{factorsDue}
+use Rattle.tariff.specs.Layout.{areaPlace, longAreas}
+use Rattle.tariff.specs.Rules.{levelOf, factorsDue}
 use Rattle.tariff.specs.Scan.{entryAt, Passed}
 use Rattle.tariff.specs.declared.scan.Entry.the-variants.{Area, Factor, Stop}
 use Rattle.tariff.proofs.Entries.{area-entry, factor-entry, stop-entry}
-use Rattle.tariff.proofs.Passed.{passed-none, passed-area, passed-factor, passed-stop, at-end, at-fault}
+use Rattle.tariff.proofs.Places.{long-few}
+use Rattle.tariff.proofs.Passed.{passed-none, at-area, passed-area, passed-factor, passed-stop, at-end, at-fault}
 use Rattle.tariff.proofs.RowLaws.{passed-rows}
-use Rattle.tariff.proofs.Wide.{wide-none}
+use Rattle.tariff.proofs.Wide.{wide-none, wide-next, wide-most}
 use Rattle.tariff.proofs.scan.read_tariff.Statement.{statement}
 use Rattle.tariff.proofs.scan.read_tariff.Tie as tie
 
@@ -24,6 +26,7 @@ abbrev μ-loop : tie.MeasureT-loop
 μ-loop tariff at₀ soFar₀ due₀ at soFar due = length tariff - at
 
 loop-holds : tie.Need-loop-holds Inv-loop μ-loop
+unfolding longAreas
 loop-holds c = (passed-none _, sym (wide-none _))
 
 entry-at-requires : tie.Need-entry-at-requires Inv-loop μ-loop
@@ -35,54 +38,81 @@ enum-told c = search needs
 enum-known-number : tie.Need-enum-known-number Inv-loop μ-loop
 enum-known-number c = search needs
 
-enum-told-2 : tie.Need-enum-told-2 Inv-loop μ-loop
-enum-told-2 c = search needs
+enum-known-kind : tie.Need-enum-known-kind Inv-loop μ-loop
+enum-known-kind c = search needs
 
 -- an area stands at the loop's place
 area-there :
-    (c : tie.After-enum-told2 Inv-loop μ-loop)
+    (c : tie.After-kind Inv-loop μ-loop)
     → entryAt (c .before .before .before .before .before .args .tariff .now) (c .before .before .before .loop .at) (c .before .before .before .loop .so-far)
-    ≡ Area
-area-there c = sym (c .before .before .entry-at .ensures) ∙ c .enum-told2 .given .1
+    ≡ Area (c .kind .given .0 .0)
+area-there c = sym (c .before .before .entry-at .ensures) ∙ c .kind .given .1
+
+level-at-requires : tie.Need-level-at-requires Inv-loop μ-loop
+level-at-requires c κs = omega (arith, area-entry _ _ _ _ (area-there (c .before)))
 
 wide-with-requires : tie.Need-wide-with-requires Inv-loop μ-loop
 wide-with-requires c κs =
-    let (p, due) = c .before .before .before .loop .inv in
-    let facts = area-entry _ _ _ (area-there c) in
-    (record { few = facts .few; inside = omega (arith, p .reached, facts) }, due)
+    let start = c .before .before .before .before .before .before .before in
+    let loop = c .before .before .before .before .before .loop in
+    omega (arith, loop .inv .1, wide-most (levelOf (start .args .tariff .now) (loop .so-far)) (loop .so-far .areas), loop .inv .0 .reached .few)
 
-add-at : tie.Need-add-at Inv-loop μ-loop
-add-at c = omega (arith, area-entry _ _ _ (area-there (c .before)))
+area-end-requires : tie.Need-area-end-requires Inv-loop μ-loop
+area-end-requires c κs = area-entry _ _ _ _ (area-there (c .before .before .before)) .fits
 
 add-so-far : tie.Need-add-so-far Inv-loop μ-loop
-add-so-far c = omega (arith, area-entry _ _ _ (area-there (c .before .before)))
+add-so-far c = omega (arith, area-entry _ _ _ _ (area-there (c .before .before .before .before .before)) .here .few)
 
-loop-less : tie.Need-loop-less Inv-loop μ-loop
-loop-less c = omega (arith, area-entry _ _ _ (area-there (c .before .before)))
+long-of-requires : tie.Need-long-of-requires Inv-loop μ-loop
+long-of-requires c κs = search needs
 
-loop-again : tie.Need-loop-again Inv-loop μ-loop
-loop-again c = (
-  passed-area _ _ _ (c .before .before .before .before .before .loop .inv .0) (area-there (c .before .before)),
-  c .before .wide-with .ensures,
-)
-
--- a factor record stands at the loop's place
-factor-there :
-    (c : tie.After-enum-told3 Inv-loop μ-loop)
-    → entryAt (c .before .before .before .before .before .args .tariff .now) (c .before .before .before .loop .at) (c .before .before .before .loop .so-far)
-    ≡ Factor
-factor-there c = sym (c .before .before .entry-at .ensures) ∙ c .enum-told3 .given .1
-
-enum-told-3 : tie.Need-enum-told-3 Inv-loop μ-loop
-enum-told-3 c = search needs
-
-add-at-2 : tie.Need-add-at-2 Inv-loop μ-loop
-add-at-2 c = omega (arith, factor-entry _ _ _ (factor-there c))
+cast-so-far : tie.Need-cast-so-far Inv-loop μ-loop
+cast-so-far c = omega (arith, c .long-of .ensures .1)
 
 add-so-far-2 : tie.Need-add-so-far-2 Inv-loop μ-loop
 add-so-far-2 c =
-    let (p, due) = c .before .before .before .before .loop .inv in
-    omega (arith, factor-entry _ _ _ (factor-there (c .before)), due)
+    let start = c .before .before .before .before .before .before .before .before .before .before .before .before in
+    let loop = c .before .before .before .before .before .before .before .before .before .before .loop in
+    let reached = loop .inv .0 .reached in
+    omega (arith, c .before .long-of .ensures .1, reached .few, reached .long, long-few (start .args .tariff .now) (loop .so-far .areas))
+
+loop-less : tie.Need-loop-less Inv-loop μ-loop
+loop-less c =
+    let facts = area-entry _ _ _ _ (area-there (c .before .before .before .before .before .before .before)) in
+    omega (arith, c .before .before .before .area-end .ensures, facts .fits)
+
+loop-again : tie.Need-loop-again Inv-loop μ-loop
+loop-again c =
+    let start = c .before .before .before .before .before .before .before .before .before .before .before .before in
+    let loop = c .before .before .before .before .before .before .before .before .before .before .loop in
+    let there = area-there (c .before .before .before .before .before .before .before) in
+    let here : loop .at ≡ areaPlace (start .args .tariff .now) (loop .so-far .areas) =
+    at-area (start .args .tariff .now) (loop .at) (loop .so-far) (loop .inv .0) _ there
+    in (
+      rw (c .before .before .before .area-end .ensures, c .before .long-of .ensures .0) (passed-area _ _ _ (loop .inv .0) _ there),
+      rw (c .before .before .before .before .wide-with .ensures, c .before .before .before .before .before .level-at .ensures, loop .inv .1, here)
+          (sym (wide-next (levelOf (start .args .tariff .now) (loop .so-far)) (loop .so-far .areas))),
+    )
+
+-- a factor record stands at the loop's place
+factor-there :
+    (c : tie.After-enum-told2 Inv-loop μ-loop)
+    → entryAt (c .before .before .before .before .before .args .tariff .now) (c .before .before .before .loop .at) (c .before .before .before .loop .so-far)
+    ≡ Factor
+factor-there c = sym (c .before .before .entry-at .ensures) ∙ c .enum-told2 .given .1
+
+enum-told-2 : tie.Need-enum-told-2 Inv-loop μ-loop
+enum-told-2 c = search needs
+
+add-at : tie.Need-add-at Inv-loop μ-loop
+add-at c = omega (arith, factor-entry _ _ _ (factor-there c))
+
+add-so-far-3 : tie.Need-add-so-far-3 Inv-loop μ-loop
+add-so-far-3 c =
+    let start = c .before .before .before .before .before .before in
+    let loop = c .before .before .before .before .loop in
+    let most = wide-most (levelOf (start .args .tariff .now) (loop .so-far)) (loop .so-far .areas) in
+    omega (arith, factor-entry _ _ _ (factor-there (c .before)), loop .inv .1, most, loop .inv .0 .reached .few)
 
 loop-less-2 : tie.Need-loop-less-2 Inv-loop μ-loop
 loop-less-2 c = omega (arith, factor-entry _ _ _ (factor-there (c .before)))
@@ -94,19 +124,19 @@ loop-again-2 c =
 
 -- a stop stands at the loop's place
 stop-there :
-    (c : tie.After-enum-told4 Inv-loop μ-loop)
+    (c : tie.After-enum-told3 Inv-loop μ-loop)
     → entryAt (c .before .before .before .before .before .args .tariff .now) (c .before .before .before .loop .at) (c .before .before .before .loop .so-far)
     ≡ Stop
-stop-there c = sym (c .before .before .entry-at .ensures) ∙ c .enum-told4 .given .1
+stop-there c = sym (c .before .before .entry-at .ensures) ∙ c .enum-told3 .given .1
 
-enum-told-4 : tie.Need-enum-told-4 Inv-loop μ-loop
-enum-told-4 c = search needs
+enum-told-3 : tie.Need-enum-told-3 Inv-loop μ-loop
+enum-told-3 c = search needs
 
-add-at-3 : tie.Need-add-at-3 Inv-loop μ-loop
-add-at-3 c = omega (arith, stop-entry _ _ _ (stop-there c))
+add-at-2 : tie.Need-add-at-2 Inv-loop μ-loop
+add-at-2 c = omega (arith, stop-entry _ _ _ (stop-there c))
 
-add-so-far-3 : tie.Need-add-so-far-3 Inv-loop μ-loop
-add-so-far-3 c = omega (arith, stop-entry _ _ _ (stop-there (c .before)))
+add-so-far-4 : tie.Need-add-so-far-4 Inv-loop μ-loop
+add-so-far-4 c = omega (arith, stop-entry _ _ _ (stop-there (c .before)))
 
 sub-rows-due : tie.Need-sub-rows-due Inv-loop μ-loop
 sub-rows-due c = omega (arith, stop-entry _ _ _ (stop-there (c .before)))
@@ -120,14 +150,17 @@ rows-standing-requires c κs = omega (arith, stop-entry _ _ _ (stop-there (c .be
 mul-at : tie.Need-mul-at Inv-loop μ-loop
 mul-at c = omega (arith, stop-entry _ _ _ (stop-there (c .before .before .before)))
 
-add-at-4 : tie.Need-add-at-4 Inv-loop μ-loop
-add-at-4 c = omega (arith, stop-entry _ _ _ (stop-there (c .before .before .before)))
+add-at-3 : tie.Need-add-at-3 Inv-loop μ-loop
+add-at-3 c = omega (arith, stop-entry _ _ _ (stop-there (c .before .before .before)))
 
 mul-so-far : tie.Need-mul-so-far Inv-loop μ-loop
 mul-so-far c = omega (arith, stop-entry _ _ _ (stop-there (c .before .before .before)))
 
-add-so-far-4 : tie.Need-add-so-far-4 Inv-loop μ-loop
-add-so-far-4 c = omega (arith, stop-entry _ _ _ (stop-there (c .before .before .before .before)))
+cast-so-far-2 : tie.Need-cast-so-far-2 Inv-loop μ-loop
+cast-so-far-2 c = omega (arith, stop-entry _ _ _ (stop-there (c .before .before .before)))
+
+add-so-far-5 : tie.Need-add-so-far-5 Inv-loop μ-loop
+add-so-far-5 c = omega (arith, stop-entry _ _ _ (stop-there (c .before .before .before .before)))
 
 loop-less-3 : tie.Need-loop-less-3 Inv-loop μ-loop
 loop-less-3 c = omega (arith, stop-entry _ _ _ (stop-there (c .before .before .before .before)))
@@ -161,27 +194,32 @@ read-tariff-spec =
     entry-at-requires
     enum-told
     enum-known-number
-    enum-told-2
+    enum-known-kind
+    level-at-requires
     wide-with-requires
-    add-at
+    area-end-requires
     add-so-far
+    long-of-requires
+    cast-so-far
+    add-so-far-2
     loop-less
     loop-again
-    enum-told-3
-    add-at-2
-    add-so-far-2
+    enum-told-2
+    add-at
+    add-so-far-3
     loop-less-2
     loop-again-2
-    enum-told-4
-    add-at-3
-    add-so-far-3
+    enum-told-3
+    add-at-2
+    add-so-far-4
     sub-rows-due
     rows-due-requires
     rows-standing-requires
     mul-at
-    add-at-4
+    add-at-3
     mul-so-far
-    add-so-far-4
+    cast-so-far-2
+    add-so-far-5
     loop-less-3
     loop-again-3
     returns
