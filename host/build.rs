@@ -84,11 +84,13 @@ fn plant(package: &Path, out: &Path) {
         settle: |tariff, book, trip, statement| {},
         quote: |tariff, book, trip, statement| {},
         post: |tariff, book, trip, record| {},
+        read: |statement, at, fields| {},
     }}),\n",
             told("check_tariff(tariff)"),
             told("settle(tariff, book, trip, statement)"),
             told("quote(tariff, book, trip, statement)"),
             told("post(tariff, book, trip, record)"),
+            told("read(statement, at, fields)"),
         );
     }
     let many = edits::PLANTED.len();

@@ -1,7 +1,8 @@
 /*
  * milecopper.h: prices one trip, charges it against an account's book and writes its charge records: one, or two where
  * the trip went out and back. milecopper_settle does so at once. An app that shows the price first does it in two steps:
- * milecopper_quote writes the charge records and leaves the book, milecopper_post writes the book.
+ * milecopper_quote writes the charge records and leaves the book, milecopper_post writes the book. milecopper_read reads charge
+ * records that were kept, of this kind and of the kind before it, wherever they come from.
  *
  * For C99 and later and C++11 and later. `host/install PREFIX` in the source's folder builds and installs this file, a
  * static and a shared library and a file for pkg-config below the folder PREFIX. Then:
@@ -31,6 +32,20 @@
  *         // MILECOPPER_OTHER_RECORD: the trip has another price by now; begin again with the quote
  *     }
  *
+ * A statement that was kept, `kept_len` bytes of charge records one after another, is read record by record:
+ *
+ *     uint8_t fields[MILECOPPER_LARGEST_FIELDS_BYTES];
+ *     size_t at = 0;
+ *     while (at < kept_len) {
+ *         uint64_t read = milecopper_read(kept, kept_len, at, fields, sizeof fields);
+ *         if (!milecopper_accepted(read)) {
+ *             puts(milecopper_refusal_text(milecopper_refusal_of(read)));
+ *             break;
+ *         }
+ *         printf("%lu cents\n", (unsigned long)milecopper_fields_total(fields));
+ *         at += milecopper_record_read(read);
+ *     }
+ *
  * All numbers in a tariff, a book, a trip and a charge record are little-endian on every machine, so these bytes can
  * be stored and sent as they are. No slice needs any alignment.
  *
@@ -43,36 +58,40 @@
  * Duties of the caller
  *
  *   - Each pointer points to at least as many bytes as the length beside it says. `tariff` and `trip` are only read, and
- *     so are a quote's `book` and a posting's `record`. Else `book` and `statement` may be written within their lengths,
- *     and only there.
- *   - The four slices of a call do not overlap, not even in part.
+ *     so are a quote's `book`, a posting's `record` and a reading's `statement`. Else `book`, `statement` and `fields` may be
+ *     written within their lengths, and only there.
+ *   - The slices of a call do not overlap, not even in part.
  *   - A pointer beside a length of 0 is not looked at. It may be null, as that of an empty std::vector is.
  *   - A tariff has at most MILECOPPER_LARGEST_TARIFF_BYTES bytes, a trip MILECOPPER_LARGEST_TRIP_BYTES and a book exactly
  *     MILECOPPER_BOOK_BYTES; others may be offered, and are refused. A statement of MILECOPPER_LARGEST_STATEMENT_BYTES has
- *     room for every trip. Any length that a size_t holds may be given.
+ *     room for every trip, and fields of MILECOPPER_LARGEST_FIELDS_BYTES for every record. Any length that a size_t holds may
+ *     be given, and any offset.
  *   - A fresh book is MILECOPPER_BOOK_BYTES bytes, all zero. From then on only this library writes into it. Each
  *     account has a book of its own, and the caller keeps it from one trip to the next. An account's trips are
  *     settled or posted in the order in which they were ridden.
  *   - During a call no other thread writes any of its slices, and none reads its book or its statement, unless the call
- *     only reads them. Calls on different books may run at the same time, on any threads, and so may quotes on one book.
- *     They may share one tariff.
+ *     only reads them. Calls on different books may run at the same time, on any threads, and so may quotes on one book and
+ *     readings of one statement. They may share one tariff.
  *   - Where milecopper_check_tariff is called, at least 256 bytes of stack are free.
  *   - Where milecopper_settle is called, at least 1,024 bytes of stack are free.
  *   - Where milecopper_quote is called, at least 1,536 bytes of stack are free.
  *   - Where milecopper_post is called, at least 2,048 bytes of stack are free.
+ *   - Where milecopper_read is called, at least 512 bytes of stack are free.
  *
  * What the library does not do
  *
- *   - It allocates nothing and keeps nothing: no memory, no pointer, no state from one call to the next. All four
+ *   - It allocates nothing and keeps nothing: no memory, no pointer, no state from one call to the next. All
  *     slices belong to the caller before, during and after the call. It reads no clock and no file and prints nothing.
  *   - It sets no errno, raises and handles no signal, takes no lock and never waits, so it may be called in a signal
  *     handler, too. It always comes back: every call ends, and never with exit, abort or longjmp.
  *   - A trip that is refused changes no byte of the book or the statement. One that is accepted replaces the book, but
  *     not in a quote, and writes its charge records one after another at the start of the statement, but not in a
  *     posting; the statement's further bytes stay as they were. The parts of a broken trip are accepted together or
- *     refused together.
+ *     refused together. A record that is refused changes no byte of the fields; of one that is read the fields stand at their
+ *     start, and the further bytes stay as they were.
  *   - It does not find every damage. A book is refused (4) where its words cannot stand together; one with another sum in
- *     it mostly can. Keep a checksum of your own beside a book that is stored or sent.
+ *     it mostly can. A charge record is refused (16) where a number is none that settling writes; one with another charge in
+ *     it mostly has none such. Keep a checksum of your own beside a book or a statement that is stored or sent.
  *
  * Another tariff
  *
@@ -106,7 +125,7 @@
 /* The version. The number stands here alone: the library's file names, its pkg-config file, its constant
  * milecopper_version and what the scripts say all come from these lines. */
 #define MILECOPPER_VERSION_MAJOR 0
-#define MILECOPPER_VERSION_MINOR 8
+#define MILECOPPER_VERSION_MINOR 9
 #define MILECOPPER_VERSION_PATCH 0
 #define MILECOPPER_VERSION_AS_TEXT(major, minor, patch) #major "." #minor "." #patch
 #define MILECOPPER_VERSION_AS_WRITTEN(major, minor, patch) MILECOPPER_VERSION_AS_TEXT(major, minor, patch)
@@ -132,6 +151,7 @@
 #define MILECOPPER_KIND_AT 2
 #define MILECOPPER_AREA_KIND 1
 #define MILECOPPER_STOP_KIND 2
+#define MILECOPPER_CHARGES_ALONE_KIND 4
 #define MILECOPPER_FACTOR_KIND 5
 #define MILECOPPER_CHARGE_KIND 6
 #define MILECOPPER_TRIP_KIND 7
@@ -154,6 +174,32 @@
 #define MILECOPPER_PERSON_REDUCTION_AT 4
 #define MILECOPPER_PERSON_CAP_AREA_AT 8
 #define MILECOPPER_PERSON_CAP_CLASS_AT 9
+
+/* A charge record of kind 4, from before reductions were told: opening minute, area, kilometres and minutes at the same
+ * places, and then the charges, 4 bytes each, without whose they are. */
+#define MILECOPPER_CHARGES_ALONE_AT 13
+
+/* What milecopper_read tells of a record of either kind: its kind, the number of its charges, the numbers of adults, children
+ * and bicycles, the area 1 byte each, kilometres and minutes 2 each, the opening minute 4, then for each charge ten bytes:
+ * charge and reduction 4 each, area and class of the cap 1 each. Kind 4 has 0 adults, children and bicycles, since it does not
+ * say whose the charges are. For a bicycle, and in kind 4, reduction, area and class are as where nothing was taken off. */
+#define MILECOPPER_FIELDS_KIND_AT 0
+#define MILECOPPER_FIELDS_CHARGE_COUNT_AT 1
+#define MILECOPPER_FIELDS_ADULTS_AT 2
+#define MILECOPPER_FIELDS_CHILDREN_AT 3
+#define MILECOPPER_FIELDS_BICYCLES_AT 4
+#define MILECOPPER_FIELDS_AREA_AT 5
+#define MILECOPPER_FIELDS_KM_AT 6
+#define MILECOPPER_FIELDS_MINUTES_AT 8
+#define MILECOPPER_FIELDS_OPENING_AT 10
+#define MILECOPPER_FIELDS_CHARGES_AT 14
+#define MILECOPPER_FIELDS_EACH_BYTES 10
+#define MILECOPPER_FIELDS_CHARGE_AT 0
+#define MILECOPPER_FIELDS_REDUCTION_AT 4
+#define MILECOPPER_FIELDS_CAP_AREA_AT 8
+#define MILECOPPER_FIELDS_CAP_CLASS_AT 9
+#define MILECOPPER_SMALLEST_FIELDS_BYTES 24
+#define MILECOPPER_LARGEST_FIELDS_BYTES 324
 
 /* What a record says of the cap that cut a person's charge: its area, and which of that area's two caps it is. */
 #define MILECOPPER_NO_CAP_AREA 255
@@ -264,8 +310,8 @@
 #define MILECOPPER_WINDOW_MINUTES 1440
 #define MILECOPPER_MOST_TRIPS_IN_A_WINDOW 256
 
-/* Why a trip was refused. Where several apply, the answer is the first of them in this order. Settling and a quote give
- * 1 to 12, a posting 1 to 11 and 13. */
+/* Why a trip or a record was refused. Where several apply, the answer is the first of them in this order. Settling and a quote
+ * give 1 to 12, a posting 1 to 11 and 13, a reading 14 to 16 and then 12. */
 enum milecopper_refusal {
     MILECOPPER_NOT_REFUSED = 0,
     MILECOPPER_TARIFF_BROKEN = 1,     /* tariff: a record's frame is broken */
@@ -280,8 +326,11 @@ enum milecopper_refusal {
     MILECOPPER_TRIP_BACKWARD = 9,     /* trip: check-out before check-in, or over 1,440 minutes after it */
     MILECOPPER_BEFORE_LAST_TRIP = 10, /* trip: check-in before the book's last check-out */
     MILECOPPER_WINDOW_FULL = 11,      /* trip: it, or its second part, would be the 257th of its window */
-    MILECOPPER_NO_ROOM = 12,          /* statement shorter than the charge records */
-    MILECOPPER_OTHER_RECORD = 13      /* record: not exactly the bytes that a quote would write now */
+    MILECOPPER_NO_ROOM = 12,          /* statement shorter than the charge records, or fields shorter than what is told */
+    MILECOPPER_OTHER_RECORD = 13,     /* record: not exactly the bytes that a quote would write now */
+    MILECOPPER_RECORD_BROKEN = 14,    /* charge record: its frame is broken, or no byte is left */
+    MILECOPPER_RECORD_MISSHAPEN = 15, /* charge record: another kind, or a length that fits no party */
+    MILECOPPER_RECORD_VALUE = 16      /* charge record: a field outside its range */
 };
 
 #ifdef __cplusplus
@@ -342,6 +391,22 @@ uint64_t milecopper_post(const uint8_t *tariff, size_t tariff_len,
                          const uint8_t *trip, size_t trip_len,
                          const uint8_t *record, size_t record_len);
 
+/*
+ * Reads the charge record that begins `at` bytes behind the statement's start: one of kind 6, which settling writes, or of
+ * kind 4, which it wrote before. The statement is only read, and what stands behind the record is not looked at.
+ *
+ * Accepted: the record's length in bytes, so that the next begins at `at` and this. Its fields stand at the start of `fields`;
+ * milecopper_fields_charge and the others give them. Refused, times 2^32: by 14, MILECOPPER_RECORD_BROKEN, also where
+ * nothing is left or `at` is beyond the end; by 15, MILECOPPER_RECORD_MISSHAPEN; by 16, MILECOPPER_RECORD_VALUE; and then by
+ * 12, MILECOPPER_NO_ROOM, where `fields` is shorter than what is told: MILECOPPER_FIELDS_CHARGES_AT bytes and
+ * MILECOPPER_FIELDS_EACH_BYTES for each charge. A refusal leaves the fields as they were.
+ *
+ * What settling or a quote wrote is never refused by 14 to 16, and the fields are those that it was written of. After 15 and
+ * 16 one may go on behind the record, whose length stands in its head; after 14 there is nothing to go on by.
+ */
+uint64_t milecopper_read(const uint8_t *statement, size_t statement_len, size_t at,
+                         uint8_t *fields, size_t fields_len);
+
 #ifdef __cplusplus
 }
 #define MILECOPPER_AS(type, value) static_cast<type>(value)
@@ -351,10 +416,10 @@ uint64_t milecopper_post(const uint8_t *tariff, size_t tariff_len,
 
 /* ---- The answer ----
  *
- * `answer` is one that milecopper_settle, milecopper_quote or milecopper_post gave.
+ * `answer` is one that milecopper_settle, milecopper_quote, milecopper_post or milecopper_read gave.
  */
 
-/* 1 if the trip was accepted, else 0. */
+/* 1 if the trip was accepted, or the record read, else 0. */
 static inline int milecopper_accepted(uint64_t answer)
 {
     return (answer >> 32) == 0;
@@ -367,7 +432,13 @@ static inline size_t milecopper_bytes_written(uint64_t answer)
     return milecopper_accepted(answer) ? MILECOPPER_AS(size_t, answer) : 0;
 }
 
-/* Why the trip was refused; MILECOPPER_NOT_REFUSED if it was accepted. */
+/* The length of the record that milecopper_read has read: the next one begins so many bytes behind it. 0 if it was refused. */
+static inline size_t milecopper_record_read(uint64_t answer)
+{
+    return milecopper_bytes_written(answer);
+}
+
+/* Why the trip or the record was refused; MILECOPPER_NOT_REFUSED if it was accepted. */
 static inline enum milecopper_refusal milecopper_refusal_of(uint64_t answer)
 {
     return MILECOPPER_AS(enum milecopper_refusal, answer >> 32);
@@ -416,6 +487,12 @@ static inline const char *milecopper_refusal_text(enum milecopper_refusal refusa
         return "There is not enough room to write down what the trip costs.";
     case MILECOPPER_OTHER_RECORD:
         return "The price that was confirmed is not what this trip costs now, or it was damaged. Ask for the price again.";
+    case MILECOPPER_RECORD_BROKEN:
+        return "The statement is damaged: it is cut short here, or something else than a record begins here.";
+    case MILECOPPER_RECORD_MISSHAPEN:
+        return "This record of the statement is no charge record, or it is too long or too short for one.";
+    case MILECOPPER_RECORD_VALUE:
+        return "This charge record of the statement holds a number that no charge record has.";
     }
     return "This is no answer that the library gives.";
 }
@@ -638,6 +715,120 @@ static inline uint32_t milecopper_statement_total(const uint8_t *statement, uint
         total += milecopper_record_total(statement + at);
         at += milecopper_record_bytes(statement + at);
     }
+    return total;
+}
+
+/* ---- The fields that were read ----
+ *
+ * `fields` is what milecopper_read has written of a record that it accepted. This goes through all charges:
+ *
+ *     unsigned i;
+ *     for (i = 0; i < milecopper_fields_charges(fields); i += 1)
+ *         printf("%lu cents, %lu taken off\n", (unsigned long)milecopper_fields_charge(fields, i),
+ *                (unsigned long)milecopper_fields_reduction(fields, i));
+ *
+ * In kind 6 they are in the order of a charge record: account holder, adults, children, bicycles. On other bytes these
+ * functions give some number, and none reads behind the first MILECOPPER_LARGEST_FIELDS_BYTES bytes.
+ */
+
+/* MILECOPPER_CHARGE_KIND or MILECOPPER_CHARGES_ALONE_KIND. */
+static inline unsigned milecopper_fields_kind(const uint8_t *fields)
+{
+    return fields[MILECOPPER_FIELDS_KIND_AT];
+}
+
+/* How many charges there are: 1 to MILECOPPER_MOST_CHARGES. */
+static inline unsigned milecopper_fields_charges(const uint8_t *fields)
+{
+    return milecopper_record_count(fields, MILECOPPER_FIELDS_CHARGE_COUNT_AT, MILECOPPER_MOST_CHARGES);
+}
+
+/* Whom and what the trip carried, besides the account holder; 0 in kind 4, which does not say. */
+static inline unsigned milecopper_fields_adults(const uint8_t *fields)
+{
+    return fields[MILECOPPER_FIELDS_ADULTS_AT];
+}
+
+static inline unsigned milecopper_fields_children(const uint8_t *fields)
+{
+    return fields[MILECOPPER_FIELDS_CHILDREN_AT];
+}
+
+static inline unsigned milecopper_fields_bicycles(const uint8_t *fields)
+{
+    return fields[MILECOPPER_FIELDS_BICYCLES_AT];
+}
+
+/* The number of the part's area in the tariff. */
+static inline unsigned milecopper_fields_area(const uint8_t *fields)
+{
+    return fields[MILECOPPER_FIELDS_AREA_AT];
+}
+
+/* The started kilometres between the part's first stop and its last. */
+static inline unsigned milecopper_fields_km(const uint8_t *fields)
+{
+    return milecopper_number(fields + MILECOPPER_FIELDS_KM_AT, 2);
+}
+
+/* The part's minutes. */
+static inline unsigned milecopper_fields_minutes(const uint8_t *fields)
+{
+    return milecopper_number(fields + MILECOPPER_FIELDS_MINUTES_AT, 2);
+}
+
+/* The minute at which the trip's window opened, counted in UTC from 2000-01-01 00:00 UTC. */
+static inline uint32_t milecopper_fields_opening(const uint8_t *fields)
+{
+    return milecopper_number(fields + MILECOPPER_FIELDS_OPENING_AT, 4);
+}
+
+/* The start of the bytes of charge number i, counted from 0. */
+static inline const uint8_t *milecopper_fields_each(const uint8_t *fields, unsigned i)
+{
+    return fields + MILECOPPER_FIELDS_CHARGES_AT + MILECOPPER_FIELDS_EACH_BYTES * MILECOPPER_AS(size_t, i);
+}
+
+/* Charge number i in cents, counted from 0; 0 where there is no such. */
+static inline uint32_t milecopper_fields_charge(const uint8_t *fields, unsigned i)
+{
+    if (i >= milecopper_fields_charges(fields))
+        return 0;
+    return milecopper_number(milecopper_fields_each(fields, i) + MILECOPPER_FIELDS_CHARGE_AT, 4);
+}
+
+/* What caps took off it in cents; 0 for a bicycle, in kind 4, and where there is no such charge. */
+static inline uint32_t milecopper_fields_reduction(const uint8_t *fields, unsigned i)
+{
+    if (i >= milecopper_fields_charges(fields))
+        return 0;
+    return milecopper_number(milecopper_fields_each(fields, i) + MILECOPPER_FIELDS_REDUCTION_AT, 4);
+}
+
+/* The area of the cap that is named for that; MILECOPPER_NO_CAP_AREA where nothing was taken off. */
+static inline unsigned milecopper_fields_cap_area(const uint8_t *fields, unsigned i)
+{
+    if (i >= milecopper_fields_charges(fields))
+        return MILECOPPER_NO_CAP_AREA;
+    return milecopper_fields_each(fields, i)[MILECOPPER_FIELDS_CAP_AREA_AT];
+}
+
+/* Which cap of that area it is, as milecopper_record_cap_class says it; MILECOPPER_NO_CAP where nothing was taken off. */
+static inline unsigned milecopper_fields_cap_class(const uint8_t *fields, unsigned i)
+{
+    if (i >= milecopper_fields_charges(fields))
+        return MILECOPPER_NO_CAP;
+    return milecopper_fields_each(fields, i)[MILECOPPER_FIELDS_CAP_CLASS_AT];
+}
+
+/* The sum of the charges in cents; reductions are not in it. */
+static inline uint32_t milecopper_fields_total(const uint8_t *fields)
+{
+    uint32_t total = 0;
+    unsigned charges = milecopper_fields_charges(fields);
+    unsigned i;
+    for (i = 0; i < charges; i += 1)
+        total += milecopper_fields_charge(fields, i);
     return total;
 }
 

@@ -1,6 +1,6 @@
 /*
  * Calls the library and the header's functions as an app might, rightly and wrongly: empty slices with a null pointer, a
- * tariff checked alone, bytes that are no record, and records written by the header's writers.
+ * tariff checked alone, bytes that are no record, records read back, and records written by the header's writers.
  *
  *     calls TARIFF ROLL
  *
@@ -186,6 +186,80 @@ static void written(const uint8_t *tariff, size_t tariff_len, const uint8_t *tri
     statement[MILECOPPER_KIND_AT] = MILECOPPER_CHARGE_KIND;
     statement[MILECOPPER_CHARGE_BICYCLES_AT] = 0;
     check(!milecopper_is_record(statement, length), "a record with a bicycle less");
+}
+
+/* What settling writes is read back field by field; and what comes of other offsets, other bytes and fields that are too short. */
+static void read_back(const uint8_t *tariff, size_t tariff_len, const uint8_t *trip, size_t trip_len)
+{
+    uint8_t book[MILECOPPER_BOOK_BYTES] = {0};
+    uint8_t statement[MILECOPPER_LARGEST_STATEMENT_BYTES];
+    size_t length = milecopper_bytes_written(
+        milecopper_settle(tariff, tariff_len, book, sizeof book, trip, trip_len, statement, sizeof statement));
+    uint8_t *record = guarded(length);
+    size_t told = MILECOPPER_FIELDS_CHARGES_AT + MILECOPPER_FIELDS_EACH_BYTES * (size_t)milecopper_record_charges(statement);
+    uint8_t *fields = guarded(told);
+    unsigned i;
+    memcpy(record, statement, length);
+    check(milecopper_read(record, length, 0, fields, told - 1) == refused(MILECOPPER_NO_ROOM, 0), "fields a byte too short");
+    check(milecopper_read(record, length, 0, NULL, 0) == refused(MILECOPPER_NO_ROOM, 0), "no fields");
+    check(fields[0] == 0, "a refused reading writes nothing");
+    check(milecopper_record_read(milecopper_read(record, length, 0, fields, told)) == length, "a record read back");
+    check(milecopper_fields_kind(fields) == MILECOPPER_CHARGE_KIND, "its kind");
+    check(milecopper_fields_opening(fields) == milecopper_record_opening(record), "its opening");
+    check(milecopper_fields_area(fields) == milecopper_record_area(record), "its area");
+    check(milecopper_fields_km(fields) == milecopper_record_km(record), "its kilometres");
+    check(milecopper_fields_minutes(fields) == milecopper_record_minutes(record), "its minutes");
+    check(milecopper_fields_adults(fields) == milecopper_record_adults(record), "its adults");
+    check(milecopper_fields_children(fields) == milecopper_record_children(record), "its children");
+    check(milecopper_fields_bicycles(fields) == milecopper_record_bicycles(record), "its bicycles");
+    check(milecopper_fields_charges(fields) == milecopper_record_charges(record), "its charges");
+    check(milecopper_fields_total(fields) == milecopper_record_total(record), "its sum");
+    for (i = 0; i <= milecopper_record_charges(record); i += 1) { /* the last is not there */
+        check(milecopper_fields_charge(fields, i) == milecopper_record_charge(record, i), "each charge");
+        check(milecopper_fields_reduction(fields, i) == milecopper_record_reduction(record, i), "each reduction");
+        check(milecopper_fields_cap_area(fields, i) == milecopper_record_cap_area(record, i), "each cap's area");
+        check(milecopper_fields_cap_class(fields, i) == milecopper_record_cap_class(record, i), "each cap's class");
+    }
+    check(milecopper_read(record, length - 1, 0, fields, told) == refused(MILECOPPER_RECORD_BROKEN, 0), "a record cut short");
+    check(milecopper_read(record, length, length, fields, told) == refused(MILECOPPER_RECORD_BROKEN, 0), "nothing is left");
+    check(milecopper_read(record, length, (size_t)-1, fields, told) == refused(MILECOPPER_RECORD_BROKEN, 0), "beyond the end");
+    check(milecopper_read(NULL, 0, 0, fields, told) == refused(MILECOPPER_RECORD_BROKEN, 0), "no statement");
+    check(milecopper_read(NULL, 0, 0, NULL, 0) == refused(MILECOPPER_RECORD_BROKEN, 0), "nothing to read");
+    check(milecopper_read(trip, trip_len, 0, fields, told) == refused(MILECOPPER_RECORD_MISSHAPEN, 0), "a trip is no charge record");
+    record[MILECOPPER_CHARGE_AREA_AT] = MILECOPPER_MOST_AREAS;
+    check(milecopper_read(record, length, 0, NULL, 0) == refused(MILECOPPER_RECORD_VALUE, 0), "an area that there is not");
+}
+
+/* A record of kind 4, of two charges. */
+static void charges_alone(void)
+{
+    uint8_t *record = guarded(21);
+    uint8_t *fields = guarded(MILECOPPER_FIELDS_CHARGES_AT + 2 * MILECOPPER_FIELDS_EACH_BYTES);
+    milecopper_put_number(record + MILECOPPER_LENGTH_AT, 2, 19);
+    milecopper_put_number(record + MILECOPPER_KIND_AT, 2, MILECOPPER_CHARGES_ALONE_KIND);
+    milecopper_put_number(record + MILECOPPER_CHARGE_OPENING_AT, 4, 14113370);
+    milecopper_put_number(record + MILECOPPER_CHARGE_KM_AT, 2, 5);
+    milecopper_put_number(record + MILECOPPER_CHARGE_MINUTES_AT, 2, 25);
+    milecopper_put_number(record + MILECOPPER_CHARGES_ALONE_AT, 4, 320);
+    milecopper_put_number(record + MILECOPPER_CHARGES_ALONE_AT + 4, 4, 160);
+    check(milecopper_read(record, 21, 0, fields, 34) == 21, "a record of kind 4");
+    check(milecopper_fields_kind(fields) == MILECOPPER_CHARGES_ALONE_KIND && milecopper_fields_charges(fields) == 2, "its two charges");
+    check(milecopper_fields_opening(fields) == 14113370 && milecopper_fields_km(fields) == 5, "its opening and its kilometres");
+    check(milecopper_fields_minutes(fields) == 25 && milecopper_fields_area(fields) == 0, "its minutes and its area");
+    check(milecopper_fields_charge(fields, 0) == 320 && milecopper_fields_charge(fields, 1) == 160, "charges without whose they are");
+    check(milecopper_fields_reduction(fields, 1) == 0 && milecopper_fields_cap_area(fields, 1) == MILECOPPER_NO_CAP_AREA,
+          "nothing taken off");
+    check(milecopper_fields_cap_class(fields, 1) == MILECOPPER_NO_CAP && milecopper_fields_adults(fields) == 0, "no cap and no party");
+}
+
+/* Any bytes as fields: nothing behind the largest is read. */
+static void any_fields(void)
+{
+    uint8_t *fields = guarded(MILECOPPER_LARGEST_FIELDS_BYTES);
+    memset(fields, 0xFF, MILECOPPER_LARGEST_FIELDS_BYTES);
+    check(milecopper_fields_charges(fields) == MILECOPPER_MOST_CHARGES, "the charges of any fields");
+    check(milecopper_fields_charge(fields, 30) == 0xFFFFFFFFu && milecopper_fields_charge(fields, 31) == 0, "the last charge");
+    (void)milecopper_fields_total(fields);
 }
 
 /* ---- The writers. */
@@ -383,6 +457,9 @@ int main(int argc, char **argv)
     tariffs(tariff, tariff_len);
     any_bytes();
     written(tariff, tariff_len, trip, trip_len);
+    read_back(tariff, tariff_len, trip, trip_len);
+    charges_alone();
+    any_fields();
     all_again(tariff, tariff_len);
     all_again(roll, roll_len);
     another_tariff(tariff, tariff_len, trip, trip_len);

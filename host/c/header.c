@@ -31,6 +31,9 @@ static void sizes(void)
               MILECOPPER_AREA_BYTES + MILECOPPER_AACHEN_AREA_BYTES * (MILECOPPER_MOST_AREAS - 1) +
                   MILECOPPER_FACTOR_BYTES * MILECOPPER_MOST_AREAS + MILECOPPER_STOP_BYTES * MILECOPPER_MOST_STOPS,
           "the largest tariff");
+    check(MILECOPPER_FIELDS_CHARGES_AT + MILECOPPER_FIELDS_EACH_BYTES == MILECOPPER_SMALLEST_FIELDS_BYTES &&
+              MILECOPPER_FIELDS_CHARGES_AT + MILECOPPER_FIELDS_EACH_BYTES * MILECOPPER_MOST_CHARGES ==
+                  MILECOPPER_LARGEST_FIELDS_BYTES, "the fields of the smallest and of the largest record");
     check(MILECOPPER_TRIP_STOPS_AT + 2 * MILECOPPER_MOST_STOPS_IN_A_TRIP == MILECOPPER_LARGEST_TRIP_BYTES, "a trip's stops");
     check(MILECOPPER_TRIP_CHECK_IN_AT + MILECOPPER_STAMP_BYTES == MILECOPPER_TRIP_CHECK_OUT_AT, "a trip's stamps");
 }
@@ -42,6 +45,7 @@ static void only_read(void)
     uint8_t *written = NULL;
     check(sizeof(milecopper_quote(read, 0, read, 0, read, 0, written, 0)) == 8, "a quote's book is only read");
     check(sizeof(milecopper_post(read, 0, written, 0, read, 0, read, 0)) == 8, "a posting's record is only read");
+    check(sizeof(milecopper_read(read, 0, 0, written, 0)) == 8, "a reading's statement is only read");
 }
 
 static void answers(void)
@@ -54,6 +58,8 @@ static void answers(void)
     check(milecopper_refusal_of(refused) == MILECOPPER_TARIFF_VALUE && milecopper_place(refused) == 29, "its refusal");
     check(milecopper_refusal_of((uint64_t)12 << 32) == MILECOPPER_NO_ROOM, "the last refusal of settling and of a quote");
     check(milecopper_refusal_of((uint64_t)13 << 32) == MILECOPPER_OTHER_RECORD, "the last refusal of a posting");
+    check(milecopper_refusal_of((uint64_t)16 << 32) == MILECOPPER_RECORD_VALUE, "the last refusal of a record that is read");
+    check(milecopper_record_read(accepted) == 26 && milecopper_record_read(refused) == 0, "a record that was read");
     check(milecopper_bytes_written(MILECOPPER_BOOK_BYTES) == MILECOPPER_BOOK_BYTES, "a posted trip");
 }
 
@@ -61,7 +67,7 @@ static void texts(void)
 {
     int one;
     int other;
-    for (one = 0; one <= 14; one += 1)
+    for (one = 0; one <= 17; one += 1)
         for (other = 0; other < one; other += 1)
             check(strcmp(milecopper_refusal_text((enum milecopper_refusal)one),
                          milecopper_refusal_text((enum milecopper_refusal)other)) != 0, "two refusals with one text");
@@ -107,6 +113,32 @@ static void records(void)
     check(milecopper_number((const uint8_t *)"\xff\xff\xff\xff", 4) == 0xFFFFFFFFu, "the largest number");
 }
 
+/* Fields as a reading tells them, of a record with an adult and a bicycle. */
+static void fields(void)
+{
+    static const uint8_t told[] = {6, 3, 1, 0, 1, 5, 7, 6, 9, 8, 4, 3, 2, 1,
+                                   2, 1, 0, 0, 0, 0, 0, 0, 255, 0,
+                                   0x70, 0x11, 1, 0, 1, 0, 1, 0, 31, 2,
+                                   0x90, 1, 0, 0, 0, 0, 0, 0, 255, 0};
+    static const uint32_t charges[] = {258, 70000, 400, 0};
+    static const uint32_t reductions[] = {0, 65537, 0, 0};
+    static const unsigned areas[] = {255, 31, 255, 255};
+    static const unsigned classes[] = {0, 2, 0, 0};
+    unsigned i;
+    check(milecopper_fields_kind(told) == MILECOPPER_CHARGE_KIND && milecopper_fields_charges(told) == 3, "kind and charges");
+    check(milecopper_fields_adults(told) == 1 && milecopper_fields_children(told) == 0, "the adults and children that are told");
+    check(milecopper_fields_bicycles(told) == 1 && milecopper_fields_area(told) == 5, "the bicycles and the area that are told");
+    check(milecopper_fields_km(told) == 0x0607 && milecopper_fields_minutes(told) == 0x0809, "the ride that is told");
+    check(milecopper_fields_opening(told) == 0x01020304, "the opening that is told");
+    for (i = 0; i < 4; i += 1) { /* the last is not there */
+        check(milecopper_fields_charge(told, i) == charges[i], "a charge that is told");
+        check(milecopper_fields_reduction(told, i) == reductions[i], "a reduction that is told");
+        check(milecopper_fields_cap_area(told, i) == areas[i], "a cap's area that is told");
+        check(milecopper_fields_cap_class(told, i) == classes[i], "a cap's class that is told");
+    }
+    check(milecopper_fields_total(told) == 70658, "the sum of the charges that are told");
+}
+
 /* Two records behind each other, walked as the header's example does. */
 static void two_records(void)
 {
@@ -136,6 +168,7 @@ int main(void)
     answers();
     texts();
     records();
+    fields();
     two_records();
     return faults == 0 ? 0 : 1;
 }

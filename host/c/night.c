@@ -2,9 +2,10 @@
  * Quotes a roll of trips on one account one after another, starting from a fresh book, says what each costs and which cap cuts
  * it, and posts it.
  *
- *     night TARIFF ROLL
+ *     night TARIFF ROLL [STATEMENT]
  *
- * TARIFF holds a tariff's bytes and ROLL trip records, one after another. C99 and C++11.
+ * TARIFF holds a tariff's bytes and ROLL trip records, one after another. The charge records of all trips go to the file STATEMENT, one after
+ * another, where one is named; kept.c reads them. C99 and C++11.
  */
 #include "milecopper.h"
 
@@ -21,6 +22,7 @@ struct night {
     struct bytes tariff;
     struct bytes book;
     struct bytes statement;
+    FILE *kept; /* or null */
     uint32_t opening; /* of the window of the last posted trip */
     unsigned posted;
     unsigned refused;
@@ -133,6 +135,8 @@ static void count_posted(struct night *night, uint64_t quote)
     night->opening = milecopper_record_opening(night->statement.start);
     night->posted += 1;
     night->cents += milecopper_statement_total(night->statement.start, quote);
+    if (night->kept != NULL)
+        fwrite(night->statement.start, 1, milecopper_bytes_written(quote), night->kept);
 }
 
 static void print_refused(struct night *night, unsigned number, uint64_t answer)
@@ -192,20 +196,26 @@ static void take_roll(struct night *night, struct bytes roll)
 
 int main(int argc, char **argv)
 {
-    struct night night = {{NULL, 0}, {NULL, 0}, {NULL, 0}, 0, 0, 0, 0};
+    struct night night = {{NULL, 0}, {NULL, 0}, {NULL, 0}, NULL, 0, 0, 0, 0};
     struct bytes roll;
-    if (argc != 3) {
-        fprintf(stderr, "usage: night TARIFF ROLL\n");
+    if (argc != 3 && argc != 4) {
+        fprintf(stderr, "usage: night TARIFF ROLL [STATEMENT]\n");
         return 2;
     }
     night.tariff = bytes_of(argv[1]);
     night.book = zeros(MILECOPPER_BOOK_BYTES); /* a fresh book */
     night.statement = zeros(MILECOPPER_LARGEST_STATEMENT_BYTES);
     roll = bytes_of(argv[2]);
+    if (argc == 4)
+        night.kept = fopen(argv[3], "wb");
     take_roll(&night, roll);
     free(night.tariff.start);
     free(night.book.start);
     free(night.statement.start);
     free(roll.start);
+    if (argc == 4 && (night.kept == NULL || fclose(night.kept) != 0)) {
+        fprintf(stderr, "night: %s cannot be written\n", argv[3]);
+        return 1;
+    }
     return 0;
 }

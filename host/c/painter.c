@@ -1,6 +1,6 @@
 /*
  * Makes calls of the library on a painted stack, and writes how many bytes of it each function took at most: for an x86-64 that is emulated
- * (host/stack-check). On standard input comes call after call: the function's place in FUNCTIONS, the lengths of its four slices, and their bytes.
+ * (host/stack-check). On standard input comes call after call: the function's place in FUNCTIONS, a reading's offset, the lengths of four slices, and their bytes.
  * On standard output goes a number for each function. All numbers have 8 bytes.
  */
 typedef __UINT64_TYPE__ word;
@@ -11,15 +11,17 @@ word milecopper_settle(const void *, word, void *, word, const void *, word, voi
 word milecopper_quote(const void *, word, const void *, word, const void *, word, void *, word);
 word milecopper_post(const void *, word, void *, word, const void *, word, const void *, word);
 word milecopper_check_tariff(const void *, word);
+word milecopper_read(const void *, word, word, void *, word);
 number read(int, void *, word);
 number write(int, const void *, word);
 
 /* As in host/src/stack.rs. */
 static const void *const FUNCTIONS[] = {
-    (const void *)milecopper_settle, (const void *)milecopper_quote, (const void *)milecopper_post, (const void *)milecopper_check_tariff
+    (const void *)milecopper_settle, (const void *)milecopper_quote, (const void *)milecopper_post, (const void *)milecopper_check_tariff,
+    (const void *)milecopper_read
 };
 
-enum { MANY = sizeof FUNCTIONS / sizeof *FUNCTIONS, SLICES = 4, LONGEST = 1 << 17, WORDS = 1 << 10 };
+enum { MANY = sizeof FUNCTIONS / sizeof *FUNCTIONS, READ = MANY - 1, HEAD = 2, SLICES = 4, LONGEST = 1 << 17, WORDS = 1 << 10 };
 static unsigned char slices[SLICES][LONGEST];
 static word stack[WORDS] __attribute__((aligned(16)));
 
@@ -33,13 +35,18 @@ static int read_all(void *bytes, word many) {
 }
 
 int main(void) {
-    word head[1 + SLICES], most[MANY] = { 0 }, given[2 * SLICES], answer;
+    word head[HEAD + SLICES], most[MANY] = { 0 }, given[2 * SLICES], answer;
     while (read_all(head, sizeof head)) {
         if (head[0] >= MANY) return 2;
         for (int i = 0; i < SLICES; i++) {
-            if (head[1 + i] > LONGEST || !read_all(slices[i], head[1 + i])) return 2;
+            if (head[HEAD + i] > LONGEST || !read_all(slices[i], head[HEAD + i])) return 2;
             given[2 * i] = (word)slices[i];
-            given[2 * i + 1] = head[1 + i];
+            given[2 * i + 1] = head[HEAD + i];
+        }
+        if (head[0] == READ) { /* statement, offset, fields */
+            given[4] = given[3];
+            given[3] = given[2];
+            given[2] = head[1];
         }
         word depth = painted_depth(FUNCTIONS[head[0]], given, stack, WORDS, &answer);
         if (depth > most[head[0]]) most[head[0]] = depth;

@@ -1,18 +1,18 @@
-//! The number that settling, a quote and a posting answer, taken apart.
+//! The number that settling, a quote, a posting and a reading answer, taken apart.
 
 use std::fmt;
 
-/// What became of a trip.
+/// What became of a trip, or of a record that was read.
 #[derive(Clone, Copy, Debug, PartialEq, Eq)]
 pub enum Answer {
-    /// So many bytes were written: to the statement, or by a posting to the book.
+    /// So many bytes were written: to the statement, or by a posting to the book. Of a reading, the record's bytes.
     Accepted { bytes: u32 },
     /// `place` is the offset in the tariff for the first three refusals, else 0.
     Refused { refusal: Refusal, place: u32 },
 }
 
 /// The refusals, in the order in which they are tried. Settling and a quote give the first twelve; a posting has 13 in the
-/// place of 12.
+/// place of 12. A reading gives 14 to 16, and then 12.
 #[derive(Clone, Copy, Debug, PartialEq, Eq)]
 pub enum Refusal {
     TariffBroken = 1,
@@ -28,10 +28,13 @@ pub enum Refusal {
     WindowFull = 11,
     NoRoom = 12,
     OtherRecord = 13,
+    RecordBroken = 14,
+    RecordMisshapen = 15,
+    RecordValue = 16,
 }
 
 impl Answer {
-    /// The answer that this number stands for, or nothing where none of the three answers it.
+    /// The answer that this number stands for, or nothing where nothing is answered so.
     pub fn of(number: u64) -> Option<Answer> {
         let low = number as u32;
         match number >> 32 {
@@ -43,7 +46,7 @@ impl Answer {
 }
 
 impl Refusal {
-    pub const ALL: [Refusal; 13] = [
+    pub const ALL: [Refusal; 16] = [
         Refusal::TariffBroken,
         Refusal::TariffMisshapen,
         Refusal::TariffValue,
@@ -57,6 +60,9 @@ impl Refusal {
         Refusal::WindowFull,
         Refusal::NoRoom,
         Refusal::OtherRecord,
+        Refusal::RecordBroken,
+        Refusal::RecordMisshapen,
+        Refusal::RecordValue,
     ];
 
     /// The refusal with this number.
@@ -78,8 +84,11 @@ impl Refusal {
             Refusal::TripBackward => "trip backward or too long",
             Refusal::BeforeLastTrip => "before the last check-out",
             Refusal::WindowFull => "257th trip of the window",
-            Refusal::NoRoom => "statement too short",
+            Refusal::NoRoom => "statement or fields too short",
             Refusal::OtherRecord => "not the present quote",
+            Refusal::RecordBroken => "record frame broken",
+            Refusal::RecordMisshapen => "record misshapen",
+            Refusal::RecordValue => "record value",
         }
     }
 }
@@ -107,8 +116,9 @@ mod tests {
         assert_eq!(Answer::of((3 << 32) + 29), Some(Answer::Refused { refusal: Refusal::TariffValue, place: 29 }));
         assert_eq!(Answer::of(12 << 32), Some(Answer::Refused { refusal: Refusal::NoRoom, place: 0 }));
         assert_eq!(Answer::of(13 << 32), Some(Answer::Refused { refusal: Refusal::OtherRecord, place: 0 }));
-        assert_eq!(Answer::of(14 << 32), None);
+        assert_eq!(Answer::of(16 << 32), Some(Answer::Refused { refusal: Refusal::RecordValue, place: 0 }));
+        assert_eq!(Answer::of(17 << 32), None);
         assert_eq!(Answer::of(u64::MAX), None);
-        assert!((1..=13).all(|number| Refusal::of(number).is_some_and(|refusal| refusal as u64 == number)));
+        assert!((1..=16).all(|number| Refusal::of(number).is_some_and(|refusal| refusal as u64 == number)));
     }
 }

@@ -1,11 +1,12 @@
 //! The differential test: the library and the model settle, quote and post the same cases, and must agree in the answer, in
-//! every byte of the book and in every byte of the statement or the record.
+//! every byte of the book and in every byte of the statement or the record; and they read the same charge records, and must agree
+//! in the answer and in every byte of the fields.
 //!
 //! A run has parts, which can be repeated one by one. Part 0 of a seed is a sweep ([`sweeps`]): two good cases, one with a
 //! broken trip, and all that lie one step away from them. Every other part is a chain ([`chains`]): trips settled one
 //! after another on one book, with damaged cases in between ([`damage`]). Beside many of them stand a quote and a posting
-//! ([`quotes`]). What is called on the library's side gets slices beside protected pages ([`guarded`]), so that a byte
-//! touched outside them is seen.
+//! ([`quotes`]), and behind each part records are read ([`readings`]). What is called on the library's side gets slices
+//! beside protected pages ([`guarded`]), so that a byte touched outside them is seen.
 
 mod aachen;
 pub mod books;
@@ -24,15 +25,18 @@ mod options;
 mod particulars;
 mod quotes;
 pub mod random;
+mod readings;
+mod reads;
 mod report;
 mod run;
 mod signals;
+pub mod statements;
 mod sweeps;
 mod tariffs;
 pub mod trips;
 
 pub use counts::Counts;
-pub use functions::{number_of, settle_by_the_model, Check, Functions, Post, Quote, Settle, MODEL};
+pub use functions::{number_of, settle_by_the_model, Check, Functions, Post, Quote, Read, Settle, MODEL};
 pub use options::{Options, USAGE};
 pub use run::Difference;
 
@@ -43,6 +47,9 @@ use std::time::Instant;
 
 /// Chains of each seed.
 const CHAINS: u64 = 2_500;
+
+/// Added to a part's number for the numbers of its readings, so that what is read does not depend on how much was settled.
+const READINGS: u64 = 1 << 32;
 
 /// Compares these functions, of whoever is called `name`, with the model. Prints the seeds first and the counts at the end.
 /// An error is the first difference, or says what was met too seldom.
@@ -71,6 +78,11 @@ pub fn run_alike(name: &'static str, functions: Functions, options: &Options) ->
                 0 => sweeps::sweep(&mut random, &mut run)?,
                 _ => chains::chain(&mut random, &mut run)?,
             }
+            let mut random = Random::of(seed, READINGS + part);
+            if part == 0 {
+                readings::sweep(&mut random, &mut run)?;
+            }
+            readings::readings(&mut random, &mut run)?;
         }
     }
     signals::unset_alarm();

@@ -4,7 +4,7 @@
 //!   docs/RULES.md.
 //! - [`maker`] makes tariffs, trips and whole case files from a readable text.
 //! - [`numbers`] reads and puts little-endian numbers, for both.
-//! - [`answer`] takes the number that settling, a quote and a posting answer apart.
+//! - [`answer`] takes the number that settling, a quote, a posting and a reading answer apart.
 //! - [`offered`] makes records, right and wrong, for a posting.
 //! - `library` (feature `library`) is what the library offers, in safe Rust.
 //! - [`examples`] runs the examples of samples/ on anything that offers the same.

@@ -37,6 +37,14 @@ extern "C" {
         record: *const u8,
         record_len: usize,
     ) -> u64;
+
+    pub(crate) fn milecopper_read(
+        statement: *const u8,
+        statement_len: usize,
+        at: usize,
+        fields: *mut u8,
+        fields_len: usize,
+    ) -> u64;
 }
 
 /// A faultless tariff's length, or the number that settling under it gives.
@@ -46,9 +54,14 @@ pub fn check_tariff(tariff: &[u8]) -> u64 {
     unsafe { milecopper_check_tariff(tariff.as_ptr(), tariff.len()) }
 }
 
-/// The four functions, each with the answer's number as the library gives it.
-pub const LIBRARY: Functions =
-    Functions { check: check_tariff, settle: settle_to_number, quote: quote_to_number, post: post_to_number };
+/// The five functions, each with the answer's number as the library gives it.
+pub const LIBRARY: Functions = Functions {
+    check: check_tariff,
+    settle: settle_to_number,
+    quote: quote_to_number,
+    post: post_to_number,
+    read: read_to_number,
+};
 
 pub fn settle_to_number(tariff: &[u8], book: &mut [u8], trip: &[u8], statement: &mut [u8]) -> u64 {
     // SAFETY: each pointer comes with its slice's own length, and a slice's pointer is never null. The mutable slices,
@@ -100,6 +113,11 @@ pub fn post_to_number(tariff: &[u8], book: &mut [u8], trip: &[u8], record: &[u8]
     }
 }
 
+pub fn read_to_number(statement: &[u8], at: usize, fields: &mut [u8]) -> u64 {
+    // SAFETY: as above. Any offset may be given.
+    unsafe { milecopper_read(statement.as_ptr(), statement.len(), at, fields.as_mut_ptr(), fields.len()) }
+}
+
 /// Settles one trip. Accepted: the book is replaced, and the charge records stand at the start of the statement. Refused:
 /// book and statement stay.
 pub fn settle(tariff: &[u8], book: &mut [u8], trip: &[u8], statement: &mut [u8]) -> Answer {
@@ -115,6 +133,11 @@ pub fn quote(tariff: &[u8], book: &[u8], trip: &[u8], statement: &mut [u8]) -> A
 /// Posts one trip by the record of its quote. Accepted: the book is replaced. Refused: it stays.
 pub fn post(tariff: &[u8], book: &mut [u8], trip: &[u8], record: &[u8]) -> Answer {
     answer_of(post_to_number(tariff, book, trip, record))
+}
+
+/// Reads the charge record at an offset. Accepted: its bytes, and its fields stand at the start of `fields`. Refused: they stay.
+pub fn read(statement: &[u8], at: usize, fields: &mut [u8]) -> Answer {
+    answer_of(read_to_number(statement, at, fields))
 }
 
 fn answer_of(number: u64) -> Answer {

@@ -10,7 +10,9 @@
 //! - [`caps`]: the caps of a ride, and which one is named;
 //! - [`charge`]: windows, charges and bicycles;
 //! - [`statement`]: the charge record;
-//! - [`roll`]: what the program prints.
+//! - [`reading`]: charge records read off a statement that was kept;
+//! - [`roll`]: what the program that settles a roll prints;
+//! - [`table`]: what the program that prints statements prints.
 //!
 //! This file holds settling itself: the refusals in the order of their table, then the writing; and a quote and a posting,
 //! each of which writes its half.
@@ -21,9 +23,11 @@ pub mod charge;
 pub mod clock;
 pub mod fare;
 pub mod parts;
+pub mod reading;
 pub mod record;
 pub mod roll;
 pub mod statement;
+pub mod table;
 pub mod tariff;
 pub mod trip;
 
@@ -32,6 +36,7 @@ use charge::{costs_of, window_for, Costs};
 use clock::MINUTES_IN_A_DAY;
 use fare::Ride;
 use parts::{parts_of, rides_in_a_marked_town};
+pub use reading::read;
 pub use roll::settle_roll;
 use statement::ChargeRecord;
 pub use tariff::{read_tariff, Tariff};

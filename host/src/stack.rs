@@ -1,14 +1,15 @@
 //! The stack that a call of the library takes, by painting the stack that it runs on (c/painted.c). x86-64 and aarch64.
 
-use crate::library::{milecopper_check_tariff, milecopper_post, milecopper_quote, milecopper_settle};
+use crate::library::{milecopper_check_tariff, milecopper_post, milecopper_quote, milecopper_read, milecopper_settle};
 
 /// What the library exports, and how many bytes of stack a call may take. Who raises a limit says why in docs/DECISIONS.md.
 /// c/painter.c has the functions in the same order.
-pub const FUNCTIONS: [Function; 4] = [
+pub const FUNCTIONS: [Function; 5] = [
     Function { name: "milecopper_settle", limit: 1_024, start: milecopper_settle as *const () },
     Function { name: "milecopper_quote", limit: 1_536, start: milecopper_quote as *const () },
     Function { name: "milecopper_post", limit: 2_048, start: milecopper_post as *const () },
     Function { name: "milecopper_check_tariff", limit: 256, start: milecopper_check_tariff as *const () },
+    Function { name: "milecopper_read", limit: 512, start: milecopper_read as *const () },
 ];
 
 /// Their places among them.
@@ -16,6 +17,7 @@ pub const SETTLE: usize = 0;
 pub const QUOTE: usize = 1;
 pub const POST: usize = 2;
 pub const CHECK: usize = 3;
+pub const READ: usize = 4;
 
 pub struct Function {
     pub name: &'static str,
@@ -32,13 +34,12 @@ const WORDS: usize = 8 * 1_024;
 #[repr(align(16))]
 struct Stack([u64; WORDS]);
 
-/// What is lent to a call: tariff, book and trip, and a statement, or a posting's record. A function that takes the tariff alone does not
-/// look at the others.
+/// What is lent to a call: tariff, book and trip, and a statement, or a posting's record; or the statement and the fields of
+/// a reading, and its offset. A function does not look at what it does not take.
+#[derive(Clone, Copy)]
 pub struct Call<'a> {
-    pub tariff: &'a [u8],
-    pub book: &'a [u8],
-    pub trip: &'a [u8],
-    pub fourth: &'a [u8],
+    pub slices: [&'a [u8]; 4],
+    pub at: usize,
 }
 
 #[cfg(any(target_arch = "x86_64", target_arch = "aarch64"))]
@@ -51,31 +52,29 @@ unsafe fn painted_depth(_: *const (), _: *const u64, _: *mut u64, _: u64, _: *mu
     unreachable!("no stack of one's choice on this processor")
 }
 
-/// The bytes of stack that one of the functions takes below its caller's, on copies of what it may write.
+/// The bytes of stack that one of the functions takes below its caller's, on copies of what is lent.
 pub fn depth_of(function: usize, call: &Call) -> usize {
-    let (mut book, mut fourth) = (call.book.to_vec(), call.fourth.to_vec());
+    let mut slices = call.slices.map(<[u8]>::to_vec);
     let mut stack = Box::new(Stack([0; WORDS]));
-    let slice = |start: *const u8, length: usize| [start as u64, length as u64];
-    let given = [
-        slice(call.tariff.as_ptr(), call.tariff.len()),
-        slice(book.as_mut_ptr(), book.len()),
-        slice(call.trip.as_ptr(), call.trip.len()),
-        slice(fourth.as_mut_ptr(), fourth.len()),
-    ];
-    // SAFETY: each function takes at most four slices, a pointer and a length each, eight words. The pointers come with their slices'
-    // own lengths, and the mutable slices overlap nothing. The stack is memory that nobody else uses, of so many words, an
-    // even number, at a multiple of 16, and far more than a call needs.
+    let mut given: Vec<u64> =
+        slices.iter_mut().flat_map(|slice| [slice.as_mut_ptr() as u64, slice.len() as u64]).collect();
+    if function == READ {
+        given.insert(2, call.at as u64);
+    }
+    // SAFETY: each function takes at most four slices, a pointer and a length each, eight words; a reading takes two, and the
+    // offset between them. The pointers come with their slices' own lengths, and the slices overlap nothing. The stack is
+    // memory that nobody else uses, of so many words, an even number, at a multiple of 16, and far more than a call needs.
     unsafe {
-        painted_depth(FUNCTIONS[function].start, given.as_ptr().cast(), stack.0.as_mut_ptr(), WORDS as u64, &mut 0)
-            as usize
+        painted_depth(FUNCTIONS[function].start, given.as_ptr(), stack.0.as_mut_ptr(), WORDS as u64, &mut 0) as usize
     }
 }
 
 /// A call as c/painter.c takes it.
 pub fn bytes_of(function: usize, call: &Call) -> Vec<u8> {
-    let numbers = [function, call.tariff.len(), call.book.len(), call.trip.len(), call.fourth.len()];
+    let [first, second, third, fourth] = call.slices;
+    let numbers = [function, call.at, first.len(), second.len(), third.len(), fourth.len()];
     let head = numbers.map(|number| (number as u64).to_le_bytes()).concat();
-    [&head, call.tariff, call.book, call.trip, call.fourth].concat()
+    [&head, first, second, third, fourth].concat()
 }
 
 #[cfg(test)]

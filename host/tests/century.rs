@@ -1,10 +1,11 @@
 //! Every day from 2000 to 2099, by the model and by the library: a trip over each midnight takes the minutes that it
-//! takes, in the window that it opens, whatever the offsets are; a day that there is not is refused; and in the nights in
-//! which the clock changes a trip takes the minutes that were ridden.
+//! takes, in the window that it opens, whatever the offsets are; a day that there is not is refused; in the nights in
+//! which the clock changes a trip takes the minutes that were ridden; and from a minute the model comes back to its day.
 
 use milecopper_host::differential::{settle_by_the_model, Settle};
 use milecopper_host::maker::bytes_of;
 use milecopper_host::model::book::BOOK_BYTES;
+use milecopper_host::model::clock::Moment;
 use milecopper_host::numbers::number;
 
 const TARIFF: &[u8] = include_bytes!("../../samples/tariff.bin");
@@ -50,6 +51,8 @@ fn each_day(settle: Settle) {
                 if let Some(eve) = eve {
                     over_midnight(settle, &eve, &date, days);
                 }
+                let noon = Moment::of(1_440 * days + 12 * 60 + 34).to_string();
+                assert_eq!(noon, format!("{year}-{month:02}-{day:02}T12:34Z"));
                 // 2000-01-02 was a Sunday.
                 if (month == 3 || month == 10) && day > length - 7 && days % 7 == 1 {
                     clock_change(settle, &date, days, month == 3);

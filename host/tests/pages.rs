@@ -1,10 +1,11 @@
 //! What the pages show is what comes of it: the worked examples of docs/FORMAT.md, by the model and by the library, the
 //! texts of docs/TEXT.md, and the sample that README.md prints.
 
-use milecopper_host::differential::{settle_by_the_model, Functions, Settle, MODEL};
+use milecopper_host::differential::{settle_by_the_model, Functions, Read, Settle, MODEL};
 use milecopper_host::maker::checked_bytes_of;
 use milecopper_host::model::book::BOOK_BYTES;
 use milecopper_host::model::settle_roll;
+use milecopper_host::model::table::print_statement;
 
 const FORMAT: &str = include_str!("../../docs/FORMAT.md");
 const README: &str = include_str!("../../README.md");
@@ -70,12 +71,36 @@ fn are_quoted_and_posted(Functions { settle, quote, post, .. }: Functions) {
     }
 }
 
+/// Both kinds, read at the start and behind other bytes.
+fn are_read(read: Read) {
+    for (record, told) in [("cut-record", "cut-fields"), ("kind-4-record", "kind-4-fields")] {
+        let (record, told) = (block(record), block(told));
+        for before in [0, 1, 40] {
+            let statement = [vec![7; before], record.clone(), vec![9; 3]].concat();
+            let mut fields = [0xaa; 324];
+            assert_eq!(read(&statement, before, &mut fields), record.len() as u64);
+            assert_eq!(fields[..told.len()], told);
+            assert!(fields[told.len()..].iter().all(|&byte| byte == 0xaa));
+            assert_eq!(read(&statement, before, &mut fields[1..told.len()]), 12 << 32);
+        }
+    }
+}
+
+/// The table of the statement that the page puts together.
+#[test]
+fn the_table_that_is_printed() {
+    let statement = [block("cut-record"), block("tariff")[29..35].to_vec(), block("kind-4-record"), vec![1]].concat();
+    let start = FORMAT.find("```table\n").expect("the page has the table") + "```table\n".len();
+    assert_eq!(Some(print_statement(&statement).as_str()), FORMAT[start..].split("```").next());
+}
+
 #[test]
 fn the_worked_example_by_the_model() {
     gives_the_aachen_record(settle_by_the_model);
     gives_the_records(settle_by_the_model);
     gives_the_cut(settle_by_the_model);
     are_quoted_and_posted(MODEL);
+    are_read(MODEL.read);
 }
 
 #[cfg(feature = "library")]
@@ -85,6 +110,7 @@ fn the_worked_example_by_the_library() {
     gives_the_records(milecopper_host::library::settle_to_number);
     gives_the_cut(milecopper_host::library::settle_to_number);
     are_quoted_and_posted(milecopper_host::library::LIBRARY);
+    are_read(milecopper_host::library::LIBRARY.read);
 }
 
 #[test]
@@ -94,6 +120,14 @@ fn the_sample_that_is_printed() {
     let printed: Vec<&str> = README.lines().skip_while(|line| *line != "    trip area km min open cents").collect();
     let printed: Vec<&str> = printed.iter().map_while(|line| line.strip_prefix("    ")).collect();
     assert_eq!(settle_roll(tariff, roll).lines().collect::<Vec<&str>>(), printed);
+}
+
+/// The first lines of the sample's statement.
+#[test]
+fn the_statement_that_is_printed() {
+    let table = print_statement(include_bytes!("../../samples/statement.bin"));
+    let first: String = table.lines().take(3).map(|line| format!("    {line}\n")).collect();
+    assert!(README.contains(&format!("\n\n{first}\n")));
 }
 
 /// The words of the C example, which tests/night.rs and c/check look at.

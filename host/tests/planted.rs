@@ -10,7 +10,7 @@ fn planted(name: &str) -> (bool, String) {
 }
 
 /// Each planted error, and words of the difference that it makes.
-const FOUND: [(&str, &str); 19] = [
+const FOUND: [(&str, &str); 23] = [
     ("refusal_12_writes_the_book", "the copy refused, and changed the book"),
     ("stops_after_stamps", "by the model: refused 7 at 0 (unknown stop)\n  by the copy: refused 8 at 0"),
     ("rounding_once_at_the_end", "of the statement is"),
@@ -29,6 +29,10 @@ const FOUND: [(&str, &str); 19] = [
     ("posting_compares_the_length", "by the model: refused 13 at 0 (not the present quote)\n  by the copy: accepted"),
     ("posting_refuses_by_12", "by the model: refused 13 at 0 (not the present quote)\n  by the copy: refused 12"),
     ("refusal_13_writes_the_book", "the copy refused, and changed the book"),
+    ("charge_alone_compared", "by the model: refused 16 at 0 (record value)\n  by the copy: accepted"),
+    ("kind_4_of_32_charges", "by the model: refused 15 at 0 (record misshapen)\n  by the copy: refused 16"),
+    ("fields_before_the_record", "\n  by the copy: refused 12"),
+    ("no_cap_told_as_area_0", "of the fields is ff by the model, 00 by the copy"),
     ("reads_past_the_trip", "signal 11 instead of an answer"),
 ];
 

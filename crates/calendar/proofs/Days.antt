@@ -12,7 +12,7 @@ use Rattle.calendar.specs.Days.{leap, monthDays, daysOfMonths, daysOfYea
 use Rattle.calendar.proofs.Fields.{Date}
 
 -- what never falls from one number to the next falls nowhere
-grows : (f : ℕ → ℕ) → ((k : ℕ) → f k ≤ f (suc k)) → (a b : ℕ) → a ≤ b → f a ≤ f b
+pub grows : (f : ℕ → ℕ) → ((k : ℕ) → f k ≤ f (suc k)) → (a b : ℕ) → a ≤ b → f a ≤ f b
 grows f step a b = le-ind {n = a} (λ k. f a ≤ f k) (le-refl (f a)) (λ k _ h. le-trans h (step k)) b
 
 months-grow : (leapYear : Bool) (a b : ℕ) → a ≤ b → daysOfMonths leapYear a ≤ daysOfMonths leapYear b
@@ -24,12 +24,12 @@ unfolding daysOfYears
 years-grow = grows daysOfYears (λ k. le-add-right _ _)
 
 -- a date goes before the end of its month
-in-month : (year month day : ℕ) → Date year month day → daysOfMonths (leap year) (month - 1) + (day - 1) < daysOfMonths (leap year) month
+pub in-month : (year month day : ℕ) → Date year month day → daysOfMonths (leap year) (month - 1) + (day - 1) < daysOfMonths (leap year) month
 unfolding daysOfMonths
 in-month y zero d date = absurd (omega arith)
 in-month y (suc k) d date = let before : suc k - 1 ≡ k = omega arith in rw before (omega arith)
 
-year-days : (leapYear : Bool) → daysOfMonths leapYear 12 ≡ cond leapYear 366 365
+pub year-days : (leapYear : Bool) → daysOfMonths leapYear 12 ≡ cond leapYear 366 365
 unfolding daysOfMonths monthDays
 year-days true = refl
 year-days false = refl
@@ -56,7 +56,7 @@ years-days (suc n) h = rw (years-days n (omega arith), every-fourth n h, year-da
     go false e = let ne = eqb-false (n % 4) 0 e in omega arith
 
 -- a date goes before the end of its year
-in-year : (year month day : ℕ) → Date year month day → dayNumber year month day < daysOfYears (suc (year - 2000))
+pub in-year : (year month day : ℕ) → Date year month day → dayNumber year month day < daysOfYears (suc (year - 2000))
 unfolding dayNumber daysOfYears
 in-year y m d date =
     let year : 2000 + (y - 2000) ≡ y = omega arith in

@@ -1,4 +1,5 @@
 pub mod Days
 pub mod Fields
+pub mod MomentLaws
 pub mod Order
 pub mod Table

@@ -1,3 +1,4 @@
 pub mod Days
 pub mod Stamps
+pub mod Moments
 pub mod Contracts

@@ -1,5 +1,6 @@
 // Stamps and minute numbers: a moment as its local date and clock time, 2000 to 2099, with the hours ahead of UTC, and as minutes since
 // 2000-01-01 00:00 UTC.
+// The file moments.rt has the way back, from a minute number to its date and clock time in UTC.
 // Every day has 1,440 minutes. The days before each month stand as a table, one row for common and one for leap years.
 use units::DAY;
 use units::Minutes;
@@ -9,6 +10,8 @@ ghost use Prim.Native.Nat.{_≤_};
 ghost use Rattle.calendar.specs.Days.{leap, monthDays, DaysBefore, DayNumber};
 ghost use Rattle.calendar.specs.Contracts.{fromZero};
 ghost use Rattle.calendar.specs.Stamps.{isDate, isClock, isOffset, isStamp, stampOf, MinuteNumber};
+
+pub mod moments;
 
 // The days before each month: of a common year, and of a leap year.
 const COMMON: [u32; 12] = [0, 31, 59, 90, 120, 151, 181, 212, 243, 273, 304, 334];
@@ -23,6 +26,15 @@ pub struct Stamp {
     pub hour: u8,
     pub minute: u8,
     pub offset: u8,
+}
+
+// A date and clock time in UTC.
+pub struct Moment {
+    pub year: u16,
+    pub month: u8,
+    pub day: u8,
+    pub hour: u8,
+    pub minute: u8,
 }
 
 // What the maker answers: the stamp, or that the fields are none.

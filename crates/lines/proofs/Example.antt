@@ -6,23 +6,8 @@ use mathlib.Core.Path.{_≡_, refl}
 use mathlib.Core.List.{[], _∷_}
 use Rattle.roll.specs.declared.Entry.{Entry}
 use Rattle.roll.specs.declared.Line.the-variants.{Charged, Both, Refused}
-use Rattle.lines.specs.Text.{
-  bytes,
-  digit,
-  digitsIn,
-  decimal,
-  header,
-  spaced,
-  entryText,
-  lineText,
-  tailText,
-  acceptedOf,
-  refusedOf,
-  centsOf,
-  linesText,
-  textOf,
-  faultText,
-}
+use Rattle.text.specs.Words.{bytes, digit, digitsIn, decimal}
+use Rattle.lines.specs.Text.{header, spaced, entryText, lineText, tailText, acceptedOf, refusedOf, centsOf, linesText, textOf, faultText}
 
 abbrev entry : ℕ → ℕ → ℕ → ℕ → ℕ → Entry
 entry area km minutes opening cents = record { area = area; km = km; minutes = minutes; opening = opening; cents = cents }

@@ -23,8 +23,9 @@ use Rattle.lines.specs.declared.turns.Turn.the-variants as turn
 use Rattle.lines.specs.Text.{lineText}
 use Rattle.roll.specs.Lines.{mostRecords}
 use Rattle.lines.specs.Turns.{records, counted, tailOf, Effect, asks, puts, ends, lineEffect, effectOf}
-use Rattle.lines.specs.Contracts.{mostLine, mostRecord, mostTurn, Behind, CentsFit, Counting, Counted, Did, asked, put, ended, LineTaken, Range, Turned}
-use Rattle.lines.proofs.Puts.{behind-join, behind-same}
+use Rattle.text.specs.Contracts.{Behind}
+use Rattle.lines.specs.Contracts.{mostLine, mostRecord, mostTurn, CentsFit, Counting, Counted, Did, asked, put, ended, LineTaken, Range, Turned}
+use Rattle.text.proofs.Puts.{behind-join, behind-same}
 
 -- A run that goes on has not come to its last record.
 going-on : (last : Bool) (n : ℕ) → last || eqb n mostRecords ≡ false → n ≡ mostRecords → ⊥

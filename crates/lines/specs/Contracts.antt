@@ -1,9 +1,10 @@
--- What the contracts say: a text was put in front of a place of a buffer, or behind one; what a turn did; and that every sum fits.
+-- What the contracts say: what a turn did, and that every sum fits.
 use Prim.Native.Nat.{ℕ, _+_, _*_, _≤_, _<_}
 use mathlib.Core.Path.{_≡_}
 use mathlib.Core.Bool.{Bool, true}
-use mathlib.Core.List.{List, _++_}
-use lib.ListN.{length, take, drop}
+use mathlib.Core.List.{List}
+use lib.ListN.{length, take}
+use Rattle.text.specs.Contracts.{Behind}
 use Rattle.tariff.specs.declared.Counts.{Counts}
 use Rattle.roll.specs.declared.Line.{Line}
 use Rattle.statement.specs.Record.{mostParts}
@@ -25,18 +26,6 @@ mostRecord = mostParts * mostLine
 
 abbrev pub mostTurn : ℕ
 mostTurn = mostRecord + mostLine
-
--- from `start` on stand the text, and behind it what stood from `end` on; it took at most so many places
-pub record Before (text : List ℕ) (most : ℕ) (before : List ℕ) (end : ℕ) (after : List ℕ) (start : ℕ) : Type 0 where
-  pub put : drop start after ≡ text ++ drop end before
-  pub order : start ≤ end
-  pub room : end ≤ start + most
-
--- up to `end` stand what stood up to `place`, and the text behind it; it took at most so many places
-pub record Behind (text : List ℕ) (most : ℕ) (before : List ℕ) (place : ℕ) (after : List ℕ) (end : ℕ) : Type 0 where
-  pub put : take end after ≡ take place before ++ text
-  pub order : place ≤ end
-  pub room : end ≤ place + most
 
 -- each record has added what its parts can say at most
 abbrev pub CentsFit : Tally → Type 0

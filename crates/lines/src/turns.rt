@@ -1,6 +1,6 @@
 // A turn of a run: what stands at the start of the bytes that have come, settled, counted and put into the output.
-use crate::text::put_line;
-use crate::text::put_tail;
+use crate::texts::put_line;
+use crate::texts::put_tail;
 use roll::Line;
 use roll::MOST_RECORDS;
 use roll::Step;

@@ -1,13 +1,18 @@
 -- The exported number is the answer of the outcome, of the quote and of the posting.
 -- Assumes nothing.
 use Prim.Native.Nat.{ℕ}
-use mathlib.Core.Path.{_≡_, refl, ap, _∙_}
+use native.Mathlib.Omega.{arith}
+use mathlib.Core.Path.{_≡_, refl, sym, ap, _∙_}
 use mathlib.Core.List.{List}
+use Rattle.reader.specs.declared.fields.Filled.{Filled}
+use Rattle.reader.specs.declared.fields.Filled.the-variants as out
+use Rattle.reader.specs.Filling.{Filling, unfilled, filled, filledAs, FilledIn}
 use Rattle.settle.specs.declared.Answer.{Answer}
+use Rattle.settle.specs.declared.Answer.the-variants.{Refused, Written}
 use Rattle.settle.specs.Outcome.{Quote, unquoted, priced, Outcome, refused, accepted, answerOf, quoteAnswer, Settled, Quoted}
 use Rattle.settle.specs.Posting.{Posting, unposted, renewed, postingAnswer, Posted}
 use Rattle.settle.specs.Contracts.{toldBy, Told, toldQuote, QuoteTold, toldPosting, PostingTold}
-use Rattle.milecopper.specs.Contracts.{encodedAs}
+use Rattle.milecopper.specs.Contracts.{encodedAs, fillingAnswer, ReadTo}
 
 answer-is : (o : Outcome) → encodedAs (toldBy o) ≡ answerOf o
 answer-is (refused number place) = refl
@@ -34,3 +39,27 @@ posting-answer-is (renewed new) = refl
 pub posted-told :
     {p : Posting} {book book′ : List ℕ} {a : Answer} {r : ℕ} → PostingTold p book book′ a → r ≡ encodedAs a → Posted p book book′ r
 posted-told {p} told is = record { answer = is ∙ ap encodedAs (told .answer) ∙ posting-answer-is p; book-is = told .book-is }
+
+-- A filling's answer, refused or not, as one number.
+refused-answer : (f : Filling) {n : ℕ} → filledAs f ≡ out.Refused n → encodedAs (Refused n 0) ≡ fillingAnswer f
+refused-answer (unfilled m) {n} e = let same : m ≡ n = cc in rw same
+refused-answer (filled fields size) e = absurd (let z : _≡_ {A = ℕ} 0 1 = cc in omega arith)
+
+record-answer : (f : Filling) {size : ℕ} → filledAs f ≡ out.Record size → encodedAs (Written size) ≡ fillingAnswer f
+record-answer (unfilled m) e = absurd (let z : _≡_ {A = ℕ} 0 1 = cc in omega arith)
+record-answer (filled fields m) {size} e = let same : m ≡ size = cc in sym same
+
+pub refused-read :
+    {f : Filling} {before after : List ℕ} {a : Filled} {n r : ℕ} → FilledIn f before after a → a ≡ out.Refused n → r ≡ encodedAs (Refused n 0)
+    → ReadTo f before after r
+refused-read {f} told e is = record { answer = is ∙ refused-answer f (sym (told .answer) ∙ e); fields-are = told .fields-are }
+
+pub record-read :
+    {f : Filling} {before after : List ℕ} {a : Filled} {size r : ℕ} → FilledIn f before after a → a ≡ out.Record size → r ≡ encodedAs (Written size)
+    → ReadTo f before after r
+record-read {f} told e is = record { answer = is ∙ record-answer f (sym (told .answer) ∙ e); fields-are = told .fields-are }
+
+-- Two results that the contract allows are equal: the answer, and every byte of the slice.
+pub reads-alike :
+    {f : Filling} {before after after′ : List ℕ} {r r′ : ℕ} → ReadTo f before after r → ReadTo f before after′ r′ → (r ≡ r′) × (after ≡ after′)
+reads-alike one other = (one .answer ∙ sym (other .answer), one .fields-are ∙ sym (other .fields-are))

@@ -1,4 +1,6 @@
 // What C is offered: each exported function takes plain byte strings, has the library do the work, and answers one number.
+use reader::fields::Filled;
+use reader::fields::read_into;
 use settle::Answer;
 use settle::posting::post;
 use settle::quote::quote;
@@ -10,7 +12,8 @@ ghost use lib.ListN.{length};
 ghost use Rattle.settle.specs.Outcome.{quoted, settled, Settled, Quoted};
 ghost use Rattle.settle.specs.Posting.{postingOf, Posted};
 ghost use Rattle.settle.specs.Contracts.{AnswerFits};
-ghost use Rattle.milecopper.specs.Contracts.{encodedAs};
+ghost use Rattle.reader.specs.Filling.{fillingOf};
+ghost use Rattle.milecopper.specs.Contracts.{encodedAs, ReadTo};
 ghost use Rattle.milecopper.specs.Tariffs.{tariffAnswer};
 
 // An answer as one number. Written: the bytes, below 2^32. Refused: the refusal's number × 2^32 + its place.
@@ -76,4 +79,18 @@ pub extern "C" fn milecopper_post(
     ensures { λ r. ⌜ Posted (postingOf (now (tariff .entry)) (now (book .entry)) (now (trip .entry)) (now (offered .entry))) (now (book .entry)) (now (book .exit)) r ⌝ }
 {
     encoded(post(tariff, book, trip, offered))
+}
+
+// Reads the charge record, kind 4 or 6, that stands at a place of a statement; what stands behind it is left alone.
+// Accepted: the record's bytes, so that the next stands so far behind it, and its fields at the start of `fields`, at most 324 bytes: kind,
+// number of charges, adults, children, bicycles and area (1 each), kilometres 2, minutes 2, opening minute 4, then for each charge its cents
+// 4, what caps took off 4, and the named cap's area and class (1 each). Refused: the refusal's number × 2^32, and `fields` is not touched.
+#[no_mangle]
+pub extern "C" fn milecopper_read(statement: &[u8], at: usize, fields: &mut [u8]) -> u64
+    ensures { λ r. ⌜ ReadTo (fillingOf (now (statement .entry)) at (length (now (fields .entry)))) (now (fields .entry)) (now (fields .exit)) r ⌝ }
+{
+    match read_into(statement, at, fields) {
+        Filled::Refused(number) => encoded(Answer::Refused { number, place: 0 }),
+        Filled::Record(size) => encoded(Answer::Written(size)),
+    }
 }

@@ -13,3 +13,4 @@ pub mod RunLaws
 pub mod Books
 pub mod RideLaws
 pub mod Broken
+pub mod ReadBack

@@ -149,7 +149,7 @@ module _ (tariff book trip : List ℕ) (room : ℕ) where
   quote-number {n} {place} e = refused-number tariff book trip room (quote-refuses-alike n place .0 e)
 
   -- An accepted trip's records have room, and the new book is as long as every book.
-  accepted-clear :
+  pub accepted-clear :
       {new : List ℕ} {parts : List Part} (a : AcceptedBy tariff book trip room new parts)
       → AllClear tariff (a .counts) book trip (tripOf trip) (tripWindow book trip) (breakOf tariff (a .counts) trip (countAt trip 0)) room
   accepted-clear a =

@@ -4,3 +4,4 @@ pub mod Runs
 pub mod Moved
 pub mod Cases
 pub mod Books
+pub mod ReadBack

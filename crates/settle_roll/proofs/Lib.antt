@@ -1,4 +1,2 @@
-pub mod Moves
 pub mod Turns
 pub mod Printed
-pub mod Through

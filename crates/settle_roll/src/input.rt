@@ -1,34 +1,9 @@
-// Bytes of a file: the tariff's first, and the roll's next.
+// The tariff's first bytes.
 use libc::ENOENT;
-use libc::STDIN_FILENO;
-ghost use Prim.Native.Nat.{_+_, _≤_, _<_};
+use streams::input::Got;
+use streams::input::read_at;
+ghost use Prim.Native.Nat.{_≤_};
 ghost use lib.ListN.{length};
-ghost use Rattle.settle_roll.specs.Contracts.{Came, Kept};
-
-// What reading came to: how many bytes, or a failure, which was told on standard error.
-pub struct Got {
-    pub failed: bool,
-    pub bytes: usize,
-}
-
-// One read of a file into the room from a place on; no byte is the file's end, where there is room.
-fn read_at(file: i32, name: &[u8], room: &mut [u8], place: usize) -> Got
-    requires { ⌜ place ≤ length (now room) ⌝ }
-    ensures { λ r. ⌜ Came (now (room .entry)) place (now (room .exit)) (r .bytes) ⌝ }
-{
-    let answer = libc::read(file, &mut room[place..]);
-    if answer < 0 {
-        os::fail(name);
-        return Got {
-            failed: true,
-            bytes: 0,
-        };
-    }
-    Got {
-        failed: false,
-        bytes: io::count(answer, &room[place..]),
-    }
-}
 
 // A file's first bytes: all of them, or as many as there is room for.
 fn read_start(file: i32, name: &[u8], room: &mut [u8]) -> Got
@@ -67,24 +42,4 @@ pub fn load_tariff(room: &mut [u8]) -> Got
         os::fail(name);
     }
     Got { failed, bytes: 0 }
-}
-
-// The roll's next bytes, behind those that are there already.
-pub fn read_roll(room: &mut [u8], place: usize) -> Got
-    requires { ⌜ place < length (now room) ⌝ }
-    ensures { λ r. ⌜ Came (now (room .entry)) place (now (room .exit)) (r .bytes) ⌝ }
-{
-    read_at(STDIN_FILENO, b"standard input", room, place)
-}
-
-// Moves the bytes from `from` to `to` to the start of the room. The answer is how many they are.
-pub fn keep(room: &mut [u8], from: usize, to: usize) -> usize
-    requires { ⌜ (from ≤ to) × (to ≤ length (now room)) ⌝ }
-    ensures { λ r. ⌜ Kept (now (room .entry)) from to (now (room .exit)) r ⌝ }
-{
-    let count = to - from;
-    for i in 0..count {
-        room[i] = room[from + i];
-    }
-    count
 }

@@ -1,19 +1,17 @@
 // Settles a roll of trips: the tariff from tariff.bin, the roll from standard input, a line a record on standard output.
 // This program only reads, takes turns and writes; what a turn does, and what it prints, is the library's.
 //
-// input.rt    bytes of a file: the tariff's first, and the roll's next
-// output.rt   bytes written
-// run.rt      the roll, turn by turn
+// input.rt   the tariff's first bytes
+// run.rt     the roll, turn by turn
 use input::load_tariff;
-use lines::text::put_fault;
-use output::write;
+use lines::texts::put_fault;
 use run::settle_roll;
+use streams::output::write;
 use tariff::Reading;
 use tariff::fields::DECIDING_BYTES;
 use tariff::scan::read_tariff;
 
 mod input;
-mod output;
 mod run;
 
 // The one line of a refused tariff.

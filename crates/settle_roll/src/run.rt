@@ -1,32 +1,25 @@
 // The roll, turn by turn, on one book.
-use crate::input::keep;
-use crate::input::read_roll;
-use crate::output::write;
-use lines::text::put_header;
+use lines::texts::put_header;
 use lines::turns::ROOM;
 use lines::turns::Tally;
 use lines::turns::Turn;
 use lines::turns::take_turn;
 use roll::fresh_book;
+use streams::flow::Flow;
+use streams::flow::Flowed;
+use streams::flow::INPUT;
+use streams::flow::OUTPUT;
+use streams::flow::make_room;
+use streams::flow::read_more;
+use streams::output::write;
 use tariff::Counts;
 ghost use mathlib.Core.Path.{_≡_};
-ghost use lib.ListN.{length};
 ghost use Rattle.tariff.specs.Areas.{Read};
-ghost use Rattle.settle_roll.specs.Contracts.{outputSize, Running, MoreToRead, Roomless, CameMore, Made, StepTaken, Begun};
+ghost use Rattle.settle_roll.specs.Contracts.{Running, wentOn, StepTaken, Begun};
 
-// Room for the roll's bytes: a record has 1,026 at most.
-const INPUT: usize = 8_192;
-
-// Room for what is put and not written yet.
-const OUTPUT: usize = 8_192;
-
-// How far a run has come: the bytes read and not settled yet stand from `from` to `to` in the input, more may come or not, and the
-// output has bytes up to `end` that are not written yet.
+// How far a run has come: its buffers, and the records so far.
 pub struct Run {
-    pub from: usize,
-    pub to: usize,
-    pub more: bool,
-    pub end: usize,
+    pub flow: Flow,
     pub tally: Tally,
 }
 
@@ -40,52 +33,14 @@ pub enum Next {
     Stopped,
 }
 
-// The bytes that are not settled yet, and the roll's next behind them. After a failed read nothing more is settled: the lines so far
-// are written, and no tail.
-fn read_more(input: &mut [u8], out: &[u8], run: Run) -> Next
-    requires { ⌜ MoreToRead (now input) (now out) run ⌝ }
-    ensures { λ r. ⌜ CameMore run (now (input .entry)) (now (input .exit)) r ⌝ }
+// Another turn, where there is one.
+fn go_on(flowed: Flowed, tally: Tally) -> Next
+    ensures { λ r. ⌜ r ≡ wentOn flowed tally ⌝ }
 {
-    let end = run.end;
-    let tally = run.tally;
-    let kept = keep(input, run.from, run.to);
-    let got = read_roll(input, kept);
-    if got.failed {
-        write(out, end);
-        return Next::Stopped;
+    match flowed {
+        Flowed::On(flow) => Next::On(Run { flow, tally }),
+        Flowed::Stopped => Next::Stopped,
     }
-    Next::On(Run {
-        from: 0,
-        to: kept + got.bytes,
-        more: 0 < got.bytes,
-        end,
-        tally,
-    })
-}
-
-// What has been put is written as soon as a turn might find no room.
-fn make_room(out: &[u8], run: Run) -> Next
-    requires { ⌜ (length (now out) ≡ outputSize) × Roomless run ⌝ }
-    ensures { λ r. ⌜ Made run r ⌝ }
-{
-    let from = run.from;
-    let to = run.to;
-    let more = run.more;
-    let end = run.end;
-    let tally = run.tally;
-    if ROOM <= out.len() - end {
-        return Next::On(run);
-    }
-    if write(out, end) {
-        return Next::On(Run {
-            from,
-            to,
-            more,
-            end: 0,
-            tally,
-        });
-    }
-    Next::Stopped
 }
 
 // A turn, and what it asks for: bytes read, or written.
@@ -100,9 +55,10 @@ fn take_step(
     requires { ⌜ Running (now tariff) counts (now book) (now input) (now out) run ⌝ }
     ensures { λ r. ⌜ StepTaken (now (tariff .entry)) counts run (now (book .entry)) (now (input .entry)) (now (out .entry)) (now (book .exit)) (now (input .exit)) (now (out .exit)) r ⌝ }
 {
-    let from = run.from;
-    let to = run.to;
-    let more = run.more;
+    let flow = run.flow;
+    let from = flow.from;
+    let to = flow.to;
+    let more = flow.more;
     match take_turn(
         tariff,
         counts,
@@ -110,19 +66,18 @@ fn take_step(
         &input[from..to],
         more,
         out,
-        run.end,
+        flow.end,
         run.tally,
     ) {
-        Turn::More => read_more(input, out, run),
+        Turn::More => go_on(read_more(input, out, flow), run.tally),
         Turn::On { used, end, tally } => {
-            let on = Run {
+            let on = Flow {
                 from: from + used,
                 to,
                 more,
                 end,
-                tally,
             };
-            make_room(out, on)
+            go_on(make_room(out, ROOM, on), tally)
         }
         Turn::Over { end } => Next::Last(end),
     }
@@ -165,10 +120,12 @@ pub fn settle_roll(tariff: &[u8], counts: Counts)
     let mut out = [0u8; OUTPUT];
     let end = put_header(&mut out);
     let first = Run {
-        from: 0,
-        to: 0,
-        more: true,
-        end,
+        flow: Flow {
+            from: 0,
+            to: 0,
+            more: true,
+            end,
+        },
         tally: Tally {
             accepted: 0,
             refused: 0,

@@ -59,7 +59,7 @@ use Rattle.statement.proofs.Charges.{length-record}
 -- ---- Bytes one after another.
 
 -- a number behind some bytes
-get-behind : (w n : ℕ) (front rest : List ℕ) (p : ℕ) → length front ≡ n → getLe w (front ++ rest) (n + p) ≡ getLe w rest p
+pub get-behind : (w n : ℕ) (front rest : List ℕ) (p : ℕ) → length front ≡ n → getLe w (front ++ rest) (n + p) ≡ getLe w rest p
 unfolding getLe
 get-behind zero n front rest p size = refl
 get-behind (suc w) n front rest p size =
@@ -70,7 +70,7 @@ get-behind (suc w) n front rest p size =
     omega (arith, byte, more)
 
 -- a number written first is read back, where its width holds it
-get-first : (k v : ℕ) (rest : List ℕ) → v < 256 ^ k → getLe k (bytesOf k v ++ rest) 0 ≡ v
+pub get-first : (k v : ℕ) (rest : List ℕ) → v < 256 ^ k → getLe k (bytesOf k v ++ rest) 0 ≡ v
 unfolding getLe bytesOf
 get-first zero v rest small = omega arith
 get-first (suc k) v rest small =
@@ -80,13 +80,13 @@ get-first (suc k) v rest small =
     omega arith
 
 -- a number behind another
-get-next : (w k v : ℕ) (rest : List ℕ) (p : ℕ) → getLe w (bytesOf k v ++ rest) (k + p) ≡ getLe w rest p
+pub get-next : (w k v : ℕ) (rest : List ℕ) (p : ℕ) → getLe w (bytesOf k v ++ rest) (k + p) ≡ getLe w rest p
 get-next w k v rest p = get-behind w k (bytesOf k v) rest p (length-bytes k v)
 
 -- ---- The charges.
 
 -- charge i stands behind i others, and the cuts of those of them that are persons'
-charge-among :
+pub charge-among :
     (charges : List ℕ) (cuts : List Cut) (rest : List ℕ) (i : ℕ) → i < length charges → getD charges i 0 < 2 ^ 32
     → getLe 4 (chargeBytes charges cuts ++ rest) (4 * i + 6 * min i (length cuts)) ≡ getD charges i 0
 unfolding chargeBytes personBytes

@@ -7,7 +7,7 @@
 use milecopper_host::differential::{run_alike, Functions, Options};
 use milecopper_host::examples::{run, FILES};
 use milecopper_host::library::LIBRARY;
-use milecopper_host::stack::{bytes_of, depth_of, Call, CHECK, FUNCTIONS, IS_PAINTED, POST, QUOTE, SETTLE};
+use milecopper_host::stack::{bytes_of, depth_of, Call, CHECK, FUNCTIONS, IS_PAINTED, POST, QUOTE, READ, SETTLE};
 use milecopper_host::tool::{is_asked, misused};
 use std::io::{BufWriter, Read, Write};
 use std::process::{Child, ChildStdin, Command, ExitCode, Stdio};
@@ -31,28 +31,33 @@ static PAINTER: Mutex<Option<BufWriter<ChildStdin>>> = Mutex::new(None);
 /// The library, with each call made on a painted stack first.
 const PAINTED: Functions = Functions {
     check: |tariff| {
-        paint(CHECK, &Call { tariff, book: &[], trip: &[], fourth: &[] });
+        paint(CHECK, [tariff, &[], &[], &[]], 0);
         (LIBRARY.check)(tariff)
     },
     settle: |tariff, book, trip, statement| {
-        paint(SETTLE, &Call { tariff, book, trip, fourth: statement });
+        paint(SETTLE, [tariff, book, trip, statement], 0);
         (LIBRARY.settle)(tariff, book, trip, statement)
     },
     quote: |tariff, book, trip, statement| {
-        paint(QUOTE, &Call { tariff, book, trip, fourth: statement });
+        paint(QUOTE, [tariff, book, trip, statement], 0);
         (LIBRARY.quote)(tariff, book, trip, statement)
     },
     post: |tariff, book, trip, record| {
-        paint(POST, &Call { tariff, book, trip, fourth: record });
+        paint(POST, [tariff, book, trip, record], 0);
         (LIBRARY.post)(tariff, book, trip, record)
+    },
+    read: |statement, at, fields| {
+        paint(READ, [statement, fields, &[], &[]], at);
+        (LIBRARY.read)(statement, at, fields)
     },
 };
 
-fn paint(function: usize, call: &Call) {
+fn paint(function: usize, slices: [&[u8]; 4], at: usize) {
+    let call = Call { slices, at };
     CALLS[function].fetch_add(1, Relaxed);
-    MOST[function].fetch_max(depth_of(function, call), Relaxed);
+    MOST[function].fetch_max(depth_of(function, &call), Relaxed);
     if let Some(painter) = PAINTER.lock().expect("one thread").as_mut() {
-        painter.write_all(&bytes_of(function, call)).expect("the painter takes calls");
+        painter.write_all(&bytes_of(function, &call)).expect("the painter takes calls");
     }
 }
 

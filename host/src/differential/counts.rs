@@ -1,9 +1,11 @@
-//! How many settled cases ended in each refusal and in each kind of acceptance, and what quotes and postings came to.
+//! How many settled cases ended in each refusal and in each kind of acceptance, and what quotes, postings and readings came
+//! to.
 
 use super::cases::Case;
 use super::kinds::{is_rare, kinds_of, KINDS};
 use super::offers::Offers;
 use super::particulars::PARTICULARS;
+use super::reads::Reads;
 use crate::answer::Refusal;
 use crate::model::statement::ChargeRecord;
 use std::fmt;
@@ -18,13 +20,14 @@ pub struct Counts {
     /// Ways in which single refusals come about.
     particulars: [u64; PARTICULARS.len()],
     pub quotes: Offers,
+    pub readings: Reads,
     /// Tariffs checked alone, those with a fault and those without.
     tariffs: [u64; 2],
 }
 
 /// Those that settling gives.
 fn refusals() -> impl Iterator<Item = Refusal> {
-    Refusal::ALL.into_iter().filter(|&refusal| refusal != Refusal::OtherRecord)
+    Refusal::ALL.into_iter().filter(|&refusal| refusal as u32 <= Refusal::NoRoom as u32)
 }
 
 impl Counts {
@@ -53,7 +56,7 @@ impl Counts {
 
     /// Everything that was called.
     fn cases(&self) -> u64 {
-        self.accepted + self.refused() + self.quotes.calls()
+        self.accepted + self.refused() + self.quotes.calls() + self.readings.calls()
     }
 
     /// Each kind with its count.
@@ -74,6 +77,7 @@ impl Counts {
             }
         }
         all.extend(self.quotes.too_few());
+        all.extend(self.readings.too_few());
         if self.tariffs.contains(&0) {
             all.push("tariffs checked alone".to_string());
         }
@@ -106,6 +110,6 @@ impl fmt::Display for Counts {
         }
         let [faulty, faultless] = self.tariffs;
         writeln!(out, "tariffs checked alone: {faultless} without and {faulty} with a fault")?;
-        write!(out, "{}cases {}", self.quotes, self.cases())
+        write!(out, "{}{}cases {}", self.quotes, self.readings, self.cases())
     }
 }

@@ -14,12 +14,16 @@ pub type Quote = fn(&[u8], &[u8], &[u8], &mut [u8]) -> u64;
 /// Posts: tariff, book, trip, record, and the answer's number.
 pub type Post = fn(&[u8], &mut [u8], &[u8], &[u8]) -> u64;
 
+/// Reads: statement, offset, fields, and the answer's number.
+pub type Read = fn(&[u8], usize, &mut [u8]) -> u64;
+
 #[derive(Clone, Copy)]
 pub struct Functions {
     pub check: Check,
     pub settle: Settle,
     pub quote: Quote,
     pub post: Post,
+    pub read: Read,
 }
 
 /// The model, called as the library is.
@@ -28,6 +32,7 @@ pub const MODEL: Functions = Functions {
     settle: settle_by_the_model,
     quote: |tariff, book, trip, statement| number_of(model::quote(tariff, book, trip, statement)),
     post: |tariff, book, trip, record| number_of(model::post(tariff, book, trip, record)),
+    read: |statement, at, fields| number_of(model::read(statement, at, fields)),
 };
 
 pub fn settle_by_the_model(tariff: &[u8], book: &mut [u8], trip: &[u8], statement: &mut [u8]) -> u64 {

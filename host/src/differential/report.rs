@@ -2,6 +2,7 @@
 
 use super::books::{word, BICYCLES, BYTES, PAYMENTS, WORDS};
 use super::cases::{Call, Case};
+use super::statements::Asked;
 use crate::answer::Answer;
 
 /// All that is needed to run the case again. The lines of bytes are as the maker reads them.
@@ -24,6 +25,16 @@ pub fn call_in_words(case: &Case, call: Call) -> String {
         Call::Settle | Call::Quote => format!("{}, with a statement of {} bytes\n", call.done(), case.room),
         Call::Post(record) => format!("posted, with a record of {} bytes:{}\n", record.len(), hexadecimal(record)),
     }
+}
+
+/// All that is needed to read the record again.
+pub fn asked_in_words(asked: &Asked) -> String {
+    let Asked { statement, at, room, story } = asked;
+    let (story, bytes) = (story.join(", "), hexadecimal(statement));
+    format!(
+        "made as: {story}\nstatement of {} bytes:{bytes}\nread at {at}, into fields of {room} bytes\n",
+        statement.len()
+    )
 }
 
 /// What an answer's number stands for.

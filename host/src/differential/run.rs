@@ -5,10 +5,12 @@ use super::counts::Counts;
 use super::functions::{number_of, Functions};
 use super::guarded::{Guarded, Page};
 use super::offers::Offer;
-use super::report::{answer_in_words, books_differ, call_in_words, case_in_words, slices_differ};
+use super::report::{answer_in_words, asked_in_words, books_differ, call_in_words, case_in_words, slices_differ};
 use super::signals::{now_at, set_alarm};
+use super::statements::Asked;
 use crate::model::statement::ChargeRecord;
 use crate::model::{self, Refusal};
+use std::mem::take;
 
 /// A difference, in words.
 pub type Difference = String;
@@ -20,8 +22,12 @@ pub struct Run {
     tariff: Guarded,
     book: Guarded,
     trip: Guarded,
-    /// The statement, or a posting's record.
+    /// The statement, a posting's record, or the fields of a reading.
     fourth: Guarded,
+    /// A statement that is read.
+    kept: Guarded,
+    /// What was settled in this part of the run.
+    settled: Vec<Vec<u8>>,
     /// The last tariff that was checked alone.
     checked: Vec<u8>,
     pub counts: Counts,
@@ -50,9 +56,10 @@ impl Outcome {
 
 impl Run {
     pub fn of(name: &'static str, functions: Functions, print: bool) -> Run {
-        let [tariff, book, trip, fourth] = [(); 4].map(|_| Guarded::new());
-        let (checked, counts) = (Vec::new(), Counts::default());
-        Run { name, functions, tariff, book, trip, fourth, checked, counts, print, seed: 0, part: 0, case: 0 }
+        let [tariff, book, trip, fourth, kept] = [(); 5].map(|_| Guarded::new());
+        let (settled, checked, counts) = (Vec::new(), Vec::new(), Counts::default());
+        let (seed, part, case) = (0, 0, 0);
+        Run { name, functions, tariff, book, trip, fourth, kept, settled, checked, counts, print, seed, part, case }
     }
 
     pub fn start_part(&mut self, seed: u64, part: u64) {
@@ -67,6 +74,7 @@ impl Run {
         match outcome.answer {
             Ok(written) => {
                 let records = &outcome.fourth[..written];
+                self.settled.push(records.to_vec());
                 let records = ChargeRecord::read_all(records).expect("the model writes charge records");
                 self.counts.count_accepted(case, &records);
             }
@@ -106,13 +114,60 @@ impl Run {
         Ok(outcome)
     }
 
-    /// Makes a call on both sides.
-    fn run(&mut self, case: &Case, call: Call) -> Result<Outcome, Difference> {
+    /// The statements that were settled since the part began or they were taken last.
+    pub fn take_settled(&mut self) -> Vec<Vec<u8>> {
+        take(&mut self.settled)
+    }
+
+    /// Reads a record on both sides. The answer is its bytes, or nothing where it is refused.
+    pub fn check_read(&mut self, asked: &Asked) -> Result<Option<usize>, Difference> {
+        self.next_case(|| asked_in_words(asked));
+        let lent = blank_statement(asked.room, self.case);
+        let mut due = lent.clone();
+        let answer = model::read(&asked.statement, asked.at, &mut due);
+        self.kept.hold(&asked.statement, self.page(0));
+        self.fourth.hold(&lent, self.page(1));
+        let Run { functions, kept, fourth, .. } = self;
+        let is_locked = self.case.is_multiple_of(16);
+        let number = kept.locked(is_locked, |kept| (functions.read)(kept, asked.at, fourth.bytes_mut()));
+        let name = self.name;
+        let mut faults: Vec<String> = self.answers_differ(answer, number).into_iter().collect();
+        faults.extend(slices_differ("the fields", &due, self.fourth.bytes(), name));
+        if number >> 32 != 0 && self.fourth.bytes() != lent {
+            faults.push(format!("{name} refused, and changed the fields"));
+        }
+        if self.kept.bytes() != asked.statement {
+            faults.push(format!("{name} changed the statement"));
+        }
+        faults.extend(self.beside([("statement", &self.kept), ("fields", &self.fourth)]));
+        if !faults.is_empty() {
+            return Err(self.difference_reading(asked, &faults));
+        }
+        self.counts.readings.count(asked, answer);
+        Ok(answer.ok())
+    }
+
+    /// A case begins; it is told where each is printed.
+    fn next_case(&mut self, told: impl FnOnce() -> String) {
         self.case += 1;
         now_at(self.seed, self.part, self.case);
         if self.print {
-            println!("case {}\n{}{}", self.case, case_in_words(case), call_in_words(case, call));
+            println!("case {}\n{}", self.case, told());
         }
+    }
+
+    /// Which side the protected page is on, for one of the slices of this case.
+    fn page(&self, slice: u32) -> Page {
+        if (self.case >> slice) & 1 == 0 {
+            Page::After
+        } else {
+            Page::Before
+        }
+    }
+
+    /// Makes a call on both sides.
+    fn run(&mut self, case: &Case, call: Call) -> Result<Outcome, Difference> {
+        self.next_case(|| case_in_words(case) + &call_in_words(case, call));
         let lent = match call {
             Call::Post(record) => record.to_vec(),
             _ => blank_statement(case.room, self.case),
@@ -136,8 +191,7 @@ impl Run {
     /// Makes the call on the other side, each slice beside a protected page. Which side the page is on changes from case to
     /// case, for each slice by itself. At times what is only read lies in protected pages itself.
     fn call_guarded(&mut self, case: &Case, call: Call, lent: &[u8]) -> u64 {
-        let page = |bit: u64| if (self.case >> bit) & 1 == 0 { Page::After } else { Page::Before };
-        let pages = [page(0), page(1), page(2), page(3)];
+        let pages = [0, 1, 2, 3].map(|slice| self.page(slice));
         self.tariff.hold(&case.tariff, pages[0]);
         self.book.hold(&case.book, pages[1]);
         self.trip.hold(&case.trip, pages[2]);
@@ -157,12 +211,7 @@ impl Run {
     /// What is wrong after the other side was called, with this fourth slice, and answered this number.
     fn faults(&self, case: &Case, call: Call, lent: &[u8], model: &Outcome, number: u64) -> Vec<String> {
         let name = self.name;
-        let mut faults = Vec::new();
-        let due = number_of(model.answer);
-        if number != due {
-            let (due, found) = (answer_in_words(due), answer_in_words(number));
-            faults.push(format!("the answer differs\n  by the model: {due}\n  by {name}: {found}"));
-        }
+        let mut faults: Vec<String> = self.answers_differ(model.answer, number).into_iter().collect();
         let is_refused = number >> 32 != 0;
         let (did, fourth) = (if is_refused { "refused" } else { call.done() }, call.fourth());
         faults.extend(books_differ(&model.book, self.book.bytes(), name));
@@ -180,23 +229,35 @@ impl Run {
             faults.push(format!("{name} changed the trip"));
         }
         let slices = [("tariff", &self.tariff), ("book", &self.book), ("trip", &self.trip), (fourth, &self.fourth)];
-        for (what, slice) in slices {
-            if !slice.canaries_stand() {
-                faults.push(format!("{name} wrote beside the {what}"));
-            }
-        }
+        faults.extend(self.beside(slices));
         faults
+    }
+
+    fn answers_differ(&self, model: Result<usize, Refusal>, number: u64) -> Option<String> {
+        let (name, due) = (self.name, number_of(model));
+        let told = |due, found| format!("the answer differs\n  by the model: {due}\n  by {name}: {found}");
+        (number != due).then(|| told(answer_in_words(due), answer_in_words(number)))
+    }
+
+    /// The slices beside which something was written.
+    fn beside<const MANY: usize>(&self, slices: [(&str, &Guarded); MANY]) -> Vec<String> {
+        let broken = slices.into_iter().filter(|(_, slice)| !slice.canaries_stand());
+        broken.map(|(what, _)| format!("{} wrote beside the {what}", self.name)).collect()
     }
 
     /// Tells what is wrong with a call.
     pub fn difference(&self, case: &Case, call: Call, faults: &[String]) -> Difference {
-        let Run { seed, part, case: number, .. } = self;
-        format!(
-            "difference at seed {seed}, part {part}, case {number}; --seed {seed} --part {part} repeats it\n{}{}{}",
-            case_in_words(case),
-            call_in_words(case, call),
-            faults.join("\n")
-        )
+        self.told(&(case_in_words(case) + &call_in_words(case, call)), faults)
+    }
+
+    /// Tells what is wrong with a reading.
+    pub fn difference_reading(&self, asked: &Asked, faults: &[String]) -> Difference {
+        self.told(&asked_in_words(asked), faults)
+    }
+
+    fn told(&self, what: &str, faults: &[String]) -> Difference {
+        let (Run { seed, part, case, .. }, faults) = (self, faults.join("\n"));
+        format!("difference at seed {seed}, part {part}, case {case}; --seed {seed} --part {part} repeats it\n{what}{faults}")
     }
 }
 

@@ -3,6 +3,7 @@
 
 use super::record::Fields;
 use super::Minutes;
+use std::fmt;
 
 pub const MINUTES_IN_A_DAY: Minutes = 1_440;
 pub const FIRST_YEAR: u64 = 2000;
@@ -69,6 +70,42 @@ impl Stamp {
         let earlier_years: u64 = (FIRST_YEAR..self.year).map(days_in_year).sum();
         let earlier_months: u64 = (1..self.month).map(|month| days_in_month(self.year, month)).sum();
         earlier_years + earlier_months + self.day - 1
+    }
+}
+
+/// A date and a clock time of UTC.
+#[derive(Clone, Copy, Debug, PartialEq, Eq)]
+pub struct Moment {
+    pub year: u64,
+    pub month: u64,
+    pub day: u64,
+    pub hour: u64,
+    pub minute: u64,
+}
+
+impl Moment {
+    /// That of a minute number: the years that have passed are taken off its days, then the months.
+    pub fn of(minute: Minutes) -> Moment {
+        let (mut days, of_the_day) = (minute / MINUTES_IN_A_DAY, minute % MINUTES_IN_A_DAY);
+        let (mut year, mut month) = (FIRST_YEAR, 1);
+        while days >= days_in_year(year) {
+            days -= days_in_year(year);
+            year += 1;
+        }
+        while days >= days_in_month(year, month) {
+            days -= days_in_month(year, month);
+            month += 1;
+        }
+        let (hour, minute) = (of_the_day / MINUTES_IN_AN_HOUR, of_the_day % MINUTES_IN_AN_HOUR);
+        Moment { year, month, day: days + 1, hour, minute }
+    }
+}
+
+/// Like 2026-10-31T22:50Z.
+impl fmt::Display for Moment {
+    fn fmt(&self, out: &mut fmt::Formatter) -> fmt::Result {
+        let Moment { year, month, day, hour, minute } = self;
+        write!(out, "{year:04}-{month:02}-{day:02}T{hour:02}:{minute:02}Z")
     }
 }
 

@@ -7,6 +7,7 @@ pub const HEAD: usize = 4;
 
 pub const KIND_AREA: u64 = 1;
 pub const KIND_STOP: u64 = 2;
+pub const KIND_CHARGES_ALONE: u64 = 4;
 pub const KIND_FACTOR: u64 = 5;
 pub const KIND_CHARGE: u64 = 6;
 pub const KIND_TRIP: u64 = 7;

@@ -7,7 +7,7 @@ pub struct Planted {
     pub edits: &'static [(&'static str, &'static str, &'static str)],
 }
 
-pub const PLANTED: [Planted; 18] = [
+pub const PLANTED: [Planted; 22] = [
     // Promise 1: a refusal changes nothing, and the refusals are tried in their order.
     Planted {
         name: "refusal_12_writes_the_book",
@@ -154,5 +154,26 @@ pub const PLANTED: [Planted; 18] = [
             "unless(record == bytes_of(&charge_records), 13)?;",
             "book.copy_from_slice(&new_book.bytes()); unless(record == bytes_of(&charge_records), 13)?;",
         )],
+    },
+    // Reading our own statements: charge and reduction together, 31 charges, the order of the refusals, what a bicycle is told with.
+    Planted {
+        name: "charge_alone_compared",
+        edits: &[("reading.rs", "charge.cents + charge.reduction > MOST_CENTS", "charge.cents > MOST_CENTS")],
+    },
+    Planted {
+        name: "kind_4_of_32_charges",
+        edits: &[("reading.rs", "const MOST_CHARGES: usize = 31;", "const MOST_CHARGES: usize = 32;")],
+    },
+    Planted {
+        name: "fields_before_the_record",
+        edits: &[(
+            "reading.rs",
+            "let (told, size) = read_record(statement, at)?;",
+            "unless(fields.len() >= 24, 12)?; let (told, size) = read_record(statement, at)?;",
+        )],
+    },
+    Planted {
+        name: "no_cap_told_as_area_0",
+        edits: &[("reading.rs", "(1, area), (1, class)", "(1, area % 255), (1, class)")],
     },
 ];

@@ -5,8 +5,10 @@ use Prim.Native.Nat.{_<_}
 use mathlib.Core.Path.{_≡_, refl}
 use borrow.Author.Needs.{needs}
 use lib.ListN.{length}
-use Rattle.settle_roll.specs.Contracts.{InRange, left, Running}
-use Rattle.settle_roll.proofs.Turns.{on-by, last-by}
+use Rattle.streams.specs.Flows.{InRange, left}
+use Rattle.lines.specs.Contracts.{mostTurn}
+use Rattle.settle_roll.specs.Contracts.{Running, recordsLeft}
+use Rattle.settle_roll.proofs.Turns.{on-by, last-by, counting-by}
 use Rattle.settle_roll.proofs.run.settle_all.Statement.{statement}
 use Rattle.settle_roll.proofs.run.settle_all.Tie as tie
 
@@ -15,7 +17,7 @@ Inv-loop tariff counts book₀ input₀ out₀ run₀ book input out run =
     Running tariff counts book input out run × (length book ≡ length book₀)
 
 abbrev μ-loop : tie.MeasureT-loop
-μ-loop tariff counts book₀ input₀ out₀ run₀ book input out run = left run
+μ-loop tariff counts book₀ input₀ out₀ run₀ book input out run = left recordsLeft (run .flow) (record { book = book; tally = run .tally })
 
 loop-holds : tie.Need-loop-holds Inv-loop μ-loop
 loop-holds c = (c .before .before .before .before .pre .running, refl)
@@ -29,22 +31,31 @@ enum-known-on c = search needs
 -- what a step that goes on leaves
 onward :
     (c : tie.After-known-told Inv-loop μ-loop)
-    → InRange (c .before .on .given .0 .0) × (left (c .before .on .given .0 .0) < left (c .before .before .before .before .before .before .before .before .before .before .before .before .before .loop .run))
-onward c = on-by (c .before .before .before .before .before .before .before .before .before .take-step .ensures .advanced) (c .before .on .given .1)
+    → InRange mostTurn (c .before .on .given .0 .0 .flow)
+    × (left recordsLeft (c .before .on .given .0 .0 .flow) (record { book = c .before .before .before .before .before .before .before .before .before .take-step .last .1 .1 .0; tally = c .before .on .given .0 .0 .tally })
+    < left recordsLeft (c .before .before .before .before .before .before .before .before .before .before .before .before .before .loop .run .flow) (record { book = c .before .before .before .before .before .before .before .before .before .before .before .before .before .loop .book; tally = c .before .before .before .before .before .before .before .before .before .before .before .before .before .loop .run .tally }))
+onward c = on-by _ _ (c .before .before .before .before .before .before .before .before .before .take-step .ensures .advanced) (c .before .on .given .1)
 
 loop-less : tie.Need-loop-less Inv-loop μ-loop
 loop-less c = onward c .1
 
 loop-again : tie.Need-loop-again Inv-loop μ-loop
 loop-again c =
-    let step = c .before .before .before .before .before .before .before .before .before .take-step in
-    (record { ready = step .ensures .again; sizes = record { of-input = omega arith; of-out = omega arith }; range = onward c .0 }, omega arith)
+    let step = c .before .before .before .before .before .before .before .before .before .take-step in (
+      record {
+        ready = step .ensures .again;
+        sizes = record { of-input = omega arith; of-out = omega arith };
+        range = onward c .0;
+        counting = counting-by (step .ensures .counting) (c .before .on .given .1);
+      },
+      omega arith,
+    )
 
 enum-known-end : tie.Need-enum-known-end Inv-loop μ-loop
 enum-known-end c = search needs
 
 write-requires : tie.Need-write-requires Inv-loop μ-loop
-write-requires c κs = omega (arith, last-by (c .before .before .before .before .before .before .before .before .before .before .take-step .ensures .advanced) (c .before .before .end .given .1), c .before .before .before .before .before .before .before .before .before .before .before .before .before .before .loop .inv .0 .sizes .of-out)
+write-requires c κs = omega (arith, last-by _ _ (c .before .before .before .before .before .before .before .before .before .before .take-step .ensures .advanced) (c .before .before .end .given .1), c .before .before .before .before .before .before .before .before .before .before .before .before .before .before .loop .inv .0 .sizes .of-out)
 
 same-length : tie.Need-same-length Inv-loop μ-loop
 same-length c = omega arith

@@ -34,13 +34,8 @@ settle-all-requires c κs =
           record {
             ready = record { read = start .pre; sound-book = fresh .sound-book _ };
             sizes = record { of-input = search needs; of-out = header .kept .0 };
-            range =
-                record {
-                  order = omega arith;
-                  inside = omega arith;
-                  room = omega (arith, header .ensures .room);
-                  counting = record { few = omega arith; cents = omega arith };
-                };
+            range = record { order = omega arith; inside = omega arith; room-left = omega (arith, header .ensures .room) };
+            counting = record { few = omega arith; cents = omega arith };
           };
       at-start = begins (fresh .is) (header .ensures .put);
     }

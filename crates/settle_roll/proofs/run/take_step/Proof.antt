@@ -2,7 +2,7 @@
 -- Assumes nothing.
 use native.Mathlib.Omega.{arith}
 use borrow.Author.Needs.{needs}
-use Rattle.settle_roll.proofs.Turns.{more-room, fed-on, fits, on-range, on-made, at-last}
+use Rattle.settle_roll.proofs.Turns.{room-for-more, asked-on, still-counting, fits, on-inside, on-counting, on-made, over}
 use Rattle.settle_roll.proofs.run.take_step.Statement.{statement}
 use Rattle.settle_roll.proofs.run.take_step.Tie as tie
 
@@ -23,30 +23,36 @@ enum-told c = search needs
 
 read-more-requires : tie.Need-read-more-requires
 read-more-requires c κs =
-    let start = c .before .before .before .before .before .before .before .before .before .before .before .before .before .before .before .before .before in
+    let start = c .before .before .before .before .before .before .before .before .before .before .before .before .before .before .before .before .before .before in
     let turned = c .before .before .before .before .before .before .before .before .take-turn in
-    let room = more-room (start .args .input .now) (start .pre .range) (start .pre .sizes .of-input) (turned .ensures) (c .before .before .enum-told .given .1) in
+    let room = room-for-more (start .args .input .now) (start .pre .range) (start .pre .sizes .of-input) (turned .ensures) (c .before .before .enum-told .given .1) in
     record {
       sizes = record { of-input = start .pre .sizes .of-input; of-out = omega (arith, start .pre .sizes .of-out) };
-      range = start .pre .range;
+      range = record { order = start .pre .range .order; inside = start .pre .range .inside; fits = omega (arith, start .pre .range .room-left) };
       more = room .0;
       room = room .1;
     }
 
+go-on-requires : tie.Need-go-on-requires
+go-on-requires c κs = search needs
+
 enum-known-used : tie.Need-enum-known-used
 enum-known-used c = search needs
 
-add-t29 : tie.Need-add-t29
-add-t29 c =
-    let start = c .before .before .before .before .before .before .before .before .before .before .before .before .before .before .before .before in
+add-t31 : tie.Need-add-t31
+add-t31 c =
+    let start = c .before .before .before .before .before .before .before .before .before .before .before .before .before .before .before .before .before in
     let turned = c .before .before .before .before .before .before .before .take-turn in
     omega (arith, start .pre .range .inside, fits (start .args .input .now) (start .pre .range) (start .pre .sizes .of-input) (turned .ensures) (c .before .used .given .1))
 
 make-room-requires : tie.Need-make-room-requires
 make-room-requires c κs =
-    let start = c .before .before .before .before .before .before .before .before .before .before .before .before .before .before .before .before .before in
+    let start = c .before .before .before .before .before .before .before .before .before .before .before .before .before .before .before .before .before .before in
     let turned = c .before .before .before .before .before .before .before .before .take-turn in
-    (omega (arith, start .pre .sizes .of-out), on-range (start .args .input .now) (start .pre .range) (start .pre .sizes .of-input) (turned .ensures) (c .before .before .used .given .1))
+    (omega (arith, start .pre .sizes .of-out), (on-inside (start .args .input .now) (start .pre .range) (start .pre .sizes .of-input) (turned .ensures) (c .before .before .used .given .1), omega arith))
+
+go-on-requires-2 : tie.Need-go-on-requires-2
+go-on-requires-2 c κs = search needs
 
 enum-known-end : tie.Need-enum-known-end
 enum-known-end c = search needs
@@ -62,9 +68,15 @@ same-length-3 c = search needs
 
 returns : tie.Need-returns
 returns c =
-    let start = c .before .before .before .before .before .before .before .before .before .before .before .before .before .before .before .before .before .before .before .before in
-    let turned = c .before .before .before .before .before .before .before .before .before .before .before .take-turn in
-    record { again = turned .ensures .again; advanced = fed-on (start .args .input .now) (start .pre .range) (start .pre .sizes .of-input) (turned .ensures) _ _ (c .before .before .before .before .before .enum-told .given .1) (c .before .before .read-more .ensures) }
+    let start = c .before .before .before .before .before .before .before .before .before .before .before .before .before .before .before .before .before .before .before .before .before .before in
+    let turned = c .before .before .before .before .before .before .before .before .before .before .before .before .take-turn in
+    let read = c .before .before .before .read-more in
+    rw (c .go-on .ensures)
+    (record {
+      again = turned .ensures .again;
+      counting = still-counting (read .result) (start .args .run .tally) (start .pre .counting);
+      advanced = asked-on (start .args .input .now) (start .pre .range) (start .pre .sizes .of-input) (turned .ensures) _ (read .result) (c .before .before .before .before .before .before .enum-told .given .1) (read .ensures);
+    })
 
 same-length-4 : tie.Need-same-length-4
 same-length-4 c = search needs
@@ -77,9 +89,15 @@ same-length-6 c = search needs
 
 returns-2 : tie.Need-returns-2
 returns-2 c =
-    let start = c .before .before .before .before .before .before .before .before .before .before .before .before .before .before .before .before .before .before in
-    let turned = c .before .before .before .before .before .before .before .before .before .take-turn in
-    record { again = turned .ensures .again; advanced = on-made (start .args .input .now) (start .pre .range) (start .pre .sizes .of-input) (turned .ensures) (c .before .before .before .used .given .1) _ (c .make-room .ensures) }
+    let start = c .before .before .before .before .before .before .before .before .before .before .before .before .before .before .before .before .before .before .before .before in
+    let turned = c .before .before .before .before .before .before .before .before .before .before .take-turn in
+    let made = c .before .make-room in
+    rw (c .go-on2 .ensures)
+    (record {
+      again = turned .ensures .again;
+      counting = on-counting (start .args .input .now) (start .pre .range) (start .pre .sizes .of-input) (turned .ensures) (c .before .before .before .before .used .given .1) (made .result);
+      advanced = on-made (start .args .input .now) (start .pre .range) (start .pre .sizes .of-input) (turned .ensures) (c .before .before .before .before .used .given .1) (made .result) (made .ensures);
+    })
 
 same-length-7 : tie.Need-same-length-7
 same-length-7 c = search needs
@@ -92,9 +110,9 @@ same-length-9 c = search needs
 
 returns-3 : tie.Need-returns-3
 returns-3 c =
-    let start = c .before .before .before .before .before .before .before .before .before .before .before .before .before .before .before .before in
+    let start = c .before .before .before .before .before .before .before .before .before .before .before .before .before .before .before .before .before in
     let turned = c .before .before .before .before .before .before .before .take-turn in
-    record { again = turned .ensures .again; advanced = at-last (start .args .input .now) (start .pre .range) (start .pre .sizes .of-input) (turned .ensures) (c .before .end .given .1) }
+    record { again = turned .ensures .again; counting = tt; advanced = over (start .args .input .now) (start .pre .range) (start .pre .sizes .of-input) (turned .ensures) (c .before .end .given .1) }
 
 pub take-step-spec : {M : Type 1} → statement M
 take-step-spec =
@@ -106,9 +124,11 @@ take-step-spec =
     take-turn-requires
     enum-told
     read-more-requires
+    go-on-requires
     enum-known-used
-    add-t29
+    add-t31
     make-room-requires
+    go-on-requires-2
     enum-known-end
     same-length
     same-length-2

@@ -1,0 +1,74 @@
+// A run's two buffers: bytes come into the one, are used, and what is put goes out of the other.
+use crate::input::keep;
+use crate::input::read_next;
+use crate::output::write;
+ghost use Prim.Native.Nat.{_≤_};
+ghost use mathlib.Core.Path.{_≡_};
+ghost use lib.ListN.{length};
+ghost use Rattle.streams.specs.Flows.{outputSize, Inside, MoreToRead, CameMore, Made};
+
+// Room for the bytes that come: a record has 1,026 at most.
+pub const INPUT: usize = 8_192;
+
+// Room for what is put and not written yet.
+pub const OUTPUT: usize = 8_192;
+
+// How far a run has come: the bytes read and not used yet stand from `from` to `to` in the input, more may come or not, and the output has
+// bytes up to `end` that are not written yet.
+pub struct Flow {
+    pub from: usize,
+    pub to: usize,
+    pub more: bool,
+    pub end: usize,
+}
+
+// What comes after bytes are read or written.
+pub enum Flowed {
+    // another turn
+    On(Flow),
+    // nothing: no more could be read or written, which was told on standard error
+    Stopped,
+}
+
+// The bytes that are not used yet, and the next ones behind them. After a failed read no turn is taken: what was put so far is written.
+pub fn read_more(input: &mut [u8], out: &[u8], flow: Flow) -> Flowed
+    requires { ⌜ MoreToRead (now input) (now out) flow ⌝ }
+    ensures { λ r. ⌜ CameMore flow (now (input .entry)) (now (input .exit)) r ⌝ }
+{
+    let end = flow.end;
+    let kept = keep(input, flow.from, flow.to);
+    let got = read_next(input, kept);
+    if got.failed {
+        write(out, end);
+        return Flowed::Stopped;
+    }
+    Flowed::On(Flow {
+        from: 0,
+        to: kept + got.bytes,
+        more: 0 < got.bytes,
+        end,
+    })
+}
+
+// What has been put is written as soon as a turn might not find its room.
+pub fn make_room(out: &[u8], room: usize, flow: Flow) -> Flowed
+    requires { ⌜ (length (now out) ≡ outputSize) × (Inside flow × (room ≤ outputSize)) ⌝ }
+    ensures { λ r. ⌜ Made room flow r ⌝ }
+{
+    let from = flow.from;
+    let to = flow.to;
+    let more = flow.more;
+    let end = flow.end;
+    if room <= out.len() - end {
+        return Flowed::On(flow);
+    }
+    if write(out, end) {
+        return Flowed::On(Flow {
+            from,
+            to,
+            more,
+            end: 0,
+        });
+    }
+    Flowed::Stopped
+}

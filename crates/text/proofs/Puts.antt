@@ -1,0 +1,75 @@
+-- Texts put one in front of another, and one behind another.
+-- Assumes nothing.
+use Prim.Native.Nat.{ℕ, suc, _+_, _-_, _≤_, _<_}
+use native.Mathlib.Numerals.{add-one}
+use native.Mathlib.Omega.{arith}
+use mathlib.Core.Path.{_≡_, refl, ap, _∙_}
+use mathlib.Core.List.{List, [], _∷_, _++_, append-nil, append-assoc}
+use lib.ListN.{length, getD, take, drop, set, length-drop, drop-of-length-le}
+use lib.Seq.{take-suc, take-suc-set, take-all, take-length}
+use Rattle.text.specs.Contracts.{Before, Behind}
+use Rattle.text.proofs.Decimal.{set-front}
+
+-- a text in front of another
+pub before-join :
+    {first second : List ℕ} {m n : ℕ} {a b c : List ℕ} {end middle start : ℕ}
+    → Before second n a end b middle → Before first m b middle c start → Before (first ++ second) (m + n) a end c start
+before-join {first = first} x y =
+    record { put = y .put ∙ rw (x .put, append-assoc); order = omega arith; room = omega arith }
+
+-- a text behind another
+pub behind-join :
+    {first second : List ℕ} {m n : ℕ} {a b c : List ℕ} {place middle end : ℕ}
+    → Behind first m a place b middle → Behind second n b middle c end → Behind (first ++ second) (m + n) a place c end
+behind-join x y = record { put = y .put ∙ rw (x .put, append-assoc); order = omega arith; room = omega arith }
+
+-- the same text in other words, with more room to spare
+pub behind-same :
+    {text same : List ℕ} {m n : ℕ} {a b : List ℕ} {place end : ℕ}
+    → Behind text m a place b end → text ≡ same → m ≤ n → Behind same n a place b end
+behind-same {a = a} {place = place} x is wide =
+    record { put = x .put ∙ ap (take place a ++_) is; order = x .order; room = omega arith }
+
+-- one byte in front
+pub byte-before :
+    (text : List ℕ) (place value : ℕ) → 0 < place → place ≤ length text → Before (value ∷ []) 1 text place (set text (place - 1) value) (place - 1)
+byte-before text place value some within = record { put = set-front text place value some within; order = omega arith; room = omega arith }
+
+-- ---- A text copied byte by byte.
+
+module _ (before text : List ℕ) (place : ℕ) where
+  pub none-copied : take (place + 0) before ≡ take place before ++ take 0 text
+  none-copied = let same : place + 0 ≡ place = omega arith in rw (same, append-nil (take place before))
+
+  pub byte-copied :
+      (after : List ℕ) (i : ℕ) → i < length text → place + i < length after → take (place + i) after ≡ take place before ++ take i text
+      → take (place + (i + 1)) (set after (place + i) (getD text i 0)) ≡ take place before ++ take (i + 1) text
+  byte-copied after i some room so-far =
+      let one : place + (i + 1) ≡ suc (place + i) = omega arith in
+      rw (one, take-suc-set after (place + i) (getD text i 0) room, so-far, add-one i, take-suc text i 0 some, append-assoc)
+
+  pub all-copied :
+      (after : List ℕ) (n : ℕ) → n ≡ length text → take (place + n) after ≡ take place before ++ take n text
+      → Behind text (length text) before place after (place + length text)
+  all-copied after n is so-far =
+      record {
+        put = rw is at so-far ∙ ap (take place before ++_) (take-length text);
+        order = omega arith;
+        room = omega arith;
+      }
+
+-- ---- A text that is put together from its end on.
+
+-- the part of a buffer from a place on, to be copied
+module _ (text : List ℕ) (start size : ℕ) (all : length text ≤ size) where
+  pub rest : take (size - start) (drop start text) ≡ drop start text
+  rest = take-all (size - start) (drop start text) (omega (arith, length-drop start text))
+
+  pub rest-short : length (take (size - start) (drop start text)) ≤ size
+  rest-short = omega (arith, length-drop start text, ap length rest)
+
+-- nothing stands from a buffer's end on
+pub from-end :
+    {text : List ℕ} {most : ℕ} {before : List ℕ} {end : ℕ} {after : List ℕ} {start : ℕ}
+    → Before text most before end after start → length before ≤ end → drop start after ≡ text
+from-end {text = text} {before = before} x all = x .put ∙ rw (drop-of-length-le before all, append-nil text)

@@ -1,0 +1,6 @@
+// Words and numbers in decimal, put into a buffer that the caller lends. Whatever is printed is put together of these.
+//
+// digits.rt  numbers in decimal, in front of a place
+// behind.rt  words and numbers, behind a place
+pub mod behind;
+pub mod digits;
