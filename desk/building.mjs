@@ -1,0 +1,52 @@
+// The engine's file for the command: built on first use, and told while that goes on.
+import { spawn } from 'node:child_process';
+import fs from 'node:fs';
+import path from 'node:path';
+import { createInterface } from 'node:readline';
+
+const PATIENCE = 2000; // milliseconds without a word; looking whether something has changed takes less
+
+/** The path of milecopper.wasm, built where it is not there or not of this state; null where that failed. */
+export async function builtWasm(root, words, tell) {
+    const first = !fs.existsSync(path.join(root, 'target/native/milecopper.wasm'));
+    if (first) await proved(root, words, tell);
+    const told = setTimeout(() => !first && tell(words.building), PATIENCE);
+    const lines = [];
+    const status = await run(root, path.join(root, 'host/built'), ['wasm'], 'inherit', (line) => lines.push(line));
+    clearTimeout(told);
+    return status === 0 ? lines.at(-1) : null;
+}
+
+/** Proves the library's crates, which is what takes time, and tells of each. Whether it went well, the building shows. */
+async function proved(root, words, tell) {
+    const all = cratesBelow(root, 'milecopper').size;
+    let crate = 0;
+    tell(words.building);
+    await run(root, 'rt', ['check', 'milecopper'], 'ignore', (line) => {
+        const found = /^rt: (\S+) proved \((unchanged)?/.exec(line);
+        if (!found) return;
+        crate += 1;
+        if (!found[2]) tell(words.proved(crate, all, found[1]));
+    });
+}
+
+/** A crate and all that it stands on: crates.txt has each below those. */
+function cratesBelow(root, name) {
+    const due = new Set([name]);
+    const lines = fs.readFileSync(path.join(root, 'crates.txt'), 'utf8').split('\n').reverse();
+    for (const line of lines) {
+        const [crate, ...below] = line.split(/[: ]+/).filter(Boolean);
+        if (due.has(crate)) for (const other of below) due.add(other);
+    }
+    return due;
+}
+
+/** Runs a program, gives each line that it prints to `take`, and answers its status; 127 where there is none such. */
+function run(cwd, program, args, errors, take) {
+    return new Promise((resolve) => {
+        const child = spawn(program, args, { cwd, stdio: ['ignore', 'pipe', errors] });
+        createInterface({ input: child.stdout }).on('line', take);
+        child.on('error', () => resolve(127));
+        child.on('close', (status) => resolve(status ?? 1));
+    });
+}

@@ -1,0 +1,254 @@
+// What is amiss in the files, by file and line, in words: both languages beside each other. Errors are what has to be
+// mended before anything is priced; warnings are what is priced as it stands and should be looked at.
+
+const meant = {
+    de: (near) => (near ? `; war '${near}' gemeint?` : ''),
+    en: (near) => (near ? `; did you mean '${near}'?` : ''),
+};
+
+const TEXTS = {
+    // a file as a whole
+    missing: {
+        de: () => 'die Datei fehlt',
+        en: () => 'the file is missing',
+    },
+    encoding: {
+        de: () => "kein UTF-8; die Datei bitte als 'CSV UTF-8' speichern",
+        en: () => "not UTF-8; please save the file as 'CSV UTF-8'",
+    },
+    empty: {
+        de: () => 'die Datei ist leer; ihre erste Zeile muss die Spalten nennen',
+        en: () => 'the file is empty; its first line has to name the columns',
+    },
+    quote: {
+        de: () => 'ein Anführungszeichen ist nicht geschlossen, oder dahinter steht noch Text',
+        en: () => 'a quotation mark is not closed, or text stands behind it',
+    },
+    columnMissing: {
+        de: ({ column }) => `die Spalte '${column}' fehlt`,
+        en: ({ column }) => `the column '${column}' is missing`,
+    },
+    columnTwice: {
+        de: ({ column }) => `die Spalte '${column}' ist zweimal da`,
+        en: ({ column }) => `the column '${column}' is there twice`,
+    },
+    columnNear: {
+        de: ({ column, near }) => `Spalte '${column}': keine solche Spalte${meant.de(near)}`,
+        en: ({ column, near }) => `column '${column}': no such column${meant.en(near)}`,
+    },
+    columnUnknown: {
+        de: ({ column }) => `Spalte '${column}': unbekannt, wird nicht gelesen`,
+        en: ({ column }) => `column '${column}': not known, not read`,
+    },
+    fieldCount: {
+        de: ({ found, due }) =>
+            `${found} Felder statt ${due} wie in der Kopfzeile; ein Komma in einem Feld verlangt Anführungszeichen`,
+        en: ({ found, due }) =>
+            `${found} fields instead of ${due} as in the header; a comma within a field needs quotation marks`,
+    },
+    // a field by itself
+    blank: {
+        de: ({ column }) => `${column} ist leer`,
+        en: ({ column }) => `${column} is empty`,
+    },
+    notNumber: {
+        de: ({ column, value, least, most }) => `${column} '${value}': keine ganze Zahl von ${least} bis ${most}`,
+        en: ({ column, value, least, most }) => `${column} '${value}': not a whole number from ${least} to ${most}`,
+    },
+    notAmount: {
+        de: ({ column, value, most }) =>
+            `${column} '${value}': kein Betrag in Euro von 0,00 bis ${most.replace('.', ',')}`,
+        en: ({ column, value, most }) => `${column} '${value}': not an amount in euros from 0.00 to ${most}`,
+    },
+    notOneOf: {
+        de: ({ column, value, allowed }) => `${column} '${value}': erlaubt ist ${allowed.join(', ')}`,
+        en: ({ column, value, allowed }) => `${column} '${value}': allowed is ${allowed.join(', ')}`,
+    },
+    badDate: {
+        de: ({ value }) =>
+            `date '${value}': kein Datum der Jahre 2000 bis 2099; zu schreiben wie 2026-10-31 oder 31.10.2026`,
+        en: ({ value }) =>
+            `date '${value}': not a date of the years 2000 to 2099; write it like 2026-10-31 or 31.10.2026`,
+    },
+    badTime: {
+        de: ({ column, value, most }) => `${column} '${value}': keine Uhrzeit von 00:00 bis ${most}`,
+        en: ({ column, value, most }) => `${column} '${value}': not a clock time from 00:00 to ${most}`,
+    },
+    // the nights in which the clock is changed
+    hourTwice: {
+        de: ({ column, value, offsets: [first, second] }) =>
+            `${column} '${value}': diese Uhrzeit gibt es in dieser Nacht zweimal; ` +
+            `zu schreiben als ${value}${first} (Sommerzeit) oder ${value}${second} (Winterzeit)`,
+        en: ({ column, value, offsets: [first, second] }) =>
+            `${column} '${value}': this time is there twice in this night; ` +
+            `write it as ${value}${first} (summer time) or ${value}${second} (winter time)`,
+    },
+    hourNever: {
+        de: ({ column, value }) =>
+            `${column} '${value}': diese Uhrzeit gab es an diesem Tag nicht; die Uhr wurde vorgestellt`,
+        en: ({ column, value }) => `${column} '${value}': this time never was on this day; the clock was put on`,
+    },
+    hourOffset: {
+        de: ({ column, value, offsets }) => `${column} '${value}': die Uhr war der Weltzeit da um ${offsets[0]} voraus`,
+        en: ({ column, value, offsets }) => `${column} '${value}': the clock was ${offsets[0]} ahead of UTC then`,
+    },
+    endsBefore: {
+        de: ({ column, value }) => `${column} '${value}': das liegt vor der Abfahrt`,
+        en: ({ column, value }) => `${column} '${value}': this is before the departure`,
+    },
+    // names that stand for something
+    noStop: {
+        de: ({ column, value, near }) => `${column} '${value}': keine solche Haltestelle${meant.de(near)}`,
+        en: ({ column, value, near }) => `${column} '${value}': no such stop${meant.en(near)}`,
+    },
+    manyStops: {
+        de: ({ column, value, ids }) =>
+            `${column} '${value}': mehrere Haltestellen heißen so; zu schreiben als ${ids.join(' oder ')}`,
+        en: ({ column, value, ids }) => `${column} '${value}': several stops have this name; write ${ids.join(' or ')}`,
+    },
+    tooManyStops: {
+        de: ({ found }) => `via: mit Start und Ziel ${found} Haltestellen; mehr als 32 sind nicht erlaubt`,
+        en: ({ found }) => `via: ${found} stops with the first and the last; more than 32 are not allowed`,
+    },
+    noArea: {
+        de: ({ column, value, near }) => `${column} '${value}': kein solches Gebiet${meant.de(near)}`,
+        en: ({ column, value, near }) => `${column} '${value}': no such area${meant.en(near)}`,
+    },
+    noLevel: {
+        de: ({ value }) => `level '${value}': keine solche Preisstufe; es gibt K, A, B, C und D, oder leer`,
+        en: ({ value }) => `level '${value}': no such ticket level; there are K, A, B, C and D, or empty`,
+    },
+    noAreaLevel: {
+        de: ({ value }) => `level '${value}': keine solche Ebene; es gibt state, region und city`,
+        en: ({ value }) => `level '${value}': no such level; there are state, region and city`,
+    },
+    nameTwice: {
+        de: ({ value, line }) => `name '${value}': schon in Zeile ${line} vergeben`,
+        en: ({ value, line }) => `name '${value}': taken already in line ${line}`,
+    },
+    idTwice: {
+        de: ({ value, line }) => `id '${value}': schon in Zeile ${line} vergeben`,
+        en: ({ value, line }) => `id '${value}': taken already in line ${line}`,
+    },
+    // the tariff
+    noState: {
+        de: () => 'das erste Gebiet muss das Land sein (level state), und nur dieses',
+        en: () => 'the first area has to be the state (level state), and no other may',
+    },
+    notWithin: {
+        de: ({ value }) =>
+            `within '${value}': eine Region liegt im Land, eine Stadt in einer Region, die vor ihr steht`,
+        en: ({ value }) => `within '${value}': a region lies in the state, a city in a region that stands before it`,
+    },
+    notHere: {
+        de: ({ column, where }) => `${column} muss leer sein: nur für ${where.de}`,
+        en: ({ column, where }) => `${column} has to be empty: only for ${where.en}`,
+    },
+    capsMixed: {
+        de: () => 'trip_cap und cap_k bis cap_d schließen einander aus',
+        en: () => 'trip_cap and cap_k to cap_d exclude each other',
+    },
+    tariffRefused: {
+        de: ({ number, text }) => `der Tarif wird hier abgelehnt (${number}): ${text}`,
+        en: ({ number, text }) => `the tariff is refused here (${number}): ${text}`,
+    },
+    // trips beside each other
+    overlaps: {
+        de: ({ line }) => `überschneidet sich mit der Fahrt in Zeile ${line}; wird abgelehnt (10)`,
+        en: ({ line }) => `overlaps the trip in line ${line}; refused (10)`,
+    },
+    refused: {
+        de: ({ number, text }) => `wird abgelehnt (${number}): ${text}`,
+        en: ({ number, text }) => `refused (${number}): ${text}`,
+    },
+    nearMembers: {
+        de: ({ value, near, line }) =>
+            `member '${value}': dieselbe Person wie '${near}' in Zeile ${line}? Hier sind es zwei`,
+        en: ({ value, near, line }) =>
+            `member '${value}': the same person as '${near}' in line ${line}? Here they are two`,
+    },
+    nearBook: {
+        de: ({ value, near }) => `member '${value}': dieselbe Person wie '${near}' in den Büchern? Hier sind es zwei`,
+        en: ({ value, near }) => `member '${value}': the same person as '${near}' in the books? Here they are two`,
+    },
+    // the books
+    booksBroken: {
+        de: () => 'das sind keine Bücher, wie das Abschließen sie schreibt',
+        en: () => 'these are not books as closing writes them',
+    },
+    booksTariff: {
+        de: ({ found, due }) =>
+            `die Bücher gehören zu einem anderen Tarif (${found.slice(0, 12)}, nicht ${due.slice(0, 12)})`,
+        en: ({ found, due }) => `the books belong to another tariff (${found.slice(0, 12)}, not ${due.slice(0, 12)})`,
+    },
+    booksClosed: {
+        de: ({ closed, period }) => `die Bücher sind schon bis ${closed} abgeschlossen, und verlangt ist ${period}`,
+        en: ({ closed, period }) => `the books are closed to ${closed} already, and ${period} is asked for`,
+    },
+    bookUnsound: {
+        de: ({ member }) => `das Buch von '${member}' ist beschädigt (4)`,
+        en: ({ member }) => `the book of '${member}' is damaged (4)`,
+    },
+    inBooks: {
+        de: ({ count, closed }) =>
+            `abgeschlossen bis ${closed}: was davor liegt, steht in den Büchern und wird nicht noch einmal berechnet ` +
+            `(Fahrten: ${count}, die erste hier)`,
+        en: ({ count, closed }) =>
+            `closed to ${closed}: what lies before is in the books and is not priced again ` +
+            `(trips: ${count}, the first here)`,
+    },
+    beforeBooks: {
+        de: ({ until }) => `beginnt vor dem letzten Check-out in den Büchern (${until}); wird abgelehnt (10)`,
+        en: ({ until }) => `begins before the last check-out in the books (${until}); refused (10)`,
+    },
+    // what the desk finds of itself
+    disagreement: {
+        de: ({ member, what }) =>
+            `die Summen von '${member}' stimmen nicht mit dem Buch überein (${what}); nichts wird ausgegeben`,
+        en: ({ member, what }) => `the sums of '${member}' do not agree with the book (${what}); nothing is put out`,
+    },
+};
+
+/** A mistake in a language's words. */
+export function mistakeText({ key, values }, language) {
+    return TEXTS[key][language](values);
+}
+
+/** Collects the mistakes of all files. `error` and `warning` answer null, for whoever has no value then. */
+export class Mistakes {
+    constructor(language) {
+        this.language = language;
+        this.all = [];
+    }
+
+    note(kind, file, line, key, values = {}) {
+        this.all.push({ file, line, kind, key, values, text: mistakeText({ key, values }, this.language) });
+        return null;
+    }
+
+    error(file, line, key, values) {
+        return this.note('error', file, line, key, values);
+    }
+
+    warning(file, line, key, values) {
+        return this.note('warning', file, line, key, values);
+    }
+
+    count(kind) {
+        return this.all.filter((mistake) => mistake.kind === kind).length;
+    }
+
+    /** All of them, file by file in the order in which the files were read, and by line. */
+    sorted() {
+        const files = [...new Set(this.all.map(({ file }) => file))];
+        const rank = new Map(files.map((file, i) => [file, i]));
+        return [...this.all].sort((a, b) => rank.get(a.file) - rank.get(b.file) || a.line - b.line);
+    }
+}
+
+/** A mistake as one line: `trips.csv:7: from 'Muenster Hbf': no such stop; did you mean 'Münster Hbf'?` */
+export function mistakeLine({ file, line, kind, text }, language) {
+    return `${file}:${line}: ${kind === 'warning' ? WARNING[language] : ''}${text}`;
+}
+
+const WARNING = { de: 'Warnung: ', en: 'warning: ' };

@@ -1,0 +1,51 @@
+// Names as people write them: when two are one, and which is near one that is not there.
+
+/** One spelling for what looks alike: composed letters, single blanks. */
+export function tidy(text) {
+    return text.normalize('NFC').replace(/\s+/g, ' ').trim();
+}
+
+const SPELT = { ä: 'ae', ö: 'oe', ü: 'ue', ß: 'ss' };
+
+/** A name without capitals, umlauts, accents, blanks and signs: 'Münster Hbf' and 'muenster-hbf' are one. */
+export function folded(text) {
+    return tidy(text)
+        .toLowerCase()
+        .replace(/[äöüß]/g, (letter) => SPELT[letter])
+        .normalize('NFD')
+        .replace(/[^\p{L}\p{N}]/gu, '');
+}
+
+/** How many letters have to be put, taken away or changed to make one word of the other. */
+function distance(one, other) {
+    let row = Array.from({ length: other.length + 1 }, (_, i) => i);
+    for (let i = 1; i <= one.length; i += 1) {
+        const next = [i];
+        for (let j = 1; j <= other.length; j += 1) {
+            const changed = row[j - 1] + (one[i - 1] === other[j - 1] ? 0 : 1);
+            next.push(Math.min(changed, row[j] + 1, next[j - 1] + 1));
+        }
+        row = next;
+    }
+    return row[other.length];
+}
+
+/** How far a name may be from another to be offered for it: a letter, and of long names up to three. */
+function reach(word) {
+    return Math.max(1, Math.min(3, Math.floor(word.length / 4)));
+}
+
+/** The nearest of the names, the first of equals; one that only begins with the word is the last resort; or null. */
+export function nearest(text, names) {
+    const word = folded(text);
+    let found = null;
+    let least = reach(word) + 1;
+    for (const name of names) {
+        const other = folded(name);
+        if (Math.abs(other.length - word.length) >= least) continue;
+        const far = distance(word, other);
+        if (far < least) [found, least] = [name, far];
+    }
+    if (found !== null || word.length < 3) return found;
+    return names.find((name) => folded(name).startsWith(word)) ?? null;
+}

@@ -1,0 +1,247 @@
+// A member's statement, to hand over: as words and figures (`statementOf`), which all forms share, and as text. Amounts
+// are those of the entries; what is added up here are totals, and they have to be the wages'.
+import { Disagreement } from './account.mjs';
+import { clockOf, dayOf, momentsOf } from './clock.mjs';
+import { momentIn } from './trips.mjs';
+import { STATEMENT, capClassText, capText, classText, dayText, moneyText, monthText } from './words.mjs';
+import { refusalText, riderText, seasonText } from './words.mjs';
+
+const WINDOW = 1440;
+
+/** Those members that have a statement: with a trip in the period. */
+export function membersOf({ members }) {
+    return members.filter(({ entries }) => entries.some(({ inPeriod }) => inPeriod));
+}
+
+/** All that a statement says, in words. */
+export function statementOf(member, result, language) {
+    const saying = { language, words: STATEMENT[language], result, clock: clockOf(result.zone) };
+    const { words } = saying;
+    const windows = member.windows.filter(({ entries }) => entries.some(({ inPeriod }) => inPeriod));
+    const own = member.entries.filter(({ inPeriod }) => inPeriod);
+    const refused = own.filter(({ accepted }) => !accepted).length;
+    return {
+        language,
+        words,
+        member: member.name,
+        title: words.title(result.period && monthText(result.period, language)),
+        counts: [words.trips(own.length - refused), ...(refused > 0 ? [words.refusals(refused)] : [])].join(', '),
+        total: moneyText(agreedTotal(member, own, result), language),
+        windows: windows.map((window) => windowOf(window, saying)),
+        foot: footOf(saying),
+    };
+}
+
+/** Looks whether the wages have the totals of all statements, for whoever puts wages out without them. */
+export function agreeStatements(result) {
+    const due = new Map();
+    for (const { member, cents } of result.wages) due.set(member, (due.get(member) ?? 0) + cents);
+    for (const { name, entries } of membersOf(result)) {
+        agree(name, totalOf(entries.filter(({ inPeriod }) => inPeriod)), due.get(name));
+    }
+}
+
+/** The total of the charges that the statement shows. Where the wages have another, there is no statement. */
+function agreedTotal({ name }, entries, { wages }) {
+    const due = wages.filter(({ member }) => member === name).reduce((sum, { cents }) => sum + cents, 0);
+    return agree(name, totalOf(entries), due);
+}
+
+function agree(name, shown, due) {
+    if (shown !== due) throw new Disagreement(name, `statement and wages: ${shown} and ${due} cents`);
+    return shown;
+}
+
+function totalOf(entries) {
+    const riders = entries.flatMap(({ parts }) => (parts ?? []).flatMap((part) => part.riders));
+    return riders.reduce((sum, { charge }) => sum + charge, 0);
+}
+
+function footOf({ language, words, result: { tariff, version } }) {
+    return {
+        tariff: words.tariff(tariff.areas[0].name, tariff.areas.length, tariff.stops.length),
+        hash: `${words.hash}: ${tariff.hash}`,
+        version: words.version(version),
+        language,
+    };
+}
+
+// ---- Windows
+
+function windowOf(window, saying) {
+    const { language, words, result, clock } = saying;
+    const trips = window.entries.map((entry, i) => tripOf(entry, i + 1, saying));
+    const counts = window.entries.filter(({ inPeriod }) => inPeriod);
+    const mixed = counts.length < window.entries.length;
+    const common = {
+        trips,
+        sum: words.sum(mixed && monthText(result.period, language)),
+        total: moneyText(totalOf(counts), language),
+    };
+    if (window.opening === null) return { ...common, heading: words.noWindow, until: '', notes: [], fills: [] };
+    const [from, to] = [window.openingLocal, momentIn(clock, window.opening + WINDOW)];
+    const fills = fillsOf(window.sums, saying);
+    return {
+        ...common,
+        heading: words.window(stampText(from, saying)),
+        until: words.until(stampText(to, saying)),
+        notes: notesOf(window, to, saying),
+        fills,
+        drawn: { opening: window.opening, clock, trips, fills, language },
+    };
+}
+
+/** Why a window's caps may be fuller than its trips make them, and where its further trips are. */
+function notesOf({ opening, entries }, to, { language, words, result: { period } }) {
+    const first = entries.find(({ accepted }) => accepted);
+    const earlier = !first || first.checkIn.minute > opening;
+    const month = to.local.slice(0, 7);
+    const later = period !== null && month > period;
+    return [...(earlier ? [words.earlier] : []), ...(later ? [words.later(monthText(month, language))] : [])];
+}
+
+/** How full each cap is that a rider paid under; that of all classes only where first class was among the charges. */
+function fillsOf(sums, saying) {
+    return sums.flatMap((rider) => rider.areas.flatMap((own) => areaFills(rider, own, saying)));
+}
+
+function areaFills(rider, { area, second, all }, { language, words, result: { tariff } }) {
+    const caps = tariff.caps[area]?.[rider.sort === 'child' ? 'child' : 'adult'];
+    if (!caps) return [];
+    const fill = (capClass, sum, cap) => ({
+        label: `${riderText(rider, language)}: ${tariff.areas[area].name}, ${capClassText(capClass, language)}`,
+        amount: words.of(moneyText(sum, language), moneyText(cap, language)),
+        share: Math.min(1, sum / cap),
+        full: sum >= cap,
+    });
+    return [...(second > 0 ? [fill(2, second, caps.second)] : []), ...(all > second ? [fill(1, all, caps.all)] : [])];
+}
+
+// ---- Trips
+
+function tripOf(entry, number, saying) {
+    const { language, words, result } = saying;
+    const stop = (index) => result.tariff.stops[index].name;
+    const via = entry.via.length > 0 ? [words.via(entry.via.map(stop).join(', '))] : [];
+    const level = entry.level === null ? [] : [words.level(entry.level)];
+    const elsewhere = entry.inPeriod ? [] : [words.elsewhere(monthText(entry.checkIn.local.slice(0, 7), language))];
+    return {
+        ...{ number, from: entry.checkIn.minute, to: entry.checkOut.minute, counts: entry.inPeriod },
+        state: stateOf(entry),
+        when: whenText(entry, saying),
+        where: `${stop(entry.from)} → ${stop(entry.to)}`,
+        how: [...via, classText(entry.class, language), ...level, ...elsewhere].join(', '),
+        refused: entry.accepted ? null : words.refused(refusalText(entry.refusal.number, language), entry.line),
+        parts: (entry.parts ?? []).map((part, i) => partOf(entry, part, i, saying)),
+    };
+}
+
+function stateOf({ accepted, parts }) {
+    if (!accepted) return 'refused';
+    return parts.some(({ riders }) => riders.some(({ off }) => off > 0)) ? 'cut' : 'priced';
+}
+
+function partOf(entry, { area, km, minutes, riders }, i, { language, words, result: { tariff } }) {
+    const broken = entry.parts.length > 1;
+    const turn = broken ? farthestChange(entry, tariff.stops) : null;
+    const [from, to] = i === 0 ? [entry.from, turn] : [turn, entry.to];
+    const time = i === 0 ? [`${minutes} min`] : []; // a second part's minutes are the first one's
+    return {
+        heading: broken ? words.part(i + 1, tariff.stops[from].name, tariff.stops[to].name) : null,
+        measure: [tariff.areas[area].name, `${km} km`, ...time].join(', '),
+        riders: riders.map((rider) => ({
+            who: riderText(rider, language),
+            price: rider.price === null ? '' : moneyText(rider.price, language),
+            off: rider.cap ? moneyText(rider.off, language) : '',
+            cap: rider.cap ? capText(tariff.areas[rider.cap.area].name, rider.cap.class, language) : '',
+            charge: moneyText(rider.charge, language),
+        })),
+    };
+}
+
+/** Where a ride that comes back is broken: at the change farthest from the start, the first of equals. */
+function farthestChange({ from, via }, stops) {
+    const distance = (stop) => (stops[stop].x - stops[from].x) ** 2 + (stops[stop].y - stops[from].y) ** 2;
+    return via.reduce((farthest, stop) => (distance(stop) > distance(farthest) ? stop : farthest));
+}
+
+// ---- Times
+
+/** 'Fr 02.10.2026, 05:08 – 05:20'; the second day is named where it is another. */
+function whenText({ checkIn, checkOut }, saying) {
+    const change = checkIn.offset !== checkOut.offset;
+    const from = stampText(checkIn, saying, change);
+    const sameDay = checkOut.local.slice(0, 10) === checkIn.local.slice(0, 10);
+    return `${from} – ${(sameDay ? clockText : stampText)(checkOut, saying, change)}`;
+}
+
+function stampText(moment, saying, change) {
+    return `${dayText(moment.local, saying.language)}, ${clockText(moment, saying, change)}`;
+}
+
+/** The clock time, with its season where it is there twice or where the clock is changed on the way. */
+function clockText({ local, offset }, { language, clock }, change = false) {
+    const [hours, minutes] = local.slice(11).split(':').map(Number);
+    const twice = momentsOf(clock, dayOf(local.slice(0, 10)), 60 * hours + minutes).length > 1;
+    return local.slice(11) + (change || twice ? ` ${seasonText(offset, language)}` : '');
+}
+
+// ---- As text
+
+const WIDTH = 80;
+
+/** A member's statement as text. */
+export function statementText(member, result, language) {
+    const { title, counts, total, words, windows, foot } = statementOf(member, result, language);
+    const head = [title, member.name, '='.repeat(WIDTH), amountLine(counts, `${words.total} ${total}`)];
+    const tail = ['-'.repeat(WIDTH), foot.tariff, foot.hash, foot.version];
+    const lines = [...head, '', ...windows.flatMap((window) => [...windowLines(window, words), '']), ...tail];
+    return `${lines.join('\n')}\n`.replaceAll('\u00a0', ' ');
+}
+
+/** A text at the left, an amount at the right. */
+function amountLine(text, amount) {
+    return `${text}${' '.repeat(Math.max(2, WIDTH - text.length - amount.length))}${amount}`;
+}
+
+/** A text in lines of at most the width, behind blanks; a word that is longer than a line stays whole. */
+function wrapped(text, blanks) {
+    const lines = [];
+    for (const word of text.split(' ')) {
+        const longer = lines.length > 0 ? `${lines.at(-1)} ${word}` : null;
+        if (longer !== null && longer.length <= WIDTH - blanks) lines[lines.length - 1] = longer;
+        else lines.push(word);
+    }
+    return lines.map((line) => ' '.repeat(blanks) + line);
+}
+
+function windowLines({ heading, until, trips, notes, sum, total, fills }, words) {
+    const caps = fills.map(({ label, amount, full }) => {
+        return amountLine(`    ${label}`, full ? `${words.full}, ${amount}` : amount);
+    });
+    return [
+        ...[`${heading} ${until}`.trim(), '-'.repeat(WIDTH), ...notes.flatMap((note) => wrapped(note, 0))],
+        ...trips.flatMap((trip) => tripLines(trip, words)),
+        amountLine(sum, total),
+        ...(caps.length > 0 ? [`${words.caps}:`, ...caps] : []),
+    ];
+}
+
+function tripLines({ number, when, where, how, refused, parts }, words) {
+    const broken = parts.length > 1 ? [words.outAndBack] : [];
+    const whole = parts.length === 1 ? `${how} · ${parts[0].measure}` : how;
+    const head = [where, whole, ...(refused ? [refused] : []), ...broken];
+    return [
+        `${String(number).padStart(2)}. ${when}`,
+        ...head.flatMap((line) => wrapped(line, 4)),
+        ...parts.flatMap(({ heading, measure, riders }) => [
+            ...(heading ? wrapped(`${heading} (${measure})`, 4) : []),
+            ...riders.flatMap((rider) => riderLines(rider, words)),
+        ]),
+    ];
+}
+
+function riderLines({ who, price, off, cap, charge }, words) {
+    const taken = `${words.columns.price} ${price}, ${words.columns.off.toLowerCase()} ${off}: ${cap}`;
+    return [amountLine(`        ${who}`, charge), ...(cap ? wrapped(taken, 12) : [])];
+}

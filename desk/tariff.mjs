@@ -1,0 +1,237 @@
+// The tariff from areas.csv and stops.csv: its bytes (docs/FORMAT.md), and which line each of its records comes from.
+import { readTable } from './csv.mjs';
+import { centsIn, wholeIn, wordIn } from './fields.mjs';
+import { sha256 } from './hash.mjs';
+import { nearest, tidy } from './names.mjs';
+
+const LEVELS = ['state', 'region', 'city'];
+const TICKETS = ['k', 'a', 'b', 'c', 'd'];
+const MOST = 60000; // cents of any amount but the two prices
+const NO_DAY_CAP = 65535;
+
+const due = (names) => Object.fromEntries(names.map((name) => [name, true]));
+const free = (names) => Object.fromEntries(names.map((name) => [name, false]));
+
+/** The columns of areas.csv, and whether each has to be there. */
+export const AREA_COLUMNS = {
+    ...due(['id', 'name', 'level', 'within', 'base', 'per_km', 'valid_min', 'first_percent', 'child_percent']),
+    ...due(['day_cap', 'bicycle', 'factor']),
+    ...free(['kind', 'city_whole', 'trip_cap', 'trip_cap_min', ...TICKETS.map((ticket) => `cap_${ticket}`)]),
+    ...free(['bicycle_trip', 'town', 'child_ticket', ...TICKETS.map((ticket) => `child_${ticket}`)]),
+};
+
+/** The columns of stops.csv. */
+export const STOP_COLUMNS = due(['id', 'name', 'area', 'x_m', 'y_m']);
+
+/** Reads both files. Null where a mistake in them leaves no tariff. */
+export function readTariff(areasFile, stopsFile, mistakes) {
+    const before = mistakes.count('error');
+    const areaRows = readTable(areasFile, AREA_COLUMNS, mistakes);
+    const areas = areaRows && readAreas(areasFile.name, areaRows, mistakes);
+    const stopRows = readTable(stopsFile, STOP_COLUMNS, mistakes);
+    const stops = stopRows && readStops(stopsFile.name, stopRows, areas ?? [], mistakes);
+    if (!areas || !stops || mistakes.count('error') > before) return { areas, stops, bytes: null };
+    const { bytes, records } = tariffBytes(areasFile.name, areas, stopsFile.name, stops);
+    return { areas, stops, bytes, records, hash: sha256(bytes) };
+}
+
+// ---- Names
+
+/** Finds things by id, then by name: `find` answers one, several of a name, or none. */
+export function directory(things) {
+    const byId = new Map(things.map((thing) => [thing.id, thing]));
+    const byName = new Map();
+    for (const thing of things) byName.set(thing.name, [...(byName.get(thing.name) ?? []), thing]);
+    return (text) => (byId.has(text) ? [byId.get(text)] : (byName.get(text) ?? []));
+}
+
+/** The names and ids that may have been meant. */
+export function nearThing(text, things) {
+    return nearest(text, [...things.map(({ name }) => name), ...things.map(({ id }) => id)]);
+}
+
+/** Id and name of each row, tidied. No two may have one id; of `own` names neither one name. */
+function named(file, rows, own, mistakes) {
+    const ids = new Map();
+    const names = new Map();
+    const noteTwice = (seen, value, line, key) => {
+        if (seen.has(value)) mistakes.error(file, line, key, { value, line: seen.get(value) });
+        else seen.set(value, line);
+    };
+    return rows.map(({ id: idText, name: nameText, line }, index) => {
+        const [id, name] = [tidy(idText), tidy(nameText)];
+        if (id === '') mistakes.error(file, line, 'blank', { column: 'id' });
+        else noteTwice(ids, id, line, 'idTwice');
+        if (name === '') mistakes.error(file, line, 'blank', { column: 'name' });
+        else if (own) noteTwice(names, name, line, 'nameTwice');
+        return { index, line, id, name };
+    });
+}
+
+// ---- Areas
+
+function readAreas(file, rows, mistakes) {
+    const areas = named(file, rows, true, mistakes); // a statement names areas by name alone
+    const find = directory(areas);
+    rows.forEach((row, i) => {
+        const note = (key, values) => mistakes.error(file, row.line, key, values);
+        const area = areas[i];
+        area.level = levelOf(row, i, note);
+        area.kind = Number(wordIn(row, 'kind', ['1', '8'], note, '1'));
+        area.parent = parentOf(row, area, areas, find, note);
+        Object.assign(area, pricesOf(row, note), capsOf(row, note));
+        Object.assign(area, factorOf(row, area, note), aachenOf(row, area, note));
+    });
+    return areas;
+}
+
+function levelOf(row, index, note) {
+    const level = row.level.toLowerCase();
+    if (!LEVELS.includes(level)) return note('noAreaLevel', { value: row.level });
+    if ((level === 'state') !== (index === 0)) note('noState');
+    return level;
+}
+
+/** The number of the area around this one. Of the state and of a region that is 0, which need not be written. */
+function parentOf(row, area, areas, find, note) {
+    const text = tidy(row.within);
+    if (text === '') return area.level === 'city' ? note('blank', { column: 'within' }) : 0;
+    const parent = find(text)[0];
+    if (!parent) return note('noArea', { column: 'within', value: text, near: nearThing(text, areas) });
+    const right = area.level === 'city' ? parent.level === 'region' && parent.index < area.index : parent.index === 0;
+    return right || !area.level ? parent.index : note('notWithin', { value: text });
+}
+
+function pricesOf(row, note) {
+    return {
+        base: centsIn(row, 'base', 10000, note),
+        perKm: centsIn(row, 'per_km', 1000, note),
+        validity: wholeIn(row, 'valid_min', 30, 1440, note),
+        first: wholeIn(row, 'first_percent', 0, 100, note),
+        child: wholeIn(row, 'child_percent', 0, 100, note),
+        dayCap: centsIn(row, 'day_cap', MOST, note, null),
+        bicycle: centsIn(row, 'bicycle', MOST, note),
+    };
+}
+
+/** The trip cap: none, flat up to some minutes, or by ticket level. */
+function capsOf(row, note) {
+    const columns = TICKETS.map((ticket) => `cap_${ticket}`);
+    const flat = row.trip_cap !== '' || row.trip_cap_min !== '';
+    const levels = columns.some((column) => row[column] !== '');
+    if (flat && levels) note('capsMixed');
+    if (levels) return { capSort: 2, caps: columns.map((column) => centsIn(row, column, MOST, note)) };
+    if (!flat) return { capSort: 0, caps: [0, 0, 0, 0, 0] };
+    const caps = [centsIn(row, 'trip_cap', MOST, note), wholeIn(row, 'trip_cap_min', 30, 1440, note), 0, 0, 0];
+    return { capSort: 1, caps };
+}
+
+const STATE_AND_REGIONS = { de: 'Land und Regionen', en: 'the state and regions' };
+const KIND_8 = { de: 'Gebiete der Art 8', en: 'areas of kind 8' };
+const FLAT_CAPS = { de: 'Gebiete mit trip_cap', en: 'areas with trip_cap' };
+const LEVEL_CAPS = { de: 'Gebiete mit cap_k bis cap_d', en: 'areas with cap_k to cap_d' };
+
+/** Tells of each column that is filled though it is only for other areas. */
+function emptyIn(row, columns, where, note) {
+    for (const column of columns) if (row[column] !== '') note('notHere', { column, where });
+}
+
+/** When a ride out and back is two: of the state and of regions. */
+function factorOf(row, area, note) {
+    if (area.level === 'city') {
+        emptyIn(row, ['factor', 'city_whole'], STATE_AND_REGIONS, note);
+        return {};
+    }
+    const whole = wordIn(row, 'city_whole', ['yes', 'no', 'ja', 'nein'], note, 'no');
+    return { factor: wholeIn(row, 'factor', 1, 9, note), cityWhole: ['yes', 'ja'].includes(whole) };
+}
+
+/** What an area of kind 8 has besides: tickets for children, a bicycle's price per trip, and what a town drops. */
+function aachenOf(row, area, note) {
+    const columns = TICKETS.map((ticket) => `child_${ticket}`);
+    if (area.kind !== 8) {
+        emptyIn(row, ['bicycle_trip', 'town', 'child_ticket', ...columns], KIND_8, note);
+        return {};
+    }
+    const town = wordIn(row, 'town', ['base', 'km'], note, '');
+    const bicycleTrip = centsIn(row, 'bicycle_trip', MOST, note);
+    const sort = capsOf(row, () => null).capSort;
+    if (sort !== 1) emptyIn(row, ['child_ticket'], FLAT_CAPS, note);
+    if (sort !== 2) emptyIn(row, columns, LEVEL_CAPS, note);
+    const flat = () => [centsIn(row, 'child_ticket', MOST, note), 0, 0, 0, 0];
+    const tickets = [() => [0, 0, 0, 0, 0], flat, () => columns.map((column) => centsIn(row, column, MOST, note))];
+    return { town: ['', 'base', 'km'].indexOf(town), bicycleTrip, tickets: tickets[sort]() };
+}
+
+// ---- Stops
+
+function readStops(file, rows, areas, mistakes) {
+    const stops = named(file, rows, false, mistakes); // of a name that several have, a trip has to say the id
+    const find = directory(areas);
+    rows.forEach((row, i) => {
+        const note = (key, values) => mistakes.error(file, row.line, key, values);
+        const text = tidy(row.area);
+        const area = find(text)[0];
+        if (text === '') note('blank', { column: 'area' });
+        else if (!area) note('noArea', { column: 'area', value: text, near: nearThing(text, areas) });
+        const [x, y] = ['x_m', 'y_m'].map((column) => wholeIn(row, column, 0, 1000000, note));
+        Object.assign(stops[i], { area: area?.index, x, y });
+    });
+    return stops;
+}
+
+// ---- Bytes
+
+/** Numbers of 1, 2 and 4 bytes one behind another, little-endian, as a record: its length and kind come first. */
+export function recordBytes(kind, fields) {
+    let length = 4;
+    for (const [width] of fields) length += width;
+    const bytes = new Uint8Array(length);
+    let at = 0;
+    const put = (width, value) => {
+        for (let i = 0; i < width; i += 1) bytes[at + i] = Math.floor(value / 256 ** i); // a byte keeps the rest by 256
+        at += width;
+    };
+    put(2, length - 2);
+    put(2, kind);
+    for (const [width, value] of fields) put(width, value);
+    return bytes;
+}
+
+function areaRecord(area) {
+    const common = [
+        [1, LEVELS.indexOf(area.level)], [1, area.parent], [2, area.base], [2, area.perKm], [2, area.validity],
+        [1, area.first], [1, area.child], [1, area.capSort], ...area.caps.map((value) => [2, value]),
+        [2, area.dayCap ?? NO_DAY_CAP], [2, area.bicycle],
+    ];
+    if (area.kind === 1) return recordBytes(1, common);
+    const tickets = area.tickets.map((value) => [2, value]);
+    return recordBytes(8, [...common, ...tickets, [2, area.bicycleTrip], [1, area.town]]);
+}
+
+function factorRecord(area) {
+    return recordBytes(5, [[1, area.factor], [1, area.cityWhole ? 1 : 0]]);
+}
+
+function stopRecord(stop) {
+    return recordBytes(2, [[1, stop.area], [4, stop.x], [4, stop.y]]);
+}
+
+/** All records in order, and for each its place, file and line. */
+function tariffBytes(areasName, areas, stopsName, stops) {
+    const records = [];
+    const bytes = [];
+    const put = (record, file, line) => {
+        records.push({ at: bytes.length, file, line });
+        bytes.push(...record);
+    };
+    for (const area of areas) put(areaRecord(area), areasName, area.line);
+    for (const area of areas) if (area.level !== 'city') put(factorRecord(area), areasName, area.line);
+    for (const stop of stops) put(stopRecord(stop), stopsName, stop.line);
+    return { bytes: Uint8Array.from(bytes), records };
+}
+
+/** The file and line of the record at a refusal's place; the last one's, where the tariff ends too early. */
+export function recordAt(tariff, place, areasName) {
+    return tariff.records.findLast(({ at }) => at <= place) ?? { file: areasName, line: 1 };
+}

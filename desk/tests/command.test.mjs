@@ -1,0 +1,132 @@
+import assert from 'node:assert/strict';
+import { spawnSync } from 'node:child_process';
+import fs from 'node:fs';
+import os from 'node:os';
+import path from 'node:path';
+import { after, test } from 'node:test';
+import { ROOT, SAMPLE, TRIPS, sample } from './support.mjs';
+
+const room = fs.mkdtempSync(path.join(os.tmpdir(), 'desk-'));
+after(() => fs.rmSync(room, { recursive: true }));
+
+function called(...words) {
+    const { status, stdout, stderr } = spawnSync(path.join(ROOT, 'milecopper'), words, { cwd: room, encoding: 'utf8' });
+    return { status, out: stdout, told: stderr };
+}
+
+/** A folder with the sample's tariff and these trips. */
+function folder(name, trips) {
+    const place = path.join(room, name);
+    fs.mkdirSync(place);
+    for (const file of ['areas.csv', 'stops.csv']) fs.copyFileSync(path.join(SAMPLE, file), path.join(place, file));
+    fs.writeFileSync(path.join(place, 'trips.csv'), trips);
+    return place;
+}
+
+const NIGHT = `${TRIPS}Anna,2026-10-31,22:40,23:55,Münster Hbf,Bielefeld Hbf,,,,,,
+Anna,2026-11-01,05:30,06:45,Bielefeld Hbf,Münster Hbf,,,,,,
+`;
+
+test('help, version, and words that are not known', () => {
+    assert.match(called('--help').out, /^usage: \.\/milecopper .*\n[^]*Lohnbüro/);
+    assert.match(called('--help', '--language', 'en').out, /wage office/);
+    assert.match(called('--version').out, /^milecopper \d+\.\d+\.\d+\n$/);
+    const wrong = ['', 'price', 'toString', '--frob', 'check a b', 'check --format xml', 'check --language fr'];
+    for (const words of [...wrong, 'wages --period 2026-13', 'close .']) {
+        const { status, out, told } = called(...words.split(' ').filter(Boolean));
+        assert.deepEqual([status, out], [2, ''], words);
+        assert.match(told, /^\.\/milecopper: .*\nusage: /);
+    }
+});
+
+test('status 0 where all is priced, 1 where a trip is refused, 2 with mistakes', () => {
+    const good = called('check', folder('good', NIGHT), '--language', 'en');
+    assert.deepEqual(good, { status: 0, out: 'errors: 0, warnings: 0\ntrips priced: 2, members: 1\n', told: '' });
+    const refused = called('check', SAMPLE);
+    assert.equal(refused.status, 1);
+    assert.match(
+        refused.out,
+        /^trips\.csv:28: Warnung: überschneidet sich mit der Fahrt in Zeile 27; wird abgelehnt \(10\)$/m,
+    );
+    const bad = folder('bad', NIGHT.replace('Münster Hbf', 'Muenster Hbf').replace('05:30', '5 Uhr'));
+    assert.deepEqual(called('check', bad, '--language', 'en'), {
+        status: 2,
+        out: `trips.csv:2: from 'Muenster Hbf': no such stop; did you mean 'Münster Hbf'?
+trips.csv:3: depart '5 Uhr': not a clock time from 00:00 to 23:59
+errors: 2, warnings: 0
+`,
+        told: '',
+    });
+    const settled = called('settle', bad, '--out', path.join(room, 'nothing'));
+    assert.deepEqual([settled.status, settled.out], [2, '']);
+    assert.equal(fs.existsSync(path.join(room, 'nothing')), false);
+    assert.deepEqual(
+        [called('wages', path.join(room, 'nowhere')).status, called('wages', SAMPLE, '--trips', 'gone.csv').status],
+        [2, 2],
+    );
+});
+
+test('tables are printed, or written whole', () => {
+    const place = folder('tables', NIGHT);
+    assert.equal(
+        called('wages', place, '--period', '2026-11', '--language', 'en').out,
+        'member,period,trips,refused,amount\nAnna,2026-11,1,0,6.59\n',
+    );
+    const out = path.join(room, 'tables-out');
+    const written = called('settle', place, '--format', 'json', '--out', out, '--language', 'en');
+    assert.deepEqual([written.status, written.out], [0, `written: ${path.join(out, 'charges.json')}\n`]);
+    assert.deepEqual(
+        JSON.parse(fs.readFileSync(path.join(out, 'charges.json'))).map(({ charge }) => charge),
+        [1841, 659],
+    );
+    assert.deepEqual(fs.readdirSync(out), ['charges.json']);
+    const tariff = ['--areas', path.join(SAMPLE, 'areas.csv'), '--stops', path.join(SAMPLE, 'stops.csv')];
+    const named = called('wages', ...tariff, '--trips', path.join(place, 'trips.csv'));
+    assert.equal(
+        named.out,
+        '\uFEFFmember;period;trips;refused;amount\nAnna;2026-10;1;0;18,41\nAnna;2026-11;1;0;6,59\n',
+    );
+});
+
+test('a statement for each member, printed or written, and of one alone', () => {
+    const place = folder('statements', NIGHT + NIGHT.replace(TRIPS, '').replaceAll('Anna', 'Cem/Yıldız'));
+    const out = path.join(room, 'statements-out');
+    const all = called('statement', place, '--period', '2026-11', '--out', out, '--language', 'en');
+    assert.deepEqual([all.status, fs.readdirSync(out)], [0, ['statement-Anna.txt', 'statement-Cem_Yıldız.txt']]);
+    const one = called('statement', place, '--period', '2026-11', '--member', 'Anna', '--language', 'en');
+    assert.equal(one.out, fs.readFileSync(path.join(out, 'statement-Anna.txt'), 'utf8'));
+    assert.match(one.out, /6\.59/);
+    assert.equal(called('statement', place, '--member', 'Bert').status, 2);
+});
+
+test('a month is closed once, and the next one goes on from its books', () => {
+    const place = folder('months', NIGHT);
+    const books = path.join(place, 'books-2026-10.json');
+    assert.deepEqual(
+        called('close', place, '--period', '2026-10', '--language', 'en'),
+        { status: 0, out: `written: ${books}\n`, told: '' },
+    );
+    assert.match(
+        called('close', place, '--period', '2026-10', '--language', 'en').told,
+        /is there already: a month is closed once/,
+    );
+    fs.writeFileSync(path.join(place, 'trips.csv'), NIGHT.replace(/.*2026-10-31.*\n/, ''));
+    const next = called('wages', place, '--period', '2026-11', '--language', 'en');
+    assert.deepEqual([next.status, next.told], [0, `./milecopper: books: ${books}\n`]);
+    assert.equal(next.out, 'member,period,trips,refused,amount\nAnna,2026-11,1,0,6.59\n');
+    fs.writeFileSync(path.join(place, 'areas.csv'), sample('areas.csv').replace('25,00;3,00', '24,00;3,00'));
+    const other = called('wages', place, '--period', '2026-11', '--language', 'en');
+    assert.deepEqual([other.status, other.out], [2, '']);
+    assert.match(other.told, /^books-2026-10\.json:1: the books belong to another tariff/m);
+});
+
+test("README's commands run as they stand, and print the table that it shows", () => {
+    const page = fs.readFileSync(path.join(ROOT, 'README.md'), 'utf8');
+    const commands = [...page.matchAll(/^ {4}(\.\/milecopper .*)$/gm)].map(([, command]) => command);
+    assert.equal(commands.length, 3);
+    const printed = commands.map((command) => spawnSync('sh', ['-c', command], { cwd: ROOT, encoding: 'utf8' }));
+    for (const { status } of printed) assert.equal(status, 1); // the sample has two trips that are refused
+    const table = printed[2].stdout.replace('\ufeff', '').trimEnd().split('\n').map((line) => `    ${line}\n`).join('');
+    assert.ok(page.includes(`\n\n${table}\n`), table);
+    assert.match(printed[1].stdout, /Anna Berg\n=+\n9 Fahrten +Zusammen 76,51 €\n/);
+});

@@ -1,0 +1,212 @@
+import assert from 'node:assert/strict';
+import { test } from 'node:test';
+import * as binding from '../engine.mjs';
+import { builtEngine, bytesOf, textOf, wasmBytes } from './built.mjs';
+
+const engine = await builtEngine();
+const header = await textOf('include/milecopper.h');
+const tariff = await bytesOf('samples/tariff.bin');
+const freshBook = () => new Uint8Array(binding.BOOK_BYTES);
+const joined = (...slices) => Uint8Array.from(slices.flatMap((slice) => [...slice]));
+const longer = (slice, length) => {
+    const bytes = new Uint8Array(length);
+    bytes.set(slice);
+    return bytes;
+};
+const changed = (slice, at, value) => {
+    const bytes = slice.slice();
+    bytes[at] = value;
+    return bytes;
+};
+
+// A trip in winter time: check-in and check-out are [year, month, day, hour, minute].
+const stamp = ([year, ...rest]) => [year & 255, year >> 8, ...rest, 1];
+const LATE = { from: [2026, 10, 31, 23, 50], to: [2026, 11, 1, 0, 15], counts: [2, 0, 0, 0, 0], stops: [0, 1] };
+function tripOf(given) {
+    const { from, to, counts, stops } = { ...LATE, ...given };
+    const body = [...stamp(from), ...stamp(to), ...counts, stops.length, ...stops.flatMap((n) => [n & 255, n >> 8])];
+    return Uint8Array.from([2 + body.length, 0, 7, 0, ...body]);
+}
+
+// The records of a roll, one after another.
+function* recordsOf(roll) {
+    for (let at = 0; at < roll.length; ) {
+        const end = at + 2 + roll[at] + 256 * roll[at + 1];
+        yield roll.subarray(at, end);
+        at = end;
+    }
+}
+
+// The bytes that docs/FORMAT.md shows under a name.
+const pages = await textOf('docs/FORMAT.md');
+const shown = (name) => {
+    const [, text] = pages.match(new RegExp('```' + name + '\\n([^`]*)```'));
+    return Uint8Array.from(text.trim().split(/\s+/), (word) => Number.parseInt(word, 16));
+};
+
+const refused = (answer, number, place = 0) => {
+    assert.equal(answer.accepted, false);
+    assert.deepEqual(Object.keys(answer), ['accepted', 'refusal']);
+    assert.deepEqual([answer.refusal.number, answer.refusal.place], [number, place]);
+    for (const language of ['de', 'en']) {
+        assert.equal(answer.refusal.text[language], engine.refusalText(number, language));
+        assert.match(answer.refusal.text[language], /^\p{Lu}.*\.$/u);
+    }
+};
+
+test('lengths and version are those of the header', () => {
+    const number = (name) => Number(header.match(new RegExp(`#define MILECOPPER_${name} (\\d+)`))[1]);
+    for (const name of ['BOOK', 'LARGEST_TARIFF', 'LARGEST_STATEMENT', 'LARGEST_FIELDS'].map((part) => `${part}_BYTES`)) {
+        assert.equal(binding[name], number(name), name);
+    }
+    const version = ['MAJOR', 'MINOR', 'PATCH'].map((part) => number(`VERSION_${part}`)).join('.');
+    assert.equal(engine.version, version);
+});
+
+test('the module offers what the header declares, asks for nothing and cannot grow', async () => {
+    const module = new WebAssembly.Module(await wasmBytes());
+    assert.deepEqual(WebAssembly.Module.imports(module), []);
+    const functions = WebAssembly.Module.exports(module).filter(({ kind }) => kind === 'function');
+    const declared = [...header.matchAll(/^uint64_t (milecopper_\w+)\(/gm)].map(([, name]) => name);
+    assert.deepEqual(functions.map(({ name }) => name).sort(), declared.sort());
+    for (const name of declared) assert.ok(name in binding.FUNCTIONS, name);
+    const { memory } = new WebAssembly.Instance(module).exports;
+    assert.throws(() => memory.grow(1), RangeError);
+});
+
+test('the examples of docs/FORMAT.md', () => {
+    const examples = [
+        ['tariff', 'trip', 'record'],
+        ['tariff', 'october-trip', 'october-record'],
+        ['tariff', 'ride-out-and-back', 'two-records'],
+        ['aachen-tariff', 'aachen-trip', 'aachen-record'],
+    ];
+    for (const [prices, trip, records] of examples) {
+        const settled = engine.settle(shown(prices), freshBook(), shown(trip));
+        assert.ok(settled.accepted, trip);
+        assert.deepEqual(settled.statement, shown(records), trip);
+        assert.equal(settled.book.length, binding.BOOK_BYTES);
+    }
+});
+
+test('quoted and posted, the sample roll gives what settling gives', async () => {
+    let [book, cents, accepted, refusals] = [freshBook(), 0, 0, 0];
+    for (const trip of recordsOf(await bytesOf('samples/roll.bin'))) {
+        const before = book.slice();
+        const quote = engine.quote(tariff, book, trip);
+        const settled = engine.settle(tariff, book, trip);
+        assert.deepEqual(book, before);
+        if (!settled.accepted) {
+            assert.deepEqual(quote, settled);
+            refusals += 1;
+            continue;
+        }
+        assert.deepEqual(quote, { accepted: true, statement: settled.statement });
+        const posted = engine.post(tariff, book, trip, quote.statement);
+        assert.deepEqual(posted, { accepted: true, book: settled.book });
+        for (let at = 0; at < settled.statement.length; ) {
+            const { size, fields } = engine.read(settled.statement, at);
+            cents += fields.charges.reduce((sum, charge) => sum + charge.cents, 0);
+            at += size;
+        }
+        accepted += 1;
+        book = settled.book;
+    }
+    assert.deepEqual({ accepted, refusals, cents }, { accepted: 13, refusals: 1, cents: 10668 });
+});
+
+test('a record, read back', () => {
+    const fresh = { off: 0, capArea: 255, capClass: 0 };
+    const fields = { kind: 6, opening: 14113370, area: 0, km: 5, minutes: 25, adults: 0, children: 1, bicycles: 1 };
+    const charges = [320, 160, 500].map((cents) => ({ cents, ...fresh }));
+    assert.deepEqual(engine.read(shown('record'), 0), { accepted: true, size: 40, fields: { ...fields, charges } });
+    const second = engine.read(shown('two-records'), 40);
+    assert.deepEqual([second.size, second.fields.minutes, second.fields.charges[2].cents], [40, 0, 0]);
+    const cut = engine.read(shown('cut-record'), 0).fields.charges;
+    assert.deepEqual(cut[0], { cents: 120, off: 200, capArea: 0, capClass: 2 });
+    assert.deepEqual(cut[1], { cents: 60, off: 100, capArea: 0, capClass: 2 });
+    refused(engine.read(shown('record'), 40), 14);
+    refused(engine.read(shown('record'), 41), 14);
+    refused(engine.read(shown('record').subarray(0, 39), 0), 14);
+    refused(engine.read(shown('trip'), 0), 15);
+});
+
+test('every refusal, as an object', () => {
+    const trip = tripOf({});
+    const settled = (...given) => engine.settle(...given);
+    refused(engine.checkTariff(tariff.subarray(0, 807)), 1, 795);
+    refused(engine.checkTariff(new Uint8Array(0)), 2, 0);
+    refused(engine.checkTariff(changed(tariff, 4, 3)), 3, 0);
+    refused(settled(tariff.subarray(0, 807), freshBook(), trip), 1, 795);
+    refused(settled(tariff, freshBook().subarray(1), trip), 4);
+    refused(settled(tariff, freshBook(), trip.subarray(1)), 5);
+    refused(settled(tariff, freshBook(), tripOf({ counts: [3, 0, 0, 0, 0] })), 6);
+    refused(settled(tariff, freshBook(), tripOf({ stops: [0, 1000] })), 7);
+    refused(settled(tariff, freshBook(), tripOf({ from: [2026, 2, 29, 0, 0] })), 8);
+    refused(settled(tariff, freshBook(), tripOf({ to: [2026, 10, 31, 23, 49] })), 9);
+    const { book, statement } = settled(tariff, freshBook(), trip);
+    refused(settled(tariff, book, trip), 10);
+    refused(engine.quote(tariff, book, trip), 10);
+    refused(engine.post(tariff, book, trip, statement), 10);
+    refused(engine.post(tariff, freshBook(), trip, statement.subarray(1)), 13);
+    const still = tripOf({ to: [2026, 10, 31, 23, 50] });
+    let full = freshBook();
+    for (let i = 0; i < 256; i += 1) full = settled(tariff, full, still).book;
+    refused(settled(tariff, full, still), 11);
+});
+
+test('slices of any length get the answer of the whole slice, in the memory that is there', () => {
+    const [none, huge, trip] = [new Uint8Array(0), 1 << 24, tripOf({})];
+    assert.deepEqual(engine.checkTariff(tariff), { accepted: true, bytes: tariff.length });
+    refused(engine.settle(none, none, none), 2, 0);
+    refused(engine.settle(tariff, none, none), 4);
+    refused(engine.settle(tariff, freshBook(), none), 5);
+    refused(engine.post(tariff, freshBook(), trip, none), 13);
+    refused(engine.checkTariff(longer(none, huge)), 1, 0);
+    refused(engine.checkTariff(longer(tariff, huge)), 1, tariff.length);
+    refused(engine.settle(tariff, longer(none, binding.BOOK_BYTES + 1), trip), 4);
+    refused(engine.settle(tariff, longer(none, huge), trip), 4);
+    refused(engine.settle(tariff, freshBook(), longer(trip, trip.length + 1)), 5);
+    refused(engine.settle(tariff, freshBook(), longer(trip, huge)), 5);
+    const { statement } = engine.quote(tariff, freshBook(), trip);
+    refused(engine.post(tariff, freshBook(), trip, longer(statement, statement.length + 1)), 13);
+    refused(engine.post(tariff, freshBook(), trip, longer(statement, huge)), 13);
+    assert.equal(engine.read(longer(statement, huge), 0).size, statement.length);
+    refused(engine.read(longer(statement, huge), statement.length), 14);
+    assert.deepEqual(engine.settle(tariff, freshBook(), trip).statement, statement);
+});
+
+test('the largest tariff, and longer ones: the first record too many decides', () => {
+    const state = shown('tariff').subarray(0, 29);
+    const region = Uint8Array.from([40, 0, ...shown('aachen-tariff').subarray(31, 71)]);
+    const factor = [4, 0, 5, 0, 3, 0];
+    const stop = shown('tariff').subarray(35, 48);
+    const repeated = (record, times) => joined(...Array(times).fill(record));
+    const largest = joined(state, repeated(region, 31), repeated(factor, 32), repeated(stop, 1000));
+    assert.deepEqual(engine.checkTariff(largest), { accepted: true, bytes: binding.LARGEST_TARIFF_BYTES });
+    const end = binding.LARGEST_TARIFF_BYTES;
+    refused(engine.checkTariff(joined(largest, stop)), 2, end);
+    refused(engine.checkTariff(longer(joined(largest, stop), 1 << 22)), 2, end);
+    // the longest record: whole, a byte short, and with a length that none has
+    const claims = (length, bytes) => longer(joined(largest, [length & 255, length >> 8, 9, 0]), end + bytes);
+    refused(engine.checkTariff(claims(1024, 1026)), 2, end);
+    refused(engine.checkTariff(claims(1024, 1 << 20)), 2, end);
+    refused(engine.checkTariff(claims(1024, 1025)), 1, end);
+    refused(engine.checkTariff(claims(1025, 1 << 20)), 1, end);
+});
+
+test('what is lent stays, and what is given back belongs to the caller', () => {
+    const [book, trip] = [freshBook(), tripOf({})];
+    const given = [tariff, book, trip].map((slice) => slice.slice());
+    const first = engine.settle(tariff, book, trip);
+    assert.deepEqual([tariff, book, trip], given);
+    const kept = { statement: first.statement.slice(), book: first.book.slice() };
+    engine.settle(tariff, first.book, tripOf({ from: [2026, 11, 1, 1, 0], to: [2026, 11, 1, 1, 9] }));
+    assert.deepEqual({ statement: first.statement, book: first.book }, kept);
+});
+
+test('what are no bytes, or no offset, is told at once', () => {
+    assert.throws(() => engine.checkTariff([1, 2, 3]), TypeError);
+    assert.throws(() => engine.settle(tariff, undefined, tripOf({})), TypeError);
+    for (const at of [-1, 0.5, NaN, 2 ** 53]) assert.throws(() => engine.read(shown('record'), at), RangeError);
+});

@@ -1,0 +1,79 @@
+// What the command says of itself and of a call, both languages beside each other.
+
+export const USAGE = `usage: ./milecopper check|settle|statement|wages|close [FOLDER] [--period 2026-10]
+                    [--format csv|json] [--out FOLDER] [--member NAME] [--language de|en]
+                    [--areas FILE] [--stops FILE] [--trips FILE] [--books FILE]
+`;
+
+export const HELP = {
+    de: `
+check      nennt jeden Fehler in den Dateien, mit Zeile
+settle     jeder einzelne Betrag: eine Tabelle
+statement  eine Abrechnung je Mitglied, als Text; --member NAME: nur diese
+wages      für das Lohnbüro: eine Zeile je Mitglied und Monat
+close      schließt den Monat ab und schreibt die Bücher, books-2026-10.json; einmal je Monat
+
+Im Ordner (ohne Angabe: hier) liegen areas.csv, stops.csv und trips.csv, dazu gegebenenfalls die Bücher des letzten
+Abschlusses vor dem Monat; einzelne Dateien lassen sich stattdessen nennen. --out schreibt Dateien, statt zu drucken.
+Der Rechenkern wird beim ersten Mal gebaut, was ihn beweist und einige Minuten dauert.
+
+Status 0: alle Fahrten sind berechnet. 1: eine Fahrt wurde abgelehnt. 2: Fehler in Dateien oder Aufruf; dann wird
+nichts geschrieben.
+`,
+    en: `
+check      tells every mistake in the files, with its line
+settle     every single charge: a table
+statement  a statement for each member, as text; --member NAME: only this one
+wages      for the wage office: a row for each member and month
+close      closes the month and writes the books, books-2026-10.json; once a month
+
+The folder (none: the present one) holds areas.csv, stops.csv and trips.csv and, if there are, the books of the last
+closing before the month; single files can be named instead. --out writes files instead of printing.
+The engine is built the first time, which proves it and takes some minutes.
+
+Status 0: all trips are priced. 1: a trip is refused. 2: mistakes in files or call; nothing is written then.
+`,
+};
+
+export const WORDS = {
+    de: {
+        action: (word) => `'${word}' ist keine Aufgabe`,
+        none: 'eine Aufgabe fehlt',
+        many: 'nur ein Ordner kann genannt werden',
+        allowed: (option, words) => `--${option}: erlaubt ist ${words.join(', ')}`,
+        month: (word) => `--period '${word}': kein Monat wie 2026-10`,
+        due: 'zum Abschließen gehört --period',
+        missing: (files) => `fehlt oder ist nicht lesbar: ${files.join(', ')}`,
+        there: (file) => `${file} ist schon da: ein Monat wird einmal abgeschlossen`,
+        member: (name) => `kein Mitglied '${name}' mit Fahrten in diesem Zeitraum`,
+        building: 'der Rechenkern wird gebaut und dabei bewiesen; das dauert einige Minuten',
+        proved: (crate, all, name) => `Teil ${crate} von ${all} ist bewiesen, ${name}`,
+        unbuilt: 'der Rechenkern wurde nicht gebaut',
+        unwritten: (folder, why) => `in ${folder} kann nicht geschrieben werden: ${why}`,
+        books: (file) => `Bücher: ${file}`,
+        wrote: (file) => `geschrieben: ${file}`,
+        progress: (done, all) => `${done} von ${all} Fahrten`,
+        found: ({ errors, warnings }) => `Fehler: ${errors}, Warnungen: ${warnings}`,
+        priced: (trips, members) => `berechnete Fahrten: ${trips}, Mitglieder: ${members}`,
+    },
+    en: {
+        action: (word) => `'${word}' is not a task`,
+        none: 'a task is missing',
+        many: 'only one folder can be named',
+        allowed: (option, words) => `--${option}: allowed is ${words.join(', ')}`,
+        month: (word) => `--period '${word}': not a month like 2026-10`,
+        due: 'closing needs --period',
+        missing: (files) => `missing or not to be read: ${files.join(', ')}`,
+        there: (file) => `${file} is there already: a month is closed once`,
+        member: (name) => `no member '${name}' with trips in this period`,
+        building: 'the engine is being built, which proves it; that takes some minutes',
+        proved: (crate, all, name) => `crate ${crate} of ${all} is proved, ${name}`,
+        unbuilt: 'the engine was not built',
+        unwritten: (folder, why) => `cannot write in ${folder}: ${why}`,
+        books: (file) => `books: ${file}`,
+        wrote: (file) => `written: ${file}`,
+        progress: (done, all) => `${done} of ${all} trips`,
+        found: ({ errors, warnings }) => `errors: ${errors}, warnings: ${warnings}`,
+        priced: (trips, members) => `trips priced: ${trips}, members: ${members}`,
+    },
+};

@@ -1,0 +1,113 @@
+// The two tables: wages, a row for each member and month, for the wage office; charges, a row for each charge.
+import { writtenCsv } from './csv.mjs';
+import { Disagreement, centsOf } from './account.mjs';
+import { euros } from './fields.mjs';
+
+/** Rows {member, period, trips, refused, cents} of the entries in the period: trips are those accepted. */
+export function wagesOf(members) {
+    return members.flatMap((member) => {
+        const rows = new Map();
+        for (const entry of member.entries.filter(({ inPeriod }) => inPeriod)) {
+            const period = entry.month;
+            if (!rows.has(period)) rows.set(period, { member: member.name, period, trips: 0, refused: 0, cents: 0 });
+            const row = rows.get(period);
+            if (!entry.accepted) row.refused += 1;
+            else [row.trips, row.cents] = [row.trips + 1, row.cents + entry.cents];
+        }
+        return [...rows.values()];
+    });
+}
+
+const TRIP = ['member', 'line', 'check_in', 'check_out', 'from', 'to', 'via', 'class', 'level'];
+const RIDE = ['part', 'area', 'km', 'minutes', 'window'];
+const RIDER = ['rider', 'price', 'charge', 'taken_off', 'cap_area', 'cap_class'];
+
+/** The columns of the charges. */
+export const CHARGES = [...TRIP, ...RIDE, ...RIDER, 'refusal'];
+
+/** Rows by column of the entries in the period: one for each charge, and one for each refused trip. */
+export function chargesOf(members, tariff) {
+    return Array.from(chargeRows(members, tariff), (row) => rowByColumn(CHARGES, row));
+}
+
+const rowByColumn = (columns, row) => Object.fromEntries(columns.map((column, i) => [column, row[i]]));
+
+/** The same rows one after another, as values in the columns' order. */
+function* chargeRows(members, tariff) {
+    for (const { entries, openingLocal } of members.flatMap(({ windows }) => windows)) {
+        for (const entry of entries) if (entry.inPeriod) yield* entryRows(entry, openingLocal, tariff);
+    }
+}
+
+const isoOf = ({ local, offset }) => local + offset;
+
+function* entryRows(entry, opening, { areas, stops }) {
+    const via = entry.via.map((stop) => stops[stop].name).join('|');
+    const times = [isoOf(entry.checkIn), isoOf(entry.checkOut)];
+    const places = [stops[entry.from].name, stops[entry.to].name, via];
+    const trip = [entry.member, entry.line, ...times, ...places, entry.class, entry.level];
+    if (!entry.accepted) yield [...trip, ...[...RIDE, ...RIDER].map(() => null), entry.refusal.number];
+    let number = 0;
+    for (const part of entry.parts ?? []) {
+        number += 1;
+        const ride = [number, areas[part.area].name, part.km, part.minutes, isoOf(opening)];
+        for (const rider of part.riders) yield [...trip, ...ride, ...riderValues(rider, areas), null];
+    }
+}
+
+function riderValues({ sort, number, price, charge, off, cap }, areas) {
+    const rider = sort === 'holder' ? sort : `${sort} ${number}`;
+    return [rider, price, charge, off, cap ? areas[cap.area].name : null, cap ? cap.class : null];
+}
+
+/** Wages come from the trips' sums, and the single charges add up to them, of every member. */
+export function agreeWages(wages, members) {
+    const due = new Map(members.map(({ name }) => [name, 0]));
+    for (const { member, cents } of wages) due.set(member, due.get(member) + cents);
+    for (const { name, windows } of members) {
+        const charged = windows.reduce((sum, { entries }) => sum + chargedIn(entries), 0);
+        const paid = due.get(name);
+        if (charged !== paid) throw new Disagreement(name, `wages ${paid} and charges ${charged} cents`);
+    }
+}
+
+function chargedIn(entries) {
+    const counted = entries.filter(({ inPeriod, accepted }) => inPeriod && accepted);
+    return counted.reduce((sum, { parts }) => sum + centsOf(parts), 0);
+}
+
+// ---- As text
+
+const WAGES = ['member', 'period', 'trips', 'refused', 'cents'];
+const TITLES = { cents: 'amount' };
+const AMOUNTS = new Set(['cents', 'price', 'charge', 'taken_off']);
+
+/** The wages as CSV, with amounts in euros, or as JSON, with amounts in cents. */
+export function wagesText({ wages }, format, language) {
+    return tableText(WAGES, wages.map((row) => WAGES.map((column) => row[column])), format, language);
+}
+
+/** The charges likewise. */
+export function chargesText({ members, tariff }, format, language) {
+    return tableText(CHARGES, chargeRows(members, tariff), format, language);
+}
+
+function tableText(columns, rows, format, language) {
+    return format === 'json' ? jsonOf(columns, rows) : writtenCsv(csvRows(columns, rows, language), language);
+}
+
+function jsonOf(columns, rows) {
+    return `[\n${Array.from(rows, (row) => JSON.stringify(rowByColumn(columns, row))).join(',\n')}\n]\n`;
+}
+
+function* csvRows(columns, rows, language) {
+    const isAmount = columns.map((column) => AMOUNTS.has(column));
+    yield columns.map((column) => TITLES[column] ?? column);
+    const cell = (value, i) => (isAmount[i] ? amountText(value, language) : String(value ?? ''));
+    for (const row of rows) yield row.map(cell);
+}
+
+function amountText(cents, language) {
+    if (cents === null) return '';
+    return language === 'de' ? euros(cents).replace('.', ',') : euros(cents);
+}
