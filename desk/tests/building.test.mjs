@@ -13,7 +13,8 @@ function checkout(built) {
     const script = (name, text) => fs.writeFileSync(path.join(root, name), `#!/bin/sh\n${text}\n`, { mode: 0o755 });
     const crates = ['# NAME: what it stands on', 'units:', 'wire: units', 'other: units', 'milecopper: wire', ''];
     fs.writeFileSync(path.join(root, 'crates.txt'), crates.join('\n'));
-    fs.mkdirSync(path.join(root, 'host'));
+    for (const name of ['host', 'crates/units/src']) fs.mkdirSync(path.join(root, name), { recursive: true });
+    fs.writeFileSync(path.join(root, 'crates/units/src/lib.rt'), '');
     fs.mkdirSync(path.join(root, 'target/native'), { recursive: true });
     const lines = ['units proved (unchanged since it was last proved)', 'wire proved (8 s)', 'milecopper proved (1 s)'];
     script('rt', lines.map((line) => `echo 'rt: ${line}'`).join('\n'));
@@ -40,9 +41,26 @@ test('the first time each crate that is proved is told, of how many', async () =
     });
 });
 
-test('where it is there, nothing is told; and a building that fails gives nothing', async () => {
+/** A moment that is so many seconds from now. */
+const inSeconds = (seconds) => new Date(Date.now() + 1000 * seconds);
+
+function built(seconds) {
     const root = checkout('echo /some/milecopper.wasm');
-    fs.writeFileSync(path.join(root, 'target/native/milecopper.wasm'), '');
+    const wasm = path.join(root, 'target/native/milecopper.wasm');
+    fs.writeFileSync(wasm, '');
+    fs.utimesSync(wasm, inSeconds(seconds), inSeconds(seconds));
+    return root;
+}
+
+test('where it is there, nothing is told, however long looking takes', async () => {
+    const root = built(60);
+    fs.writeFileSync(path.join(root, 'host/built'), '#!/bin/sh\nsleep 3\necho /some/milecopper.wasm\n');
     assert.deepEqual(await told(root), { wasm: '/some/milecopper.wasm', lines: [] });
+});
+
+test('where a crate was changed since, it is told again; and a building that fails gives nothing', async () => {
+    const root = built(60);
+    fs.utimesSync(path.join(root, 'crates/units/src/lib.rt'), inSeconds(120), inSeconds(120));
+    assert.deepEqual((await told(root)).lines, ['building', '2 of 3: wire', '3 of 3: milecopper']);
     assert.equal((await told(checkout('exit 1'))).wasm, null);
 });

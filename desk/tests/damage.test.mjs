@@ -1,4 +1,5 @@
-// Files that were damaged anyhow: there is always an answer, told by file and line, and with an error nothing is priced.
+// Files that were damaged anyhow: there is always an answer, told by file and line. With an error nothing is
+// priced.
 import assert from 'node:assert/strict';
 import { test } from 'node:test';
 import { booksText } from '../books.mjs';

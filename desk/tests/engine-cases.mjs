@@ -103,7 +103,8 @@ for (let next = nextCase(input, last); next !== undefined; next = nextCase(input
     }
     counts[Number(next.answer >> 32n)] += 1;
 }
-console.log(`engine: ${cases} cases of the differential test, accepted and refused 1 to ${LARGEST_REFUSAL}:`, ...counts);
+const kinds = `accepted and refused 1 to ${LARGEST_REFUSAL}`;
+console.log(`engine: ${cases} cases of the differential test, ${kinds}: ${counts.join(' ')}`);
 if (cases < FEWEST || counts.some((count) => count < FEWEST_OF_EACH)) {
     console.error(`engine: too few cases, ${FEWEST} are due and ${FEWEST_OF_EACH} of each`);
     process.exit(1);

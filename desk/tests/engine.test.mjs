@@ -56,8 +56,8 @@ const refused = (answer, number, place = 0) => {
 
 test('lengths and version are those of the header', () => {
     const number = (name) => Number(header.match(new RegExp(`#define MILECOPPER_${name} (\\d+)`))[1]);
-    for (const name of ['BOOK', 'LARGEST_TARIFF', 'LARGEST_STATEMENT', 'LARGEST_FIELDS'].map((part) => `${part}_BYTES`)) {
-        assert.equal(binding[name], number(name), name);
+    for (const part of ['BOOK', 'LARGEST_TARIFF', 'LARGEST_STATEMENT', 'LARGEST_FIELDS']) {
+        assert.equal(binding[`${part}_BYTES`], number(`${part}_BYTES`), part);
     }
     const version = ['MAJOR', 'MINOR', 'PATCH'].map((part) => number(`VERSION_${part}`)).join('.');
     assert.equal(engine.version, version);
@@ -129,6 +129,7 @@ test('a record, read back', () => {
     refused(engine.read(shown('record'), 41), 14);
     refused(engine.read(shown('record').subarray(0, 39), 0), 14);
     refused(engine.read(shown('trip'), 0), 15);
+    refused(engine.read(changed(shown('record'), 8, 32), 0), 16);
 });
 
 test('every refusal, as an object', () => {
