@@ -70,6 +70,10 @@ const REFUSALS = {
         de: 'In der Abrechnung steht ein Wert, der nicht möglich ist.',
         en: 'A value in the statement is not possible.',
     },
+    17: {
+        de: 'Eingecheckt und gleich wieder aus, an einer Haltestelle in weniger als drei Minuten; das kostet nichts.',
+        en: 'Checked in and straight out again, at one stop in less than three minutes; it costs nothing.',
+    },
 };
 
 export function refusalText(number, language) {

@@ -125,7 +125,7 @@
 /* The version. The number stands here alone: the library's file names, its pkg-config file, its constant
  * milecopper_version and what the scripts say all come from these lines. */
 #define MILECOPPER_VERSION_MAJOR 0
-#define MILECOPPER_VERSION_MINOR 10
+#define MILECOPPER_VERSION_MINOR 11
 #define MILECOPPER_VERSION_PATCH 0
 #define MILECOPPER_VERSION_AS_TEXT(major, minor, patch) #major "." #minor "." #patch
 #define MILECOPPER_VERSION_AS_WRITTEN(major, minor, patch) MILECOPPER_VERSION_AS_TEXT(major, minor, patch)
@@ -311,7 +311,7 @@
 #define MILECOPPER_MOST_TRIPS_IN_A_WINDOW 256
 
 /* Why a trip or a record was refused. Where several apply, the answer is the first of them in this order. Settling and a quote
- * give 1 to 12, a posting 1 to 11 and 13, a reading 14 to 16 and then 12. */
+ * give 1 to 12 and 17, a posting 1 to 11, 17 and 13, a reading 14 to 16 and then 12. */
 enum milecopper_refusal {
     MILECOPPER_NOT_REFUSED = 0,
     MILECOPPER_TARIFF_BROKEN = 1,     /* tariff: a record's frame is broken */
@@ -324,6 +324,7 @@ enum milecopper_refusal {
     MILECOPPER_UNKNOWN_STOP = 7,      /* trip: a stop number that the tariff lacks */
     MILECOPPER_NO_SUCH_TIME = 8,      /* trip: a stamp's date, clock time or offset is none, or it is before minute 0 */
     MILECOPPER_TRIP_BACKWARD = 9,     /* trip: check-out before check-in, or over 1,440 minutes after it */
+    MILECOPPER_MISTAP = 17,           /* trip: all its stops are one stop, and it lasts under 3 minutes */
     MILECOPPER_BEFORE_LAST_TRIP = 10, /* trip: check-in before the book's last check-out */
     MILECOPPER_WINDOW_FULL = 11,      /* trip: it, or its second part, would be the 257th of its window */
     MILECOPPER_NO_ROOM = 12,          /* statement shorter than the charge records, or fields shorter than what is told */
@@ -364,7 +365,7 @@ uint64_t milecopper_settle(const uint8_t *tariff, size_t tariff_len,
  * Quotes one trip: writes the charge records that settling it would write, and leaves the book.
  *
  * Accepted: the number of bytes written to the statement, as by milecopper_settle. A statement of
- * MILECOPPER_LARGEST_STATEMENT_BYTES has room for every trip. Refused: as by milecopper_settle, by 1 to 12, and the
+ * MILECOPPER_LARGEST_STATEMENT_BYTES has room for every trip. Refused: as by milecopper_settle, by 1 to 12 or 17, and the
  * statement stays as it was. A quote answers whatever settling would answer. A trip may be quoted as often as one likes,
  * and a quote need not be posted.
  */
@@ -378,7 +379,7 @@ uint64_t milecopper_quote(const uint8_t *tariff, size_t tariff_len,
  * for this trip, and `record_len` the number of bytes that it answered: of a broken trip both records, in their order.
  *
  * Accepted: the number of bytes written, which is the book's length, MILECOPPER_BOOK_BYTES. Refused: as by
- * milecopper_settle, by 1 to 11, as all is checked again; then by 13, MILECOPPER_OTHER_RECORD, where the record is not
+ * milecopper_settle, by 1 to 11 or 17, as all is checked again; then by 13, MILECOPPER_OTHER_RECORD, where the record is not
  * exactly the bytes that a quote on this book would write now, but has a byte more, a byte less or a byte off, or is one
  * of two records or the two swapped. There is no 12, as no statement is written. A refusal leaves the book as it was.
  *
@@ -479,6 +480,8 @@ static inline const char *milecopper_refusal_text(enum milecopper_refusal refusa
                "that shows neither winter nor summer time.";
     case MILECOPPER_TRIP_BACKWARD:
         return "The trip ends before it starts, or it lasts longer than 24 hours.";
+    case MILECOPPER_MISTAP:
+        return "The trip was checked in and straight out again: at one stop, in less than 3 minutes. It costs nothing.";
     case MILECOPPER_BEFORE_LAST_TRIP:
         return "The trip starts before this account's last trip ended.";
     case MILECOPPER_WINDOW_FULL:

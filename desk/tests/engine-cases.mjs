@@ -13,7 +13,7 @@ const [CHECK, SETTLE, QUOTE, POST, READ] = ['check_tariff', 'settle', 'quote', '
     (name) => `milecopper_${name}`,
 );
 const NAMES = [CHECK, SETTLE, QUOTE, POST, READ];
-const LARGEST_REFUSAL = 16;
+const LARGEST_REFUSAL = 17;
 
 // Standard input, so many bytes at a time.
 class Input {

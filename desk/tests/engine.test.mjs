@@ -145,7 +145,10 @@ test('every refusal, as an object', () => {
     refused(settled(tariff, freshBook(), tripOf({ stops: [0, 1000] })), 7);
     refused(settled(tariff, freshBook(), tripOf({ from: [2026, 2, 29, 0, 0] })), 8);
     refused(settled(tariff, freshBook(), tripOf({ to: [2026, 10, 31, 23, 49] })), 9);
+    refused(settled(tariff, freshBook(), tripOf({ to: [2026, 10, 31, 23, 52], stops: [1, 1, 1] })), 17);
+    assert.ok(settled(tariff, freshBook(), tripOf({ to: [2026, 10, 31, 23, 53], stops: [1, 1, 1] })).accepted);
     const { book, statement } = settled(tariff, freshBook(), trip);
+    refused(settled(tariff, book, tripOf({ to: [2026, 10, 31, 23, 52], stops: [1, 1] })), 17);
     refused(settled(tariff, book, trip), 10);
     refused(engine.quote(tariff, book, trip), 10);
     refused(engine.post(tariff, book, trip, statement), 10);

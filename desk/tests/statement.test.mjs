@@ -138,6 +138,17 @@ test('the night with two half past twos names the season, and an arrival after m
     assert.match(text, /^Abrechnung aller Fahrten$/m);
 });
 
+test('a mistap costs nothing, leaves the window and says why; a minute more, and it is a ride', () => {
+    const mistap = 'Eva,2026-10-20,19:10,19:12,Dortmund Hbf,Dortmund Hbf';
+    const result = settled([BACK, mistap, mistap.replace('19:12', '19:13')]);
+    const [member] = result.members;
+    assert.deepEqual(member.entries.map(({ accepted, refusal }) => (accepted ? 0 : refusal.number)), [0, 17, 0]);
+    const words = LANGUAGES.map((language) => textsOf(result, language)[0].replace(/\s+/g, ' '));
+    assert.match(words[0], /Abgelehnt: Eingecheckt und gleich wieder aus, .*; das kostet nichts\. \(Zeile 3 der Fahrten\)/);
+    assert.match(words[1], /Refused: Checked in and straight out again, .*; it costs nothing\. \(line 3 of the trips\)/);
+    assert.deepEqual(settled([BACK, mistap]).members[0].book, settled([BACK]).members[0].book);
+});
+
 test('a refused trip outside of every window stands under a heading of its own', () => {
     const result = settled(['Eva,2026-10-17,12:15,12:26,Baesweiler Setterich,Baesweiler Reyplatz,,1']);
     const [text] = textsOf(result, 'de');
@@ -224,9 +235,10 @@ test('words: both languages say the same things', () => {
         Object.entries(words).flatMap(([key, word]) => (typeof word === 'object' ? [key, keys(word)] : [key]));
     for (const words of [LABELS, STATEMENT]) assert.deepEqual(keys(words.de), keys(words.en));
     for (const language of LANGUAGES) {
-        const texts = Array.from({ length: 16 }, (_, i) => refusalText(i + 1, language));
-        assert.equal(new Set(texts).size, 16);
+        const texts = Array.from({ length: 17 }, (_, i) => refusalText(i + 1, language));
+        assert.equal(new Set(texts).size, 17);
         for (const text of texts) assert.match(text, /^\p{Lu}.*\.$/u);
+        for (const text of texts) assert.doesNotMatch(text, /(Nummer|number) \d/);
     }
     assert.equal(capText('Westfalen', 2, 'en'), '24-hour cap of Westfalen, second class');
     assert.equal(capText('NRW', 1, 'de'), '24-Stunden-Deckel NRW, alle Klassen');

@@ -58,6 +58,7 @@ static void answers(void)
     check(milecopper_refusal_of(refused) == MILECOPPER_TARIFF_VALUE && milecopper_place(refused) == 29, "its refusal");
     check(milecopper_refusal_of((uint64_t)12 << 32) == MILECOPPER_NO_ROOM, "the last refusal of settling and of a quote");
     check(milecopper_refusal_of((uint64_t)13 << 32) == MILECOPPER_OTHER_RECORD, "the last refusal of a posting");
+    check(milecopper_refusal_of((uint64_t)17 << 32) == MILECOPPER_MISTAP, "a mistap");
     check(milecopper_refusal_of((uint64_t)16 << 32) == MILECOPPER_RECORD_VALUE, "the last refusal of a record that is read");
     check(milecopper_record_read(accepted) == 26 && milecopper_record_read(refused) == 0, "a record that was read");
     check(milecopper_bytes_written(MILECOPPER_BOOK_BYTES) == MILECOPPER_BOOK_BYTES, "a posted trip");
@@ -67,7 +68,7 @@ static void texts(void)
 {
     int one;
     int other;
-    for (one = 0; one <= 17; one += 1)
+    for (one = 0; one <= 18; one += 1)
         for (other = 0; other < one; other += 1)
             check(strcmp(milecopper_refusal_text((enum milecopper_refusal)one),
                          milecopper_refusal_text((enum milecopper_refusal)other)) != 0, "two refusals with one text");

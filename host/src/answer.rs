@@ -11,8 +11,8 @@ pub enum Answer {
     Refused { refusal: Refusal, place: u32 },
 }
 
-/// The refusals, in the order in which they are tried. Settling and a quote give the first twelve; a posting has 13 in the
-/// place of 12. A reading gives 14 to 16, and then 12.
+/// The refusals, in the order in which they are tried, in which 17 stands between 9 and 10. Settling and a quote give those
+/// up to 12; a posting has 13 in the place of 12. A reading gives 14 to 16, and then 12.
 #[derive(Clone, Copy, Debug, PartialEq, Eq)]
 pub enum Refusal {
     TariffBroken = 1,
@@ -24,6 +24,7 @@ pub enum Refusal {
     UnknownStop = 7,
     NoSuchTime = 8,
     TripBackward = 9,
+    Mistap = 17,
     BeforeLastTrip = 10,
     WindowFull = 11,
     NoRoom = 12,
@@ -46,7 +47,7 @@ impl Answer {
 }
 
 impl Refusal {
-    pub const ALL: [Refusal; 16] = [
+    pub const ALL: [Refusal; 17] = [
         Refusal::TariffBroken,
         Refusal::TariffMisshapen,
         Refusal::TariffValue,
@@ -56,6 +57,7 @@ impl Refusal {
         Refusal::UnknownStop,
         Refusal::NoSuchTime,
         Refusal::TripBackward,
+        Refusal::Mistap,
         Refusal::BeforeLastTrip,
         Refusal::WindowFull,
         Refusal::NoRoom,
@@ -64,6 +66,12 @@ impl Refusal {
         Refusal::RecordMisshapen,
         Refusal::RecordValue,
     ];
+
+    /// Those that settling and a quote give, in their order.
+    pub fn of_settling() -> impl Iterator<Item = Refusal> {
+        let last = Refusal::ALL.iter().position(|&refusal| refusal == Refusal::NoRoom);
+        Refusal::ALL.into_iter().take(1 + last.expect("one of them"))
+    }
 
     /// The refusal with this number.
     pub fn of(number: u64) -> Option<Refusal> {
@@ -82,6 +90,7 @@ impl Refusal {
             Refusal::UnknownStop => "unknown stop",
             Refusal::NoSuchTime => "no such time",
             Refusal::TripBackward => "trip backward or too long",
+            Refusal::Mistap => "mistap",
             Refusal::BeforeLastTrip => "before the last check-out",
             Refusal::WindowFull => "257th trip of the window",
             Refusal::NoRoom => "statement or fields too short",
@@ -117,8 +126,9 @@ mod tests {
         assert_eq!(Answer::of(12 << 32), Some(Answer::Refused { refusal: Refusal::NoRoom, place: 0 }));
         assert_eq!(Answer::of(13 << 32), Some(Answer::Refused { refusal: Refusal::OtherRecord, place: 0 }));
         assert_eq!(Answer::of(16 << 32), Some(Answer::Refused { refusal: Refusal::RecordValue, place: 0 }));
-        assert_eq!(Answer::of(17 << 32), None);
+        assert_eq!(Answer::of(17 << 32), Some(Answer::Refused { refusal: Refusal::Mistap, place: 0 }));
+        assert_eq!(Answer::of(18 << 32), None);
         assert_eq!(Answer::of(u64::MAX), None);
-        assert!((1..=16).all(|number| Refusal::of(number).is_some_and(|refusal| refusal as u64 == number)));
+        assert!((1..=17).all(|number| Refusal::of(number).is_some_and(|refusal| refusal as u64 == number)));
     }
 }

@@ -20,6 +20,7 @@ mod fields;
 mod functions;
 mod guarded;
 mod kinds;
+mod mistaps;
 mod offers;
 mod options;
 mod particulars;

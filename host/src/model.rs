@@ -72,16 +72,16 @@ pub fn settle(tariff: &[u8], book: &mut [u8], trip: &[u8], statement: &mut [u8])
 }
 
 /// Quotes one trip. Accepted: the bytes written; the charge records that settling would write stand one after another at
-/// the start of the statement. Refused, by 1 to 12: the statement stays. The book is only read.
+/// the start of the statement. Refused, by 1 to 12 or 17: the statement stays. The book is only read.
 pub fn quote(tariff: &[u8], book: &[u8], trip: &[u8], statement: &mut [u8]) -> Result<usize, Refusal> {
     let (_, charge_records) = outcome(tariff, book, trip, statement.len())?;
     Ok(write(&charge_records, statement))
 }
 
-/// Posts one trip by the record of its quote. Accepted: the book's length; the book is replaced. Refused, by 1 to 11 and
-/// then 13: the book stays. The record is only read.
+/// Posts one trip by the record of its quote. Accepted: the book's length; the book is replaced. Refused, by 1 to 11, 17 and
+/// at last 13: the book stays. The record is only read.
 pub fn post(tariff: &[u8], book: &mut [u8], trip: &[u8], record: &[u8]) -> Result<usize, Refusal> {
-    // 1 to 11. No statement is written, so none can be too short.
+    // 1 to 11 and 17. No statement is written, so none can be too short.
     let (new_book, charge_records) = outcome(tariff, book, trip, usize::MAX)?;
     // 13: the record is not exactly the bytes that a quote on this book would write
     unless(record == bytes_of(&charge_records), 13)?;
@@ -120,6 +120,8 @@ fn outcome(tariff: &[u8], book: &[u8], trip: &[u8], room: usize) -> Result<(Book
     let check_out = trip.check_out.minute_number().ok_or(refused(8))?;
     // 9: check-out before check-in, or over 1,440 minutes after it
     unless(check_in <= check_out && check_out <= check_in + MINUTES_IN_A_DAY, 9)?;
+    // 17: a mistap, of the trip as it is offered and whatever the book says
+    unless(!trip.is_mistap(check_out - check_in), 17)?;
     // 10: check-in before the book's last check-out
     unless(book.trips() == 0 || book.last_check_out() <= check_in, 10)?;
     // 11: the trip, or its second part, would be the 257th of its window

@@ -10,7 +10,7 @@ fn planted(name: &str) -> (bool, String) {
 }
 
 /// Each planted error, and words of the difference that it makes.
-const FOUND: [(&str, &str); 23] = [
+const FOUND: [(&str, &str); 28] = [
     ("refusal_12_writes_the_book", "the copy refused, and changed the book"),
     ("stops_after_stamps", "by the model: refused 7 at 0 (unknown stop)\n  by the copy: refused 8 at 0"),
     ("rounding_once_at_the_end", "of the statement is"),
@@ -33,6 +33,11 @@ const FOUND: [(&str, &str); 23] = [
     ("kind_4_of_32_charges", "by the model: refused 15 at 0 (record misshapen)\n  by the copy: refused 16"),
     ("fields_before_the_record", "\n  by the copy: refused 12"),
     ("no_cap_told_as_area_0", "of the fields is ff by the model, 00 by the copy"),
+    ("mistap_of_3_minutes", "\n  by the copy: refused 17 at 0 (mistap)"),
+    ("mistap_by_first_and_last_stop", "\n  by the copy: refused 17 at 0 (mistap)"),
+    ("mistap_by_points", "\n  by the copy: refused 17 at 0 (mistap)"),
+    ("mistap_after_10", "by the model: refused 17 at 0 (mistap)\n  by the copy: refused 10 at 0"),
+    ("mistap_of_a_part", "\n  by the copy: refused 17 at 0 (mistap)"),
     ("reads_past_the_trip", "signal 11 instead of an answer"),
 ];
 

@@ -4,7 +4,7 @@ use Prim.Native.Nat.{ℕ, suc, _+_, _-_, _/_, _%_, _^_, _≤_, _<_}
 use native.Mathlib.Nat.{eq-zero-or-pos}
 use native.Mathlib.Omega.{arith}
 use mathlib.Core.Path.{_≡_, refl, sym, ap, subst, _∙_}
-use mathlib.Core.Logic.{_↔_, _⊎_, ⊎-elim}
+use mathlib.Core.Logic.{_↔_, _⊎_, inl, ⊎-elim}
 use mathlib.Core.Bool.{true}
 use mathlib.Core.List.{List, [], _∷_, append-nil}
 use lib.ListN.{length, getD, length-append}
@@ -79,7 +79,7 @@ use Rattle.statement.proofs.Records.{
   cap-class-is,
   second-stands,
 }
-use Rattle.settle.specs.Refusals.{lastRefusal, rows}
+use Rattle.settle.specs.Refusals.{lastRefusal, Numbered, rows}
 use Rattle.settle.specs.Outcome.{Outcome, refused, accepted, partOf, oneMore, partsOf, acceptedTrip, settled, answerOf, Settled}
 use Rattle.settle.proofs.Rows.{first-holds, first-range, rows-range}
 use Rattle.settle.proofs.Clear.{part-complete, can-record}
@@ -393,7 +393,7 @@ module _ (tariff book bytes : List ℕ) (room : ℕ) where
       met : Answered tariff book bytes room (refused n place) → RefusedBy tariff book bytes room n place
       met (refusing says) = says
 
-  -- Where none of the twelve conditions holds, the trip is accepted.
+  -- Where no condition holds, the trip is accepted.
   pub accepts :
       NoCondition tariff book bytes room → (new : List ℕ) × (parts : List Part) × (settled tariff book bytes room ≡ accepted new parts)
   accepts none = go (settled tariff book bytes room) refl
@@ -416,7 +416,7 @@ module _ (tariff book bytes : List ℕ) (room : ℕ) where
       go (refused n place) e = absurd (met (refused-is e))
       go (accepted new parts) e = (new, parts, e)
 
-  -- And an accepted trip meets none of the twelve.
+  -- And an accepted trip meets none.
   pub accepted-meets-none : {new : List ℕ} {parts : List Part} → AcceptedBy tariff book bytes room new parts → NoCondition tariff book bytes room
   accepted-meets-none a =
       let never = no-fault tariff (a .counts) (a .read) in
@@ -447,7 +447,7 @@ module _ (tariff book bytes : List ℕ) (room : ℕ) where
           (clear-first tariff (a .counts) book bytes room (none-exactly tariff (a .counts) book bytes room .1 (a .none)))
           ∙ rw (a .new-is, a .parts-is)
 
-  -- A trip is accepted exactly when none of the twelve conditions holds.
+  -- A trip is accepted exactly when no condition holds.
   pub accepts-exactly :
       ((new : List ℕ) × (parts : List Part) × (settled tariff book bytes room ≡ accepted new parts))
       ↔ NoCondition tariff book bytes room
@@ -465,12 +465,12 @@ module _ (tariff book bytes : List ℕ) (room : ℕ) where
           (refused-way tariff book bytes room counts read
           (refused-first tariff counts book bytes room (first-exactly tariff counts book bytes room why .1 first)))
 
-  -- A refusal's number is 1 to the table's last; its place is at most 14,523, the length of the longest tariff, and 0 for 4 to 12.
+  -- A refusal's number is 1 to 12, or 17; its place is at most 14,523, the length of the longest tariff, and 0 from 4 on.
   pub refused-number :
-      {n place : ℕ} → settled tariff book bytes room ≡ refused n place → (1 ≤ n) × (n ≤ lastRefusal) × (place ≤ longestTariff) × (4 ≤ n → place ≡ 0)
+      {n place : ℕ} → settled tariff book bytes room ≡ refused n place → (1 ≤ n) × Numbered lastRefusal n × (place ≤ longestTariff) × (4 ≤ n → place ≡ 0)
   refused-number {n} {place} e = met (refused-is e)
     where
-      met : RefusedBy tariff book bytes room n place → (1 ≤ n) × (n ≤ lastRefusal) × (place ≤ longestTariff) × (4 ≤ n → place ≡ 0)
+      met : RefusedBy tariff book bytes room n place → (1 ≤ n) × Numbered lastRefusal n × (place ≤ longestTariff) × (4 ≤ n → place ≡ 0)
       met (by-others counts read why is at first) =
           let (low, high) =
           first-range lastRefusal (rows tariff counts book bytes room) (rows-range tariff counts book bytes room) (first-exactly tariff counts book bytes room why .1 first)
@@ -479,7 +479,7 @@ module _ (tariff book bytes : List ℕ) (room : ℕ) where
       met (by-tariff soFar found says) =
           let number = fault-number tariff n place soFar found in
           let (high, near) = fault-most tariff n place (fault-exactly tariff n place .1 (soFar, found .passed, says)) in
-          (⊎-elim (λ is. omega arith) (⊎-elim (λ is. omega arith) (λ is. omega arith)) number, omega arith, near, λ h. absurd (omega arith))
+          (⊎-elim (λ is. omega arith) (⊎-elim (λ is. omega arith) (λ is. omega arith)) number, inl (omega arith), near, λ h. absurd (omega arith))
 
   -- ---- What comes back.
 

@@ -27,7 +27,7 @@ use Rattle.statement.specs.Record.{Part, largestStatement, statementOf}
 use Rattle.settle.specs.declared.decide.Decision.{Decision}
 use Rattle.settle.specs.declared.decide.Decision.the-variants.{Refused, Clear}
 use Rattle.settle.specs.declared.refusals.Refusal.the-variants.{NoRoom, OtherRecord}
-use Rattle.settle.specs.Refusals.{refusal, lastRefusal, Found, nothing, found, firstOf}
+use Rattle.settle.specs.Refusals.{refusal, lastRefusal, Numbered, Found, nothing, found, firstOf}
 use Rattle.settle.specs.Outcome.{
   Quote,
   unquoted,
@@ -143,9 +143,9 @@ module _ (tariff book trip : List ℕ) (room : ℕ) where
       let exactly = refused-exactly tariff book trip room n place in
       (λ e. exactly .0 (alike .0 e), λ w. alike .1 (exactly .1 w))
 
-  -- Its number is 1 to 12, and 0 is the place of 4 to 12.
+  -- Its number is 1 to 12, or 17, and 0 is the place from 4 on.
   pub quote-number :
-      {n place : ℕ} → quoted tariff book trip room ≡ unquoted n place → (1 ≤ n) × (n ≤ lastRefusal) × (place ≤ longestTariff) × (4 ≤ n → place ≡ 0)
+      {n place : ℕ} → quoted tariff book trip room ≡ unquoted n place → (1 ≤ n) × Numbered lastRefusal n × (place ≤ longestTariff) × (4 ≤ n → place ≡ 0)
   quote-number {n} {place} e = refused-number tariff book trip room (quote-refuses-alike n place .0 e)
 
   -- An accepted trip's records have room, and the new book is as long as every book.
@@ -320,17 +320,17 @@ module _ (tariff book trip : List ℕ) where
           (faultless-posting tariff book trip offered counts read
           ∙ posting-found tariff counts book trip offered (posting-first-exactly tariff counts book trip offered why .1 first))
 
-  -- Its number is 1 to 11 or 13; 4 to 11 and 13 have no place.
+  -- Its number is 1 to 11, 13 or 17, and 0 is the place from 4 on.
   pub posting-number :
       (offered : List ℕ) {n place : ℕ} → postingOf tariff book trip offered ≡ unposted n place
-      → (1 ≤ n) × (n ≤ refusal OtherRecord) × (n ≡ refusal NoRoom → ⊥) × (4 ≤ n → place ≡ 0)
+      → (1 ≤ n) × Numbered (refusal OtherRecord) n × (n ≡ refusal NoRoom → ⊥) × (4 ≤ n → place ≡ 0)
   posting-number offered {n} {place} e = met (posting-refused-exactly offered n place .0 e)
     where
-      met : PostingRefusedBy tariff book trip offered n place → (1 ≤ n) × (n ≤ refusal OtherRecord) × (n ≡ refusal NoRoom → ⊥) × (4 ≤ n → place ≡ 0)
+      met : PostingRefusedBy tariff book trip offered n place → (1 ≤ n) × Numbered (refusal OtherRecord) n × (n ≡ refusal NoRoom → ⊥) × (4 ≤ n → place ≡ 0)
       met (at-fault soFar found-there says) =
-          ⊎-elim (λ is. (omega arith, omega arith, λ twelve. omega arith, λ h. absurd (omega arith)))
-          (⊎-elim (λ is. (omega arith, omega arith, λ twelve. omega arith, λ h. absurd (omega arith)))
-          (λ is. (omega arith, omega arith, λ twelve. omega arith, λ h. absurd (omega arith))))
+          ⊎-elim (λ is. (omega arith, inl (omega arith), λ twelve. omega arith, λ h. absurd (omega arith)))
+          (⊎-elim (λ is. (omega arith, inl (omega arith), λ twelve. omega arith, λ h. absurd (omega arith)))
+          (λ is. (omega arith, inl (omega arith), λ twelve. omega arith, λ h. absurd (omega arith))))
           (fault-number tariff n place soFar found-there)
       met (at-row counts read why is at first) =
           let table = postingRows tariff counts book trip offered in
@@ -338,7 +338,7 @@ module _ (tariff book trip : List ℕ) where
           let (low, high) = first-range (refusal OtherRecord) table (posting-range tariff counts book trip offered) there in
           let stands = first-has refusal table there in (
             omega (arith, is, low),
-            omega (arith, is, high),
+            rw is high,
             λ twelve.
                 false≢true (sym (no-room-row tariff counts book trip offered) ∙ ap (λ (k : ℕ). has refusal k table) (sym twelve ∙ is) ∙ stands),
             λ h. at,

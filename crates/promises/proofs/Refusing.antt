@@ -21,7 +21,7 @@ use Rattle.trip.specs.Moments.{checkinOf, checkoutOf}
 use Rattle.trip.specs.Trips.{tripOf}
 use Rattle.trip.proofs.Shapes.{five}
 use Rattle.trip.proofs.Ranges.{six, nine}
-use Rattle.trip.proofs.Known.{seven}
+use Rattle.trip.proofs.Known.{seven, seventeen}
 use Rattle.trip.proofs.Stamps.{eight}
 use Rattle.fare.proofs.TownLaws.{refused-says, said-refused}
 use Rattle.book.specs.Words.{tripsOf, lastOutOf}
@@ -86,6 +86,7 @@ words-with tariff counts book trip last twelve thirteen why.NoFirstClass =
     (refused-says tariff counts trip (tripOf trip), said-refused tariff counts trip (tripOf trip))
 words-with tariff counts book trip last twelve thirteen why.WrongStamp = negated _ (eight trip)
 words-with tariff counts book trip last twelve thirteen why.WrongOrder = negated _ (nine (checkinOf trip) (checkoutOf trip))
+words-with tariff counts book trip last twelve thirteen why.Mistap = seventeen trip (countAt trip 0) (checkinOf trip) (checkoutOf trip)
 words-with tariff counts book trip last twelve thirteen why.TooEarly = ten book (checkinOf trip)
 words-with tariff counts book trip last twelve thirteen why.FullWindow =
     below 256 (tripWindow book trip .trips + length (tripRides tariff counts trip))

@@ -1,7 +1,7 @@
 -- Two settlings whose minutes are all moved by one number: each row of the table holds of both or of neither, and two acceptances have the
 -- same rides, the same charges and cuts, and books and records alike but for the minutes.
 -- Assumes nothing.
-use Prim.Native.Nat.{ℕ, zero, suc, _+_, _*_, _≤_, _<_}
+use Prim.Native.Nat.{ℕ, zero, suc, _+_, _-_, _*_, _≤_, _<_}
 use native.Mathlib.Nat.{add-zero}
 use native.Mathlib.Omega.{arith}
 use native.Mathlib.Decide.{ℕ-discrete, decLt}
@@ -19,7 +19,7 @@ use Rattle.tariff.specs.Areas.{FaultlessTariff}
 use Rattle.tariff.proofs.Faultless.{faultless, read-one}
 use Rattle.trip.specs.Record.{countAt, stopNumber}
 use Rattle.trip.specs.Moments.{checkinOf, checkoutOf}
-use Rattle.trip.specs.Trips.{stopsKnown, stampsRight, inOrder, tripOf}
+use Rattle.trip.specs.Trips.{stopsKnown, stampsRight, inOrder, oneStop, isMistap, tripOf}
 use Rattle.trip.proofs.Shapes.{trip-same}
 use Rattle.fare.specs.declared.Ride.{Ride}
 use Rattle.fare.specs.Prices.{mostPrice}
@@ -187,6 +187,18 @@ module _ {c d : ℕ} {book bytes book′ bytes′ : List ℕ} (s : Shifted c d b
         leb-alike (checkoutOf bytes) (checkinOf bytes + dayMinutes) (checkoutOf bytes′) (checkinOf bytes′ + dayMinutes) (λ h. omega arith) (λ h. omega arith),
       )
 
+  -- the stops are one or not alike, and the duration is the same
+  one-same : (n : ℕ) → oneStop bytes′ n ≡ oneStop bytes n
+  unfolding oneStop
+  one-same n =
+      each-alike n (λ i. eqb (stopNumber bytes i) (stopNumber bytes 0)) (λ i. eqb (stopNumber bytes′ i) (stopNumber bytes′ 0))
+      (λ i. rw (s .trip .stop i, s .trip .stop 0))
+
+  mistap-same : (n : ℕ) → isMistap bytes′ n (checkinOf bytes′) (checkoutOf bytes′) ≡ isMistap bytes n (checkinOf bytes) (checkoutOf bytes)
+  mistap-same n =
+      let duration : checkoutOf bytes′ - checkinOf bytes′ ≡ checkoutOf bytes - checkinOf bytes = omega (arith, s .checkin, s .checkout) in
+      rw (one-same n, duration)
+
   early-same : tooEarly book′ (checkinOf bytes′) ≡ tooEarly book (checkinOf bytes)
   unfolding tooEarly
   early-same = rw trips-same (go (ℕ-discrete (tripsOf book) 0))
@@ -235,6 +247,7 @@ module _ {c d : ℕ} {book bytes book′ bytes′ : List ℕ} (s : Shifted c d b
         s .stamps,
         s .stamps′,
         order-same,
+        mistap-same (countAt bytes 0),
         early-same,
         trips-alike,
       )

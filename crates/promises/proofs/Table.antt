@@ -25,7 +25,7 @@ use Rattle.tariff.specs.Levels.{levelCap}
 use Rattle.tariff.specs.Areas.{capOf, tripCapOf, kindWith, dayCapOf, areaOf, areaAt, stopAt, townAt, liesWithin, smallestOf, Read}
 use Rattle.trip.specs.Record.{shapeAt, partyAt, stopNumber}
 use Rattle.trip.specs.Moments.{checkinOf, checkoutOf}
-use Rattle.trip.specs.Trips.{isTrip, partyRight, stopsKnown, stampsRight, tripOf}
+use Rattle.trip.specs.Trips.{isTrip, partyRight, stopsKnown, stampsRight, oneStop, tripOf}
 use Rattle.fare.specs.Distance.{apart, kmFrom, kmOf}
 use Rattle.fare.specs.Rides.{stopOf, areaOfStops, rideBetween, rideOf}
 use Rattle.fare.specs.Parts.{breakOf, ridesOf as tripRides}
@@ -62,7 +62,7 @@ use Rattle.promises.specs.Cases.{
   stampBytes,
   numbersBytes,
   tripBytes,
-  offered,
+  along,
   Result,
   partResults,
   outcomeResults,
@@ -168,11 +168,11 @@ computed : map settledSums cases ≡ map saidSums cases
 unfolding dividedUp hundredthsOf periods getLe putLe bytesOf each broken frameAt monthDays daysOfMonths daysOfYears dayNumber localMinute minuteNumber
     leftOf cappedHere foldUp among chargeIn leaves namedHere nameIn longOf areaPlace longAreas areaFields stopFields levelCap capOf tripCapOf kindWith
     dayCapOf areaOf areaAt stopAt townAt liesWithin smallestOf shapeAt partyAt stopNumber checkinOf checkoutOf isTrip partyRight stopsKnown
-    stampsRight apart kmFrom kmOf stopOf areaOfStops rideBetween rideOf basePart kmPart step1 step2 step3 step4 tripCap commonPrice isMarked
+    stampsRight oneStop apart kmFrom kmOf stopOf areaOfStops rideBetween rideOf basePart kmPart step1 step2 step3 step4 tripCap commonPrice isMarked
     inMarkedTown priceOf someInTown townRefuses secondCap allCap riderCharge riderCharges bicycleCharges chargesOf riderCut riderCuts cutsOf cutOf
     belongs tooEarly windowOf addHere addUp addList coverBicycles opened posted statementSize breakOf tripRides rows firstOf partOf oneMore partsOf
     postedAll acceptedTrip onSound runOnSound entryOf ridesWith ridesAfter ridesOver sampleArea areaBytes areasBytes sampleFactor factorBytes
-    factorsBytes sampleStop stopBytes stopsBytes sampleAreas sampleFactors sampleStops sample stampBytes numbersBytes tripBytes offered partResults
+    factorsBytes sampleStop stopBytes stopsBytes sampleAreas sampleFactors sampleStops sample stampBytes numbersBytes tripBytes along partResults
     outcomeResults resultsOf ridesIn cases
 computed = refl
 

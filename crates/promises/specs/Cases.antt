@@ -170,10 +170,12 @@ alone = record { adults = 0; children = 0; bicycles = 0 }
 abbrev pub withChild : Party
 withChild = record { adults = 0; children = 1; bicycles = 0 }
 
--- some trip from a stop to a stop, which has no change, offered with room for any statement
-unfoldable pub offered : Stamp → Stamp → ℕ → ℕ → Party → ℕ → ℕ → Offer
-offered from to class level party first last =
-    record { bytes = tripBytes from to class level party (first ∷ last ∷ []); room = largestStatement }
+-- some trip along its stops, offered with room for any statement; and from a stop to a stop, which has no change
+unfoldable pub along : Stamp → Stamp → ℕ → ℕ → Party → List ℕ → Offer
+along from to class level party stops = record { bytes = tripBytes from to class level party stops; room = largestStatement }
+
+abbrev pub offered : Stamp → Stamp → ℕ → ℕ → Party → ℕ → ℕ → Offer
+offered from to class level party first last = along from to class level party (first ∷ last ∷ [])
 
 -- so many minutes after a full hour of 2026-03-02, in the same day, in winter time
 abbrev pub after : ℕ → ℕ → Stamp
@@ -260,7 +262,7 @@ abbrev pub childRide : ℕ → ℕ → ℕ → ℕ → ℕ → ℕ → ℕ → R
 childRide area km minutes class price charge holder =
     ridden (record { area = area; class = class; price = price; charge = charge }) km minutes (holder ∷ charge ∷ []) uncut
 
--- the starred sums, in their order, with what caps took off; and the two nights of a year in which the clock changes
+-- the starred sums, in their order, with what caps took off; the two nights of a year in which the clock changes; and mistaps
 unfoldable pub cases : List Case
 cases =
     -- region 6: 6 km; 21 km; 21 km at level B; that in class 1; that for a child
@@ -306,4 +308,15 @@ cases =
     -- 10-25 02:50 summer time to 02:10 winter time; 03-29 01:50 winter time to 03:10 summer time
     ∷ one (offered (stamp 2026 10 25 2 50 2) (stamp 2026 10 25 2 10 1) 2 0 alone 0 2) (ride 2 5 20 2 230 230)
     ∷ one (offered (stamp 2026 3 29 1 50 1) (stamp 2026 3 29 3 10 2) 2 0 alone 0 2) (ride 2 5 20 2 230 230)
+    -- region 6, from a stop to itself: 0, 2 and 3 minutes; with a change at that stop, 2 minutes
+    ∷ one (trip 6 0 2 0 14 14) (refusedWith 17 0)
+    ∷ one (trip 6 2 2 0 14 14) (refusedWith 17 0)
+    ∷ one (trip 6 3 2 0 14 14) (ride 6 0 3 2 173 173)
+    ∷ one (along (after 6 0) (after 6 2) 2 0 alone (14 ∷ 14 ∷ 14 ∷ [])) (refusedWith 17 0)
+    -- the same before the last check-out: in 2 minutes a mistap, in 3 minutes too early
+    ∷ day
+    ((trip 6 30 2 0 14 15, ride 6 6 30 2 347 347)
+    ∷ (trip 6 2 2 0 14 14, refusedWith 17 0)
+    ∷ (trip 6 3 2 0 14 14, refusedWith 10 0)
+    ∷ [])
     ∷ []

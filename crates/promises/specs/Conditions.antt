@@ -14,7 +14,7 @@ use Rattle.tariff.specs.Areas.{Read}
 use Rattle.trip.specs.Record.{countAt, classAt, levelAt, partyAt}
 use Rattle.trip.specs.Moments.{checkinOf, checkoutOf}
 use Rattle.trip.specs.Trips.{tripOf}
-use Rattle.trip.specs.Conditions.{NoTrip, WrongParty, LackingStop, WrongStamp, WrongOrder}
+use Rattle.trip.specs.Conditions.{NoTrip, WrongParty, LackingStop, WrongStamp, WrongOrder, Mistap}
 use Rattle.fare.specs.declared.Ride.{Ride}
 use Rattle.fare.specs.Distance.{apart, LeastKm}
 use Rattle.fare.specs.Rides.{stopOf, AreaOfStops, rideBetween}
@@ -65,7 +65,7 @@ tripRides tariff counts bytes = ridesOf tariff counts bytes (tripOf bytes)
 abbrev pub tripWindow : List ℕ → List ℕ → Window
 tripWindow book bytes = windowOf book (checkinOf bytes) (checkoutOf bytes)
 
--- ---- The conditions. 5 to 9 are the trip's own: trip/Conditions.
+-- ---- The conditions. 5 to 9 and 17 are the trip's own: trip/Conditions.
 
 -- 1 to 3: in a tariff the first faulty record decides. All before some place is faultless, and what stands there is wrong in a way
 pub record FirstFaulty (tariff : List ℕ) (way : ℕ → Counts → Type 0) : Type 0 where
@@ -89,6 +89,7 @@ conditionWith tariff counts book trip noRoom otherRecord why.UnknownStop = Lacki
 conditionWith tariff counts book trip noRoom otherRecord why.NoFirstClass = FirstClassInTown tariff counts trip (tripOf trip)
 conditionWith tariff counts book trip noRoom otherRecord why.WrongStamp = WrongStamp trip
 conditionWith tariff counts book trip noRoom otherRecord why.WrongOrder = WrongOrder (checkinOf trip) (checkoutOf trip)
+conditionWith tariff counts book trip noRoom otherRecord why.Mistap = Mistap trip (countAt trip 0) (checkinOf trip) (checkoutOf trip)
 conditionWith tariff counts book trip noRoom otherRecord why.TooEarly = TooEarly book (checkinOf trip)
 conditionWith tariff counts book trip noRoom otherRecord why.FullWindow = 256 < tripWindow book trip .trips + length (tripRides tariff counts trip)
 conditionWith tariff counts book trip noRoom otherRecord why.NoRoom = noRoom
@@ -102,7 +103,7 @@ condition tariff counts book trip room = conditionWith tariff counts book trip (
 abbrev pub postingCondition : List ℕ → Counts → List ℕ → List ℕ → List ℕ → Refusal → Type 0
 postingCondition tariff counts book trip offered = conditionWith tariff counts book trip ⊥ (presentQuote tariff counts book trip ≡ offered → ⊥)
 
--- none of the twelve holds
+-- no condition holds
 pub record NoCondition (tariff book trip : List ℕ) (room : ℕ) : Type 0 where
   pub no-broken-frame : FirstFaulty tariff (λ place soFar. BrokenFrame tariff place) → ⊥
   pub none-out-of-place : FirstFaulty tariff (OutOfPlace tariff) → ⊥

@@ -5,17 +5,17 @@
 use Prim.Native.Nat.{ℕ, _≤_}
 use native.Mathlib.Omega.{arith}
 use mathlib.Core.Path.{_≡_, refl, sym, ap, _∙_}
-use mathlib.Core.Logic.{_↔_}
-use mathlib.Core.Bool.{Bool, true, false, cond, not, _&&_, false≢true}
+use mathlib.Core.Logic.{_↔_, _⊎_, inl, inr}
+use mathlib.Core.Bool.{Bool, true, false, cond, not, _&&_, _||_, false≢true}
 use mathlib.Core.List.{List, [], _∷_, _++_}
-use borrow.Author.Tests.{eq-eqb, ne-eqb, leb-true, not-true}
+use borrow.Author.Tests.{eq-eqb, ne-eqb, eqb-true, leb-true, not-true}
 use lib.Dec.{eqb, leb}
 use lib.ListN.{take}
 use Rattle.tariff.specs.declared.Counts.{Counts}
-use Rattle.wire.proofs.Tests.{both-left, both-right}
+use Rattle.wire.proofs.Tests.{both-left, both-right, one-of}
 use Rattle.settle.specs.declared.refusals.Refusal.{Refusal}
-use Rattle.settle.specs.declared.refusals.Refusal.the-variants.{NoRoom, OtherRecord}
-use Rattle.settle.specs.Refusals.{refusal, lastRefusal, Row, row, rowsTo, rows, Found, nothing, found, firstOf, rowOf, testOf, First, here, later}
+use Rattle.settle.specs.declared.refusals.Refusal.the-variants.{Mistap, NoRoom, OtherRecord}
+use Rattle.settle.specs.Refusals.{refusal, lastRefusal, Numbered, Row, row, rowsTo, rows, Found, nothing, found, firstOf, rowOf, testOf, First, here, later}
 use Rattle.settle.specs.Posting.{postingRows}
 
 -- ---- Any table.
@@ -56,24 +56,26 @@ unfoldable pub distinct : List Row → Bool
 distinct [] = true
 distinct (r ∷ rest) = not (has rowOf (rowOf (r .why)) rest) && distinct rest
 
--- all numbers are 4 to a last
+-- all numbers are 4 to the last row's, or 17
 unfoldable pub inRange : ℕ → List Row → Bool
-inRange most [] = true
-inRange most (r ∷ rest) = leb 4 (refusal (r .why)) && (leb (refusal (r .why)) most && inRange most rest)
+inRange last [] = true
+inRange last (r ∷ rest) =
+    leb 4 (refusal (r .why)) && ((leb (refusal (r .why)) last || eqb (refusal (r .why)) (refusal Mistap)) && inRange last rest)
 
 pub first-range :
-    (most : ℕ) (table : List Row) {why : Refusal} → inRange most table ≡ true → firstOf table ≡ found why → (4 ≤ refusal why) × (refusal why ≤ most)
+    (last : ℕ) (table : List Row) {why : Refusal} → inRange last table ≡ true → firstOf table ≡ found why → (4 ≤ refusal why) × Numbered last (refusal why)
 unfolding firstOf inRange
-first-range most [] range e = absurd (let z : _≡_ {A = ℕ} 0 1 = cc in omega arith)
-first-range most (r ∷ rest) {why} range e =
-    let least = both-left (leb 4 (refusal (r .why))) (leb (refusal (r .why)) most && inRange most rest) range in
-    let above = both-right (leb 4 (refusal (r .why))) (leb (refusal (r .why)) most && inRange most rest) range in
-    let high = both-left (leb (refusal (r .why)) most) (inRange most rest) above in
-    go (r .test) e (leb-true 4 (refusal (r .why)) least) (leb-true (refusal (r .why)) most high)
-    (first-range most rest (both-right (leb (refusal (r .why)) most) (inRange most rest) above))
+first-range last [] range e = absurd (let z : _≡_ {A = ℕ} 0 1 = cc in omega arith)
+first-range last (r ∷ rest) {why} range e =
+    let n = refusal (r .why) in
+    let least = both-left (leb 4 n) ((leb n last || eqb n (refusal Mistap)) && inRange last rest) range in
+    let above = both-right (leb 4 n) ((leb n last || eqb n (refusal Mistap)) && inRange last rest) range in
+    let most = both-left (leb n last || eqb n (refusal Mistap)) (inRange last rest) above in
+    go (r .test) e (leb-true 4 n least) (one-of (leb n last) (eqb n (refusal Mistap)) most (λ t. inl (leb-true n last t)) (λ t. inr (eqb-true n (refusal Mistap) t)))
+    (first-range last rest (both-right (leb n last || eqb n (refusal Mistap)) (inRange last rest) above))
   where
-    go : (t : Bool) → cond t (found (r .why)) (firstOf rest) ≡ found why → 4 ≤ refusal (r .why) → refusal (r .why) ≤ most
-        → (firstOf rest ≡ found why → (4 ≤ refusal why) × (refusal why ≤ most)) → (4 ≤ refusal why) × (refusal why ≤ most)
+    go : (t : Bool) → cond t (found (r .why)) (firstOf rest) ≡ found why → 4 ≤ refusal (r .why) → Numbered last (refusal (r .why))
+        → (firstOf rest ≡ found why → (4 ≤ refusal why) × Numbered last (refusal why)) → (4 ≤ refusal why) × Numbered last (refusal why)
     go true e′ least high after = let same : r .why ≡ why = cc in rw (← same) (least, high)
     go false e′ least high after = after e′
 
@@ -215,7 +217,7 @@ module _ (tariff : List ℕ) (counts : Counts) (book trip offered : List ℕ) wh
 module _ (tariff : List ℕ) (counts : Counts) (book trip : List ℕ) where
   -- 4 to 11: all rows but the last, whichever that is
   abbrev pub earlierRows : List Row
-  earlierRows = take 9 (rowsTo tariff counts book trip (row NoRoom false))
+  earlierRows = take 10 (rowsTo tariff counts book trip (row NoRoom false))
 
   pub earlier-and-last : (last : Row) → rowsTo tariff counts book trip last ≡ earlierRows ++ last ∷ []
   earlier-and-last last = refl

@@ -16,7 +16,7 @@ use Rattle.trip.specs.declared.Trip.{Trip}
 use Rattle.trip.specs.declared.Party.{Party}
 use Rattle.trip.specs.Record.{classAt, levelAt, partyAt, countAt}
 use Rattle.trip.specs.Moments.{checkinOf, checkoutOf}
-use Rattle.trip.specs.Trips.{isTrip, stampsRight, inOrder, tripOf}
+use Rattle.trip.specs.Trips.{isTrip, stampsRight, inOrder, isMistap, tripOf}
 use Rattle.trip.specs.Contracts.{GoodTrip}
 use Rattle.fare.specs.declared.Breaking.{Breaking}
 use Rattle.fare.specs.Parts.{breakOf, ridesOf}
@@ -31,7 +31,7 @@ use Rattle.settle.specs.declared.decide.Decision.{Decision}
 use Rattle.settle.specs.declared.decide.Decision.the-variants.{Refused, Clear}
 use Rattle.settle.specs.declared.refusals.Refusal.{Refusal}
 use Rattle.settle.specs.declared.refusals.Refusal.the-variants as why
-use Rattle.settle.specs.Refusals.{refusal, lastRefusal, rows, Found, nothing, found, firstOf, testOf}
+use Rattle.settle.specs.Refusals.{refusal, lastRefusal, Numbered, rows, Found, nothing, found, firstOf, testOf}
 use Rattle.settle.specs.Outcome.{
   Quote,
   unquoted,
@@ -103,6 +103,7 @@ module _ (tariff : List ℕ) (counts : Counts) (book trip : List ℕ) (room : �
     pub sound-book : sound book (counts .areas) ≡ true
     pub good : GoodTrip trip (counts .stops)
     pub class-there : townRefuses tariff counts trip (tripOf trip) ≡ false
+    pub no-mistap : isMistap trip (countAt trip 0) (checkinOf trip) (checkoutOf trip) ≡ false
     pub on-time : tooEarly book (checkinOf trip) ≡ false
     pub few : window .trips + length (ridesOf tariff counts trip (tripOf trip)) ≤ 256
     pub fits : statementSize (ridesOf tariff counts trip (tripOf trip)) ≤ room
@@ -121,6 +122,7 @@ module _ (tariff : List ℕ) (counts : Counts) (book trip : List ℕ) (room : �
           order = not-false (inOrder (checkinOf trip) (checkoutOf trip)) (off why.WrongOrder);
         };
         class-there = off why.NoFirstClass;
+        no-mistap = off why.Mistap;
         on-time = off why.TooEarly;
         few = ltb-false 256 (window .trips + length (ridesOf tariff counts trip (tripOf trip))) (off why.FullWindow);
         fits = ltb-false room (statementSize (ridesOf tariff counts trip (tripOf trip))) (off why.NoRoom);
@@ -240,10 +242,10 @@ refusal-told o book statement number place e near =
 
 -- ---- The answers fit.
 
--- The numbers of the table are 4 to the last.
+-- The numbers of the table are 4 to the last row's, and 17.
 pub refusal-range :
     (tariff : List ℕ) (counts : Counts) (book trip : List ℕ) (room : ℕ) {why : Refusal} → decidedUnder tariff counts book trip room ≡ Refused why
-    → (4 ≤ refusal why) × (refusal why ≤ lastRefusal)
+    → (4 ≤ refusal why) × Numbered lastRefusal (refusal why)
 refusal-range tariff counts book trip room e =
     first-range lastRefusal (rows tariff counts book trip room) (rows-range tariff counts book trip room) (refused-found tariff counts book trip room e)
 

@@ -1,8 +1,10 @@
 -- docs/RULES.md, section 13: the refusals from 4 on as a table. A row is a refusal and its test; the first row whose test holds decides.
 -- Each test is a function of the bytes alone, so that a row stands by itself and rows can change places. Settling, a quote and a posting
--- have the rows 4 to 11 in common; settling and a quote end in 12, a posting in 13 (`Posting`).
-use Prim.Native.Nat.{ℕ, _+_}
+-- have the rows 4 to 11 in common; settling and a quote end in 12, a posting in 13 (`Posting`). Such a span goes by the table's order: 17
+-- stands between 9 and 10, so it is one of 4 to 11.
+use Prim.Native.Nat.{ℕ, _+_, _≤_}
 use mathlib.Core.Path.{_≡_}
+use mathlib.Core.Logic.{_⊎_}
 use mathlib.Core.List.{List, [], _∷_}
 use mathlib.Core.Bool.{Bool, false, cond, not}
 use lib.ListN.{length}
@@ -10,7 +12,7 @@ use lib.Dec.{eqb, ltb}
 use Rattle.tariff.specs.declared.Counts.{Counts}
 use Rattle.trip.specs.Record.{classAt, levelAt, partyAt, countAt}
 use Rattle.trip.specs.Moments.{checkinOf, checkoutOf}
-use Rattle.trip.specs.Trips.{isTrip, partyRight, stopsKnown, stampsRight, inOrder, tripOf}
+use Rattle.trip.specs.Trips.{isTrip, partyRight, stopsKnown, stampsRight, inOrder, isMistap, tripOf}
 use Rattle.fare.specs.Parts.{ridesOf}
 use Rattle.fare.specs.Towns.{townRefuses}
 use Rattle.book.specs.Sound.{sound}
@@ -25,6 +27,7 @@ use Rattle.settle.specs.declared.refusals.Refusal.the-variants.{
   NoFirstClass,
   WrongStamp,
   WrongOrder,
+  Mistap,
   TooEarly,
   FullWindow,
   NoRoom,
@@ -40,14 +43,19 @@ refusal UnknownStop = 7
 refusal NoFirstClass = 6
 refusal WrongStamp = 8
 refusal WrongOrder = 9
+refusal Mistap = 17
 refusal TooEarly = 10
 refusal FullWindow = 11
 refusal NoRoom = 12
 refusal OtherRecord = 13
 
--- the largest that settling and a quote give
+-- the last row's number where a trip is settled or quoted
 abbrev pub lastRefusal : ℕ
 lastRefusal = refusal NoRoom
+
+-- the numbers of a table, by its last row's: up to that, and 17, which stands between 9 and 10
+abbrev pub Numbered : ℕ → ℕ → Type 0
+Numbered last n = (n ≤ last) ⊎ (n ≡ refusal Mistap)
 
 pub record Row : Type 0 where
   pub why : Refusal
@@ -63,6 +71,7 @@ row why test = record { why = why; test = test }
 -- 6 again: class 1, where the trip's area, or that of one of its parts, is a town that drops the base price or the km price
 -- 8: a stamp that is no local date 2000..2099, no clock time 00:00..23:59, has an offset that is not 1 or 2, or is before minute 0 of UTC
 -- 9: check-out before check-in, or over 1,440 minutes after it
+-- 17: a mistap: all stops of the trip are one stop, and its duration is under 3 minutes; of the trip as it is offered, unbroken
 -- 10: check-in before the book's last check-out (word 0 not 0)
 -- 11: the trip would be the 257th of its window; each of its rides counts as one
 -- and then a last row
@@ -76,6 +85,7 @@ rowsTo tariff counts book trip last =
     ∷ row NoFirstClass (townRefuses tariff counts trip (tripOf trip))
     ∷ row WrongStamp (not (stampsRight trip))
     ∷ row WrongOrder (not (inOrder (checkinOf trip) (checkoutOf trip)))
+    ∷ row Mistap (isMistap trip (countAt trip 0) (checkinOf trip) (checkoutOf trip))
     ∷ row TooEarly (tooEarly book (checkinOf trip))
     ∷ row FullWindow (ltb 256 (windowOf book (checkinOf trip) (checkoutOf trip) .trips + length rides))
     ∷ last
@@ -104,10 +114,11 @@ rowOf UnknownStop = 3
 rowOf NoFirstClass = 4
 rowOf WrongStamp = 5
 rowOf WrongOrder = 6
-rowOf TooEarly = 7
-rowOf FullWindow = 8
-rowOf NoRoom = 9
-rowOf OtherRecord = 10
+rowOf Mistap = 7
+rowOf TooEarly = 8
+rowOf FullWindow = 9
+rowOf NoRoom = 10
+rowOf OtherRecord = 11
 
 -- the test of a refusal's row, wherever it stands
 unfoldable pub testOf : Refusal → List Row → Bool

@@ -15,6 +15,7 @@ use trip::Times;
 use trip::Trip;
 use trip::class_at;
 use trip::in_order;
+use trip::is_mistap;
 use trip::level_at;
 use trip::party_at;
 use trip::party_right;
@@ -78,6 +79,9 @@ pub fn decide(tariff: &[u8], counts: Counts, book: &[u8], trip: &[u8], room: usi
     };
     if !in_order(checkin, checkout) {
         return Decision::Refused(Refusal::WrongOrder);
+    }
+    if is_mistap(trip, stops, checkin, checkout) {
+        return Decision::Refused(Refusal::Mistap);
     }
     if too_early(book, checkin) {
         return Decision::Refused(Refusal::TooEarly);

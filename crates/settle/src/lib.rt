@@ -1,4 +1,4 @@
-// Settling one trip: the twelve refusals in their order, or its charge records and the new book. And the same in two steps: a quote, which
+// Settling one trip: the refusals in their order, or its charge records and the new book. And the same in two steps: a quote, which
 // writes only the records, and the posting of that quote, which writes only the book.
 //
 // refusals.rt the refusals from 4 on by their names, with their numbers

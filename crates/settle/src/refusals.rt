@@ -1,5 +1,5 @@
-// The refusals from 4 on by their names. Their order is the table's, which `decide` follows, and where 6 stands twice; 13 is a posting's
-// alone.
+// The refusals from 4 on by their names. Their order is the table's, which `decide` follows, and where 6 stands twice and 17 before 10; 13 is a
+// posting's alone.
 ghost use mathlib.Core.Path.{_≡_};
 ghost use Rattle.settle.specs.Refusals.{refusal};
 
@@ -11,6 +11,7 @@ pub enum Refusal {
     NoFirstClass,
     WrongStamp,
     WrongOrder,
+    Mistap,
     TooEarly,
     FullWindow,
     NoRoom,
@@ -29,6 +30,7 @@ pub fn number(why: Refusal) -> u8
         Refusal::NoFirstClass => 6,
         Refusal::WrongStamp => 8,
         Refusal::WrongOrder => 9,
+        Refusal::Mistap => 17,
         Refusal::TooEarly => 10,
         Refusal::FullWindow => 11,
         Refusal::NoRoom => 12,

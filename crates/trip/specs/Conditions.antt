@@ -1,5 +1,5 @@
--- docs/RULES.md, section 13: the conditions 5 to 9, in the rules' words and order.
-use Prim.Native.Nat.{ℕ, _+_, _*_, _≤_, _<_}
+-- docs/RULES.md, section 13: the conditions 5 to 9, and 17 behind them, in the rules' words and order.
+use Prim.Native.Nat.{ℕ, _+_, _-_, _*_, _≤_, _<_}
 use mathlib.Core.Path.{_≡_}
 use mathlib.Core.List.{List}
 use mathlib.Core.Bool.{false}
@@ -57,3 +57,8 @@ pub data WrongStamp (trip : List ℕ) : Type 0 where
 pub data WrongOrder (checkin checkout : ℕ) : Type 0 where
   backward : checkout < checkin → WrongOrder checkin checkout
   too-long : checkin + dayMinutes < checkout → WrongOrder checkin checkout
+
+-- 17: each of the trip's n stops is its first, by their numbers, and the duration, check-out less check-in, is under 3 minutes
+pub record Mistap (trip : List ℕ) (n checkin checkout : ℕ) : Type 0 where
+  pub one-stop : (i : ℕ) → i < n → stopNumber trip i ≡ stopNumber trip 0
+  pub short : checkout - checkin < 3

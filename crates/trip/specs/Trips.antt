@@ -1,6 +1,6 @@
--- docs/RULES.md, section 13, 5 to 9: for each a test of the bytes that says it is clear. And the trip's fields, which are what they say
--- where all five are clear.
-use Prim.Native.Nat.{ℕ, _+_}
+-- docs/RULES.md, section 13, 5 to 9: for each a test of the bytes that says it is clear; and 17, whose test says that it holds. And the trip's
+-- fields, which are what they say where 5 to 9 are clear.
+use Prim.Native.Nat.{ℕ, _+_, _-_}
 use mathlib.Core.List.{List}
 use mathlib.Core.Bool.{Bool, false, _&&_, _||_}
 use lib.ListN.{length}
@@ -35,6 +35,18 @@ stampsRight trip = isStamp (stampAt trip checkinPlace) && isStamp (stampAt trip 
 -- 9: check-out is not before check-in, nor over 1,440 minutes after it
 abbrev pub inOrder : ℕ → ℕ → Bool
 inOrder checkin checkout = leb checkin checkout && leb checkout (checkin + dayMinutes)
+
+-- all of the trip's n stops are one stop, by its number: two stops at one point are two
+unfoldable pub oneStop : List ℕ → ℕ → Bool
+oneStop trip n = each n (λ i. eqb (stopNumber trip i) (stopNumber trip 0))
+
+-- from so many minutes on, a trip is no mistap
+abbrev pub mistapEnd : ℕ
+mistapEnd = 3
+
+-- 17: a mistap, from one stop to itself in under 3 minutes
+abbrev pub isMistap : List ℕ → ℕ → ℕ → ℕ → Bool
+isMistap trip n checkin checkout = oneStop trip n && ltb (checkout - checkin) mistapEnd
 
 abbrev pub tripOf : List ℕ → Trip
 tripOf trip =

@@ -1,4 +1,4 @@
-// A trip record out of any byte string: for each of the refusals 5 to 9 a test of its own, in the order in which they are given.
+// A trip record out of any byte string: for each of the refusals 5 to 9, and 17, a test of its own, in the order in which they are given.
 // The stops stay in the trip's bytes, where `stop_number` finds them.
 use calendar::Made;
 use calendar::Stamp;
@@ -15,7 +15,7 @@ ghost use lib.ListN.{length};
 ghost use Rattle.calendar.specs.Stamps.{lastMinute};
 ghost use Rattle.trip.specs.Record.{tripSize, shapeAt, classAt, levelAt, partyAt};
 ghost use Rattle.trip.specs.Moments.{momentAt};
-ghost use Rattle.trip.specs.Trips.{partyRight, stopsKnown, inOrder};
+ghost use Rattle.trip.specs.Trips.{partyRight, stopsKnown, inOrder, oneStop, isMistap};
 ghost use Rattle.trip.specs.Contracts.{wholeTrip, timesOf, StopNumber};
 
 pub const KIND: u16 = 7;
@@ -36,6 +36,9 @@ const LEVEL: usize = CLASS + 1;
 const PARTY: usize = LEVEL + 1;
 
 const COUNT: usize = PARTY + 3;
+
+// From so many minutes on, a trip from a stop to itself is none that was tapped by mistake.
+const MISTAP_END: u32 = 3;
 
 // Those whom the account holder carries.
 pub struct Party {
@@ -204,4 +207,27 @@ pub fn in_order(checkin: Minutes, checkout: Minutes) -> bool
     ensures { λ r. ⌜ r ≡ inOrder (checkin .0) (checkout .0) ⌝ }
 {
     (checkin.0 <= checkout.0) & (checkout.0 <= checkin.0 + DAY)
+}
+
+// Whether all of the trip's stops are one, by its number.
+fn one_stop(trip: &[u8], stops: usize) -> bool
+    requires { ⌜ tripSize stops ≤ length (now trip) ⌝ }
+    ensures { λ r. ⌜ r ≡ oneStop (now (trip .entry)) stops ⌝ }
+{
+    let mut one = true;
+    for i in 0..stops {
+        one = one & (stop_number(trip, i) == stop_number(trip, 0));
+    }
+    one
+}
+
+// 17: a trip from one stop to itself in under 3 minutes. Its stops are looked at only where it is as short as that.
+pub fn is_mistap(trip: &[u8], stops: usize, checkin: Minutes, checkout: Minutes) -> bool
+    requires { ⌜ (tripSize stops ≤ length (now trip)) × (checkin .0 ≤ checkout .0) ⌝ }
+    ensures { λ r. ⌜ r ≡ isMistap (now (trip .entry)) stops (checkin .0) (checkout .0) ⌝ }
+{
+    if MISTAP_END <= checkout.0 - checkin.0 {
+        return false;
+    }
+    one_stop(trip, stops)
 }

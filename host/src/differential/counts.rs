@@ -16,7 +16,7 @@ pub struct Counts {
     /// One case may be of several kinds.
     kinds: Vec<u64>,
     /// By number, from 1.
-    refusals: [u64; 13],
+    refusals: [u64; NUMBERS],
     /// Ways in which single refusals come about.
     particulars: [u64; PARTICULARS.len()],
     pub quotes: Offers,
@@ -25,10 +25,8 @@ pub struct Counts {
     tariffs: [u64; 2],
 }
 
-/// Those that settling gives.
-fn refusals() -> impl Iterator<Item = Refusal> {
-    Refusal::ALL.into_iter().filter(|&refusal| refusal as u32 <= Refusal::NoRoom as u32)
-}
+/// No refusal has a number as high as this.
+pub const NUMBERS: usize = Refusal::ALL.len() + 1;
 
 impl Counts {
     pub fn count_accepted(&mut self, case: &Case, records: &[ChargeRecord]) {
@@ -66,7 +64,7 @@ impl Counts {
 
     /// The refusals and kinds that fewer than 1 % of their half ended in, and what was not met at all.
     pub fn too_few(&self) -> Vec<String> {
-        let refusals = refusals().filter(|&refusal| self.refusals[refusal as usize] * 100 < self.refused());
+        let refusals = Refusal::of_settling().filter(|&refusal| self.refusals[refusal as usize] * 100 < self.refused());
         let is_few = |kind, count| if is_rare(kind) { count == 0 } else { count * 100 < self.accepted };
         let kinds = self.counted_kinds().filter(|&(kind, count)| is_few(kind, count));
         let refusals = refusals.map(|refusal| format!("refusal {}", refusal as u32));
@@ -97,7 +95,7 @@ impl fmt::Display for Counts {
             writeln!(out, "  {count:>8} {:>5.1} %  {what}", 100.0 * count as f64 / half.max(1) as f64)
         };
         writeln!(out, "refused {}", self.refused())?;
-        for refusal in refusals() {
+        for refusal in Refusal::of_settling() {
             let what = format!("{:>2} {}", refusal as u32, refusal.text());
             line(out, self.refusals[refusal as usize], self.refused(), &what)?;
         }

@@ -14,7 +14,7 @@ use super::random::Random;
 pub type Damage = (&'static str, fn(&mut Random, &mut Draft));
 
 /// In the order of the refusals that they aim at; the last three may end in any.
-pub const DAMAGES: [Damage; 21] = [
+pub const DAMAGES: [Damage; 22] = [
     ("the tariff's frames", tariff::frames),
     ("the tariff's shape", tariff::shape),
     ("the tariff's factor records", tariff::factors),
@@ -29,6 +29,7 @@ pub const DAMAGES: [Damage; 21] = [
     ("the trip's stops", trip::stops),
     ("the trip's stamps", trip::stamps),
     ("the trip's duration", trip::duration),
+    ("a short trip at one stop or point", trip::at_one_point),
     ("the last check-out", last_check_out),
     ("the trips in the window", trips_in_the_window),
     ("the statement's length", statement_length),

@@ -3,6 +3,7 @@
 use super::aachen::{self, kinds_of_aachen, AACHEN};
 use super::cases::Case;
 use super::cuts::{self, kinds_of_cuts, CUTS};
+use super::mistaps::{kinds_of_mistaps, NEARLY};
 use crate::model::book::Book;
 use crate::model::charge::{costs_of, window_for};
 use crate::model::clock::{Stamp, MINUTES_IN_AN_HOUR};
@@ -39,12 +40,12 @@ const OF_A_TRIP: [&str; 18] = [
 /// Those of a part of one.
 const OF_A_PART: [&str; 3] = ["bicycle moved up", "several periods", "price cut by a trip cap"];
 
-/// All of them, with those of cuts and of kind 8.
-pub const KINDS: [&[&str]; 4] = [&OF_A_TRIP, &OF_A_PART, &CUTS, &AACHEN];
+/// All of them, with those of cuts, of kind 8 and of trips that are nearly mistaps.
+pub const KINDS: [&[&str]; 5] = [&OF_A_TRIP, &OF_A_PART, &CUTS, &AACHEN, &NEARLY];
 
 /// Whether a kind is enough if it is met at all.
 pub fn is_rare(kind: &str) -> bool {
-    kind == cuts::RARE || aachen::RARE.contains(&kind)
+    kind == cuts::RARE || aachen::RARE.contains(&kind) || NEARLY.contains(&kind)
 }
 
 /// Which kinds an accepted case is of; it may be of several, or of none.
@@ -77,7 +78,8 @@ pub fn kinds_of(case: &Case, records: &[ChargeRecord]) -> Vec<bool> {
         paid.push(book.payments(0));
     }
     let of_paying = [paid.len() == 3 && paid[0] < paid[1] && paid[1] < paid[2]];
-    [of_trip.as_slice(), &of_stamps, &of_breaking, &of_paying, &of_part, &of_cuts, &of_aachen].concat()
+    let of_mistaps = kinds_of_mistaps(&tariff, &trip, records);
+    [of_trip.as_slice(), &of_stamps, &of_breaking, &of_paying, &of_part, &of_cuts, &of_aachen, &of_mistaps].concat()
 }
 
 /// Those of one, and those of another besides.

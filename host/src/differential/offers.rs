@@ -1,5 +1,7 @@
 //! What quotes and postings came to, and what the postings were offered.
 
+use super::counts::NUMBERS;
+use crate::answer::Refusal as Named;
 use crate::model::Refusal;
 use std::fmt;
 
@@ -23,7 +25,7 @@ pub enum Offer {
 }
 
 /// What a posting may come to.
-const RESULTS: [&str; 3] = ["accepted", "refused by 13", "refused by 1 to 11"];
+const RESULTS: [&str; 3] = ["accepted", "refused by 13", "refused by another"];
 const ACCEPTED: usize = 0;
 const OTHER_RECORD: usize = 1;
 const BEFORE_13: usize = 2;
@@ -45,9 +47,9 @@ const OFFERS: [(Offer, &str, &[usize]); 10] = [
 #[derive(Default)]
 pub struct Offers {
     /// Quotes that were accepted at 0, and those refused by number.
-    quotes: [u64; 13],
+    quotes: [u64; NUMBERS],
     /// Likewise postings.
-    postings: [u64; 14],
+    postings: [u64; NUMBERS],
     /// For each offer how often it came to each result.
     results: [[u64; RESULTS.len()]; OFFERS.len()],
 }
@@ -72,11 +74,12 @@ impl Offers {
         self.quotes.iter().chain(&self.postings).sum()
     }
 
-    /// Of the refusals 1 to 12 of quotes and 1 to 11 of postings those that fewer than 1 % ended in, and of the results of
-    /// postings that have to be met those that fewer than 1 % of all came to.
+    /// Of settling's refusals, of postings without 12, those that fewer than 1 % ended in, and of the results of postings that
+    /// have to be met those that fewer than 1 % of all came to.
     pub fn too_few(&self) -> Vec<String> {
-        let mut all = few_refusals("quotes", &self.quotes);
-        all.extend(few_refusals("postings", &self.postings[..12]));
+        let mut all = few_refusals("quotes", &self.quotes, Named::of_settling());
+        let of_postings = Named::of_settling().filter(|&refusal| refusal != Named::NoRoom);
+        all.extend(few_refusals("postings", &self.postings, of_postings));
         let postings: u64 = self.postings.iter().sum();
         for (offer, words, due) in OFFERS {
             let few = due.iter().filter(|&&result| self.results[offer as usize][result] * 100 < postings.max(1));
@@ -91,15 +94,16 @@ fn number_in(answer: Result<usize, Refusal>) -> usize {
     answer.err().map_or(0, |refusal| refusal.number as usize)
 }
 
-fn few_refusals(what: &str, counts: &[u64]) -> Vec<String> {
-    let refused: u64 = counts[1..].iter().sum();
-    let few = (1..counts.len()).filter(|&number| counts[number] * 100 < refused.max(1));
+fn few_refusals(what: &str, counts: &[u64], due: impl Iterator<Item = Named>) -> Vec<String> {
+    let numbers: Vec<usize> = due.map(|refusal| refusal as usize).collect();
+    let refused: u64 = numbers.iter().map(|&number| counts[number]).sum();
+    let few = numbers.into_iter().filter(|&number| counts[number] * 100 < refused.max(1));
     few.map(|number| format!("{what} refused by {number}")).collect()
 }
 
 impl fmt::Display for Offers {
     fn fmt(&self, out: &mut fmt::Formatter) -> fmt::Result {
-        for (what, counts) in [("quotes", &self.quotes[..]), ("postings", &self.postings)] {
+        for (what, counts) in [("quotes", &self.quotes), ("postings", &self.postings)] {
             let total: u64 = counts.iter().sum();
             let refused = counts.iter().enumerate().skip(1).filter(|(_, &count)| count > 0);
             let refused: Vec<String> = refused.map(|(number, count)| format!("{number}: {count}")).collect();

@@ -1,6 +1,6 @@
 //! What the run has to meet of single refusals: the ways in which one comes about that few cases show.
 
-use super::books::{word, BYTES, MOST_PAYMENTS, PAYMENTS, TRIPS, WORDS};
+use super::books::{word, BYTES, LAST_CHECK_OUT, MOST_PAYMENTS, PAYMENTS, TRIPS, WORDS};
 use super::cases::Case;
 use super::faulty::is_faulty;
 use super::trips::HOUR;
@@ -18,7 +18,7 @@ const KIND_WITHOUT_OFFSETS: u64 = 3;
 /// Of a refusal, by its number: a way in which it comes about, and whether it is that of a case that was so refused.
 pub type Particular = (u32, &'static str, fn(&Case) -> bool);
 
-pub const PARTICULARS: [Particular; 23] = [
+pub const PARTICULARS: [Particular; 28] = [
     (2, "kind 8 with the body of kind 1", |case| is_faulty(case, |fault| fault.is(KIND_AACHEN_AREA, 25))),
     (2, "kind 1 with the body of kind 8", |case| is_faulty(case, |fault| fault.is(KIND_AREA, 38))),
     (3, "a state of kind 8", |case| {
@@ -69,6 +69,14 @@ pub const PARTICULARS: [Particular; 23] = [
         Trip::read(&case.trip).is_some_and(|trip| is_right(&trip.check_in) && is_before_minute_0(&trip.check_out))
     }),
     (8, "a local date in 2100, the moment in 2099", |case| is_wrong(case, is_after_midnight_in_2100)),
+    (17, "0 minutes", |case| is_mistap_of(case, 0)),
+    (17, "1 minute", |case| is_mistap_of(case, 1)),
+    (17, "2 minutes", |case| is_mistap_of(case, 2)),
+    (17, "with a change", |case| Trip::read(&case.trip).is_some_and(|trip| trip.stops.len() > 2)),
+    (17, "before the last check-out, so that 10 holds too", |case| {
+        let check_in = Trip::read(&case.trip).and_then(|trip| trip.check_in.minute_number());
+        check_in.is_some_and(|check_in| check_in < word(&case.book, LAST_CHECK_OUT))
+    }),
     (11, "by the second part alone", |case| word(&case.book, TRIPS) < TRIPS_IN_A_WINDOW),
     (12, "by the second part alone", |case| {
         Trip::read(&case.trip).is_some_and(|trip| ChargeRecord::size(&trip) <= case.room)
@@ -80,6 +88,13 @@ pub const PARTICULARS: [Particular; 23] = [
 fn is_in_a_town(case: &Case, is_whole: bool) -> bool {
     let (Ok(tariff), Some(trip)) = (read_tariff(&case.tariff), Trip::read(&case.trip)) else { return false };
     trip.counts_are_in_range() && tariff.areas[tariff.area_of_stops(&trip.stops)].is_marked_town() == is_whole
+}
+
+/// Whether the trip has so many minutes.
+fn is_mistap_of(case: &Case, minutes: u64) -> bool {
+    let Some(trip) = Trip::read(&case.trip) else { return false };
+    let ends = (trip.check_in.minute_number(), trip.check_out.minute_number());
+    matches!(ends, (Some(first), Some(last)) if first + minutes == last)
 }
 
 /// Whether the first of the trip's stamps that is wrong is so in this way.

@@ -39,7 +39,7 @@ fn at_once(run: &mut Run, case: &Case, settled: &Outcome) -> Result<(), Differen
     Ok(())
 }
 
-/// What settling refuses by 1 to 11, a posting refuses alike, whatever the record; 12 is no matter of a posting.
+/// What settling refuses by another number than 12, a posting refuses alike, whatever the record; 12 is no matter of a posting.
 fn refused_anyhow(run: &mut Run, case: &Case, settled: &Outcome) -> Result<(), Difference> {
     if settled.answer.is_err_and(|refusal| refusal.number == 12) {
         let roomy = Case { room: LARGEST_STATEMENT, ..case.clone() };

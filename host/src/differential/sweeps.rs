@@ -1,9 +1,9 @@
 //! Two good cases, one of them with a broken trip, and all that lie one step away from each: each field at each of its
 //! edges, each record of the tariff left out or put in once more anywhere, each bit flipped, each cut, each word of the
 //! book a little off, each length of the statement, each record that is not quite the quote, the ends of months, the first and
-//! the last hours.
+//! the last hours, short trips at one stop.
 
-use super::books::{fresh, set_word, word, BICYCLES, BYTES, MOST_PAYMENTS, PAYMENTS, WORDS};
+use super::books::{fresh, set_word, word, BICYCLES, BYTES, LAST_CHECK_OUT, MOST_PAYMENTS, PAYMENTS, WORDS};
 use super::cases::Case;
 use super::fields::{set, stop_field, value, values, Field, Layout, AACHEN_AREA, COUNT_FIELDS, FACTOR};
 use super::fields::{CHECK_IN, FACTOR_FIELDS, KINDS, LENGTHS, NUMBER_OF_STOPS, STAMP, STAMP_FIELDS, STOP, STOP_FIELDS};
@@ -13,7 +13,9 @@ use super::run::{Difference, Run};
 use super::tariffs::ordinary_tariff;
 use super::trips::{local_stamp, plan, start, Plan, LAST_MINUTE};
 use crate::model::read_tariff;
+use crate::model::statement::LARGEST_STATEMENT;
 use crate::model::tariff::{Area, Level, Tariff};
+use crate::model::trip::Trip;
 
 const AREAS: usize = 6;
 const STOPS: usize = 12;
@@ -33,6 +35,7 @@ pub fn sweep(random: &mut Random, run: &mut Run) -> Result<(), Difference> {
         records_beside(run, &good)?;
         month_ends(run, &good)?;
         first_and_last_hours(run, &good)?;
+        short_trips(run, &good)?;
     }
     Ok(())
 }
@@ -47,7 +50,8 @@ fn good_case(random: &mut Random, run: &mut Run, parts: usize) -> Result<Case, D
     }
     loop {
         let plan = Plan { party: [1, 2, 3], ..plan(random, &tariff, &book, now) };
-        if plan.parts(&tariff) == parts && (plan.class == 2 || !plan.is_in_a_marked_town(&tariff)) {
+        let (has_class, is_one_stop) = (plan.class == 2 || !plan.is_in_a_marked_town(&tariff), plan.is_at_one_stop());
+        if plan.parts(&tariff) == parts && has_class && !is_one_stop {
             return Ok(case_of(&bytes, &book, &plan, parts));
         }
     }
@@ -226,6 +230,32 @@ fn first_and_last_hours(run: &mut Run, good: &Case) -> Result<(), Difference> {
                 case.trip[CHECK_IN..][..2 * STAMP].copy_from_slice(stamps.as_flattened());
             };
             check_with(run, good, "the first or the last hours", change)?;
+        }
+    }
+    Ok(())
+}
+
+/// Trips of 0 to 4 minutes through one stop so many times, and with another stop at any place; 10 holds of none of them, and
+/// then of each.
+fn short_trips(run: &mut Run, good: &Case) -> Result<(), Difference> {
+    let trip = Trip::read(&good.trip).expect("a good case");
+    let check_in = trip.check_in.minute_number().expect("a good case");
+    let lasts = [word(&good.book, LAST_CHECK_OUT), check_in + 1];
+    for (many, minutes) in [2, 3, 32].into_iter().flat_map(|many| (0..5).map(move |minutes| (many, minutes))) {
+        let others = (0..many).map(|place| (place, (trip.stops[0] + 1) % STOPS));
+        for (place, stop) in others.chain([(0, trip.stops[0])]) {
+            let mut stops = vec![trip.stops[0]; many];
+            stops[place] = stop;
+            let (check_out, party) = (check_in + minutes, [1, 2, 3]);
+            let plan = Plan { check_in, check_out, offsets: [1, 1], class: 2, level: 0, party, stops };
+            for last in lasts {
+                let change = |case: &mut Case| {
+                    case.trip = plan.bytes();
+                    case.room = LARGEST_STATEMENT;
+                    set_word(&mut case.book, LAST_CHECK_OUT, last);
+                };
+                check_with(run, good, "a short trip", change)?;
+            }
         }
     }
     Ok(())

@@ -67,6 +67,11 @@ impl Plan {
         self.is_known(tariff) && rides_in_a_marked_town(tariff, &self.stops)
     }
 
+    /// Whether the trip is refused where it is short.
+    pub fn is_at_one_stop(&self) -> bool {
+        self.stops.iter().all(|&stop| stop == self.stops[0])
+    }
+
     fn is_known(&self, tariff: &Tariff) -> bool {
         self.stops.iter().all(|&stop| stop < tariff.stops.len())
     }

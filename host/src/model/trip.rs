@@ -2,6 +2,7 @@
 
 use super::clock::Stamp;
 use super::record::{record_at, Fields, KIND_TRIP};
+use super::Minutes;
 use std::ops::RangeInclusive;
 
 pub const CLASSES: RangeInclusive<u64> = 1..=2;
@@ -10,6 +11,8 @@ pub const TICKET_LEVELS: RangeInclusive<u64> = 0..=5;
 /// Adults, children and bicycles, of each.
 pub const CARRIED: RangeInclusive<usize> = 0..=10;
 pub const STOPS_IN_A_TRIP: RangeInclusive<usize> = 2..=32;
+/// From so many minutes on a trip may stay at one stop.
+const NO_MISTAP: Minutes = 3;
 
 /// The body before the stops.
 const BODY_HEAD: usize = 20;
@@ -59,5 +62,11 @@ impl Trip {
             && TICKET_LEVELS.contains(&self.ticket_level)
             && [self.adults, self.children, self.bicycles].iter().all(|carried| CARRIED.contains(carried))
             && STOPS_IN_A_TRIP.contains(&self.stops.len())
+    }
+
+    /// Whether all stops are one stop, and so many minutes are under 3. Stops are told apart by their numbers: two at one
+    /// point are two.
+    pub fn is_mistap(&self, duration: Minutes) -> bool {
+        duration < NO_MISTAP && self.stops.iter().all(|&stop| stop == self.stops[0])
     }
 }

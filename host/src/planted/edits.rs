@@ -7,7 +7,7 @@ pub struct Planted {
     pub edits: &'static [(&'static str, &'static str, &'static str)],
 }
 
-pub const PLANTED: [Planted; 22] = [
+pub const PLANTED: [Planted; 27] = [
     // Promise 1: a refusal changes nothing, and the refusals are tried in their order.
     Planted {
         name: "refusal_12_writes_the_book",
@@ -175,5 +175,44 @@ pub const PLANTED: [Planted; 22] = [
     Planted {
         name: "no_cap_told_as_area_0",
         edits: &[("reading.rs", "(1, area), (1, class)", "(1, area % 255), (1, class)")],
+    },
+    // Mistaps: under 3 minutes, all stops and not the ends alone, stops and not points, before 10, of the trip and not of its parts.
+    Planted { name: "mistap_of_3_minutes", edits: &[("trip.rs", "duration < NO_MISTAP", "duration <= NO_MISTAP")] },
+    Planted {
+        name: "mistap_by_first_and_last_stop",
+        edits: &[("trip.rs", "self.stops.iter().all(", "self.stops.last().is_some_and(")],
+    },
+    Planted {
+        name: "mistap_by_points",
+        edits: &[(
+            "model.rs",
+            "unless(!trip.is_mistap(check_out - check_in), 17)?;",
+            "let point = |stop: usize| (tariff.stops[stop].x, tariff.stops[stop].y);
+             let is_one_point = trip.stops.iter().all(|&stop| point(stop) == point(trip.stops[0]));
+             unless(!is_one_point || check_out - check_in > 2, 17)?;",
+        )],
+    },
+    Planted {
+        name: "mistap_after_10",
+        edits: &[
+            ("model.rs", "unless(!trip.is_mistap(check_out - check_in), 17)?;", ""),
+            (
+                "model.rs",
+                "unless(book.trips() == 0 || book.last_check_out() <= check_in, 10)?;",
+                "unless(book.trips() == 0 || book.last_check_out() <= check_in, 10)?;
+                 unless(!trip.is_mistap(check_out - check_in), 17)?;",
+            ),
+        ],
+    },
+    Planted {
+        name: "mistap_of_a_part",
+        edits: &[(
+            "model.rs",
+            "let parts = parts_of(&tariff, &trip.stops, check_out - check_in);",
+            "let parts = parts_of(&tariff, &trip.stops, check_out - check_in);
+             for part in &parts {
+                 unless(!Trip { stops: part.stops.clone(), ..trip.clone() }.is_mistap(part.minutes), 17)?;
+             }",
+        )],
     },
 ];

@@ -1,4 +1,4 @@
-//! Damage to the trip: refusals 5 to 9.
+//! Damage to the trip: refusals 5 to 9 and 17.
 
 use crate::differential::cases::Draft;
 use crate::differential::fields::{set, stop_field, value, values, Field};
@@ -6,7 +6,8 @@ use crate::differential::fields::{
     CHECK_IN, COUNT_FIELDS, KINDS, LENGTHS, NUMBER_OF_STOPS, STAMP, STAMP_FIELDS, TRIP_HEAD,
 };
 use crate::differential::random::Random;
-use crate::differential::trips::{local_stamp, stamp, DAY, HOUR, LAST_MINUTE};
+use crate::differential::trips::{local_stamp, stamp, Plan, DAY, HOUR, LAST_MINUTE};
+use crate::model::read_tariff;
 
 /// Cut, too long, of another kind, without offsets, or with a length or a number of stops that do not fit.
 pub fn shape(random: &mut Random, draft: &mut Draft) {
@@ -95,6 +96,23 @@ pub fn duration(random: &mut Random, draft: &mut Draft) {
     let [first, second] = draft.plan.offsets;
     put_stamp(&mut draft.case.trip, 0, stamp(check_in, first));
     put_stamp(&mut draft.case.trip, 1, stamp(check_out, second));
+}
+
+/// All stops are one stop, or but for one, and the duration is just under or just at 3 minutes. The other stop is mostly at
+/// the same point, where there is one.
+pub fn at_one_point(random: &mut Random, draft: &mut Draft) {
+    let Ok(tariff) = read_tariff(&draft.case.tariff) else { return };
+    let point = |stop: usize| tariff.stops.get(stop).map(|stop| (stop.x, stop.y));
+    let (stop, many) = (draft.plan.stops[0], random.pick(&[2, 2, 2, 3, 3, 4, 32]));
+    let there: Vec<usize> = (0..tariff.stops.len()).filter(|&other| point(other) == point(stop)).collect();
+    let mut plan = Plan { stops: vec![stop; many], ..draft.plan.clone() };
+    match random.below(10) {
+        0..3 if !there.is_empty() => plan.stops[random.index(many)] = random.pick(&there),
+        3 => plan.stops[random.index(many)] = random.index(tariff.stops.len().max(1)),
+        _ => {}
+    }
+    plan.check_out = plan.check_in + random.pick(&[0, 1, 2, 2, 3, 3]);
+    draft.case.trip = plan.bytes();
 }
 
 /// Puts the check-in, 0, or the check-out, 1, unless the trip is too short for it.

@@ -13,11 +13,11 @@ use lib.ListN.{length, drop}
 use lib.Dec.{ltb}
 use Rattle.trip.specs.Record.{classAt, levelAt, partyAt, countAt}
 use Rattle.trip.specs.Moments.{checkinOf, checkoutOf}
-use Rattle.trip.specs.Trips.{partyRight, stopsKnown, inOrder, tripOf}
+use Rattle.trip.specs.Trips.{partyRight, stopsKnown, inOrder, isMistap, tripOf}
 use Rattle.trip.specs.Contracts.{timesOf}
 use Rattle.trip.specs.declared.Times.the-variants.{Of}
 use Rattle.trip.proofs.Shapes.{Filling, whole-fills, whole-none}
-use Rattle.trip.proofs.Ranges.{party-ranges}
+use Rattle.trip.proofs.Ranges.{party-ranges, in-order}
 use Rattle.trip.proofs.Stamps.{times-are, times-none, times-range}
 use Rattle.fare.specs.Parts.{breakOf, ridesOf}
 use Rattle.fare.specs.Towns.{townRefuses}
@@ -249,27 +249,56 @@ past-9 : (c : tie.Else4) → Past 7 (start-8 (timed-9 c))
 unfolding rows
 past-9 c = past-8 (c .before .before) ∙ skip _ _ (ap not (order (c .before)) ∙ c .if4 .left)
 
--- ---- 10.
+-- ---- 17.
 
-too-early-requires : tie.Need-too-early-requires
-too-early-requires c κs = sound-has _ _ (start-8 (timed-9 c) .pre .sound-book) .size
+-- the way back to the number of stops
+abbrev told-9 : tie.Else4 → tie.After-known-told
+told-9 c = told-7 (broken-8 (timed-9 c) .before)
 
-early :
-    (c : tie.After-too-early)
-    → let s = start-8 (timed-9 (c .before)) in tooEarly (s .args .book .now) (checkinOf (s .args .trip .now)) ≡ c .too-early .result
-early c =
-    let (right, (from, to)) = times-are _ _ _ (times (timed-9 (c .before))) in rw from (sym (c .too-early .ensures))
+is-mistap-requires : tie.Need-is-mistap-requires
+is-mistap-requires c κs =
+    (le-of-eq (filling (told-9 c) .size), in-order _ _ (sym (c .before .in-order .ensures) ∙ not-false _ (c .if4 .left)) .0)
+
+mistap :
+    (c : tie.After-is-mistap)
+    → let trip = start-8 (timed-9 (c .before)) .args .trip .now in
+    isMistap trip (countAt trip 0) (checkinOf trip) (checkoutOf trip) ≡ c .is-mistap .result
+mistap c =
+    let (right, (from, to)) = times-are _ _ _ (times (timed-9 (c .before))) in
+    rw (filling (told-9 (c .before)) .count, from, to) (sym (c .is-mistap .ensures))
 
 returns-7 : tie.Need-returns-7
 unfolding rows
-returns-7 c = sym (refused-first _ _ _ _ _ (past-9 (c .before .before) ∙ stop _ _ (early (c .before) ∙ c .if5 .taken)))
+returns-7 c = sym (refused-first _ _ _ _ _ (past-9 (c .before .before) ∙ stop _ _ (mistap (c .before) ∙ c .if5 .taken)))
 
-abbrev timed-10 : tie.Else5 → tie.After-known-told2
-timed-10 c = timed-9 (c .before .before)
+abbrev timed-17 : tie.Else5 → tie.After-known-told2
+timed-17 c = timed-9 (c .before .before)
 
-past-10 : (c : tie.Else5) → Past 8 (start-8 (timed-10 c))
+past-17 : (c : tie.Else5) → Past 8 (start-8 (timed-17 c))
 unfolding rows
-past-10 c = past-9 (c .before .before) ∙ skip _ _ (early (c .before) ∙ c .if5 .left)
+past-17 c = past-9 (c .before .before) ∙ skip _ _ (mistap (c .before) ∙ c .if5 .left)
+
+-- ---- 10.
+
+too-early-requires : tie.Need-too-early-requires
+too-early-requires c κs = sound-has _ _ (start-8 (timed-17 c) .pre .sound-book) .size
+
+early :
+    (c : tie.After-too-early)
+    → let s = start-8 (timed-17 (c .before)) in tooEarly (s .args .book .now) (checkinOf (s .args .trip .now)) ≡ c .too-early .result
+early c =
+    let (right, (from, to)) = times-are _ _ _ (times (timed-17 (c .before))) in rw from (sym (c .too-early .ensures))
+
+returns-8 : tie.Need-returns-8
+unfolding rows
+returns-8 c = sym (refused-first _ _ _ _ _ (past-17 (c .before .before) ∙ stop _ _ (early (c .before) ∙ c .if6 .taken)))
+
+abbrev timed-10 : tie.Else6 → tie.After-known-told2
+timed-10 c = timed-17 (c .before .before)
+
+past-10 : (c : tie.Else6) → Past 9 (start-8 (timed-10 c))
+unfolding rows
+past-10 c = past-17 (c .before .before) ∙ skip _ _ (early (c .before) ∙ c .if6 .left)
 
 -- ---- 11.
 
@@ -302,23 +331,23 @@ trips :
     ≡ c .before .window-of .result .trips + c .rides-in .result
 trips c = rw (rides-count, window (c .before), broken (broken-8 (counted c)), c .rides-in .ensures .0)
 
-add-if6 : tie.Need-add-if6
-add-if6 c = search needs
+add-if7 : tie.Need-add-if7
+add-if7 c = search needs
 
-returns-8 : tie.Need-returns-8
+returns-9 : tie.Need-returns-9
 unfolding rows
-returns-8 c =
+returns-9 c =
     let found = c .before .before in
-    sym (refused-first _ _ _ _ _ (past-10 (found .before .before .before) ∙ stop _ _ (ap (ltb 256) (trips found) ∙ lt-ltb _ _ (c .if6 .taken))))
+    sym (refused-first _ _ _ _ _ (past-10 (found .before .before .before) ∙ stop _ _ (ap (ltb 256) (trips found) ∙ lt-ltb _ _ (c .if7 .taken))))
 
-abbrev timed-11 : tie.Else6 → tie.After-known-told2
+abbrev timed-11 : tie.Else7 → tie.After-known-told2
 timed-11 c = counted (c .before .before)
 
-past-11 : (c : tie.Else6) → Past 9 (start-8 (timed-11 c))
+past-11 : (c : tie.Else7) → Past 10 (start-8 (timed-11 c))
 unfolding rows
 past-11 c =
     let found = c .before .before in
-    past-10 (found .before .before .before) ∙ skip _ _ (ap (ltb 256) (trips found) ∙ le-ltb _ _ (c .if6 .left))
+    past-10 (found .before .before .before) ∙ skip _ _ (ap (ltb 256) (trips found) ∙ le-ltb _ _ (c .if7 .left))
 
 -- ---- 12.
 
@@ -333,19 +362,19 @@ size c =
     rw (rides-size, ← party-8 (timed-11 (c .before)) .party-at .ensures, broken (broken-8 (timed-11 (c .before))))
     (sym (c .records-size .ensures))
 
-returns-9 : tie.Need-returns-9
+returns-10 : tie.Need-returns-10
 unfolding rows
-returns-9 c = sym (refused-first _ _ _ _ _ (past-11 (c .before .before) ∙ stop _ _ (ap (ltb _) (size (c .before)) ∙ lt-ltb _ _ (c .if7 .taken))))
+returns-10 c = sym (refused-first _ _ _ _ _ (past-11 (c .before .before) ∙ stop _ _ (ap (ltb _) (size (c .before)) ∙ lt-ltb _ _ (c .if8 .taken))))
 
-past-12 : (c : tie.Else7) → Past 10 (start-8 (timed-11 (c .before .before)))
+past-12 : (c : tie.Else8) → Past 11 (start-8 (timed-11 (c .before .before)))
 unfolding rows
-past-12 c = past-11 (c .before .before) ∙ skip _ _ (ap (ltb _) (size (c .before)) ∙ le-ltb _ _ (c .if7 .left))
+past-12 c = past-11 (c .before .before) ∙ skip _ _ (ap (ltb _) (size (c .before)) ∙ le-ltb _ _ (c .if8 .left))
 
 -- ---- None of them holds.
 
-returns-10 : tie.Need-returns-10
+returns-11 : tie.Need-returns-11
 unfolding rows
-returns-10 c =
+returns-11 c =
     let timed = timed-11 (c .before .before) in
     let read = party-8 timed in
     let (right, (from, to)) = times-are _ _ _ (times timed) in
@@ -379,13 +408,15 @@ decide-spec =
     returns-5
     in-order-requires
     returns-6
-    too-early-requires
+    is-mistap-requires
     returns-7
+    too-early-requires
+    returns-8
     cast-window-of
     window-of-requires
     rides-in-requires
-    add-if6
-    returns-8
-    records-size-requires
+    add-if7
     returns-9
-    returns-10)
+    records-size-requires
+    returns-10
+    returns-11)
