@@ -1,4 +1,4 @@
--- The exported number is the answer of the outcome, of the quote and of the posting.
+-- The exported number is the answer of the outcome, of the quote, of the posting and of a page's change.
 -- Assumes nothing.
 use Prim.Native.Nat.{ℕ}
 use native.Mathlib.Omega.{arith}
@@ -12,6 +12,8 @@ use Rattle.settle.specs.declared.Answer.the-variants.{Refused, Written}
 use Rattle.settle.specs.Outcome.{Quote, unquoted, priced, Outcome, refused, accepted, answerOf, quoteAnswer, Settled, Quoted}
 use Rattle.settle.specs.Posting.{Posting, unposted, renewed, postingAnswer, Posted}
 use Rattle.settle.specs.Contracts.{toldBy, Told, toldQuote, QuoteTold, toldPosting, PostingTold}
+use Rattle.accounts.specs.Pages.{Change, unchanged, changed}
+use Rattle.accounts.specs.Contracts.{toldChange, ChangeTold, changeAnswer, Changed}
 use Rattle.milecopper.specs.Contracts.{encodedAs, fillingAnswer, ReadTo}
 
 answer-is : (o : Outcome) → encodedAs (toldBy o) ≡ answerOf o
@@ -39,6 +41,14 @@ posting-answer-is (renewed new) = refl
 pub posted-told :
     {p : Posting} {book book′ : List ℕ} {a : Answer} {r : ℕ} → PostingTold p book book′ a → r ≡ encodedAs a → Posted p book book′ r
 posted-told {p} told is = record { answer = is ∙ ap encodedAs (told .answer) ∙ posting-answer-is p; book-is = told .book-is }
+
+change-answer-is : (c : Change) → encodedAs (toldChange c) ≡ changeAnswer c
+change-answer-is (unchanged number) = refl
+change-answer-is (changed new) = refl
+
+pub changed-told :
+    {c : Change} {page page′ : List ℕ} {a : Answer} {r : ℕ} → ChangeTold c page page′ a → r ≡ encodedAs a → Changed c page page′ r
+changed-told {c} told is = record { answer = is ∙ ap encodedAs (told .answer) ∙ change-answer-is c; page-is = told .page-is }
 
 -- A filling's answer, refused or not, as one number.
 refused-answer : (f : Filling) {n : ℕ} → filledAs f ≡ out.Refused n → encodedAs (Refused n 0) ≡ fillingAnswer f

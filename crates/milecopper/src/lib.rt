@@ -16,6 +16,8 @@ ghost use Rattle.reader.specs.Filling.{fillingOf};
 ghost use Rattle.milecopper.specs.Contracts.{encodedAs, ReadTo};
 ghost use Rattle.milecopper.specs.Tariffs.{tariffAnswer};
 
+pub mod members;
+
 // An answer as one number. Written: the bytes, below 2^32. Refused: the refusal's number × 2^32 + its place.
 fn encoded(answer: Answer) -> u64
     requires { ⌜ AnswerFits answer ⌝ }

@@ -268,6 +268,11 @@ abbrev pub NextSettled : List ℕ → Counts → List ℕ → List ℕ → List 
 NextSettled tariff counts book trip statement book′ statement′ r =
     ToldSound (settledUnder tariff counts book trip (length statement)) (counts .areas) book book′ statement statement′ r
 
+-- `settle_under`
+abbrev pub UnderSettled : List ℕ → Counts → List ℕ → List ℕ → List ℕ → List ℕ → List ℕ → Answer → Type 0
+UnderSettled tariff counts book trip statement book′ statement′ r =
+    Told (settledUnder tariff counts book trip (length statement)) book book′ statement statement′ r
+
 -- `settle`
 abbrev pub TripSettled : List ℕ → List ℕ → List ℕ → List ℕ → List ℕ → List ℕ → Answer → Type 0
 TripSettled tariff book trip statement book′ statement′ r =

@@ -12,15 +12,18 @@
 //
 // Decide first, write last: only where all conditions are clear are book and statement written.
 use book::MOST_CHARGES;
+use book::sound::is_sound;
 use plan::Plan;
 use plan::plan_trip;
 use post::post_rides;
 use ready::Readiness;
 use ready::readiness_of;
+use refusals::Refusal;
 use refusals::number;
 use state::state_rides;
 use tariff::Counts;
-ghost use Rattle.settle.specs.Contracts.{Ready, NextSettled, TripSettled};
+ghost use Rattle.tariff.specs.Areas.{Read};
+ghost use Rattle.settle.specs.Contracts.{Ready, NextSettled, UnderSettled, TripSettled};
 
 pub mod decide;
 pub mod plan;
@@ -49,6 +52,58 @@ pub fn settle_next(
     requires { ⌜ Ready (now tariff) counts (now book) ⌝ }
     ensures { λ r. ⌜ NextSettled (now (tariff .entry)) counts (now (book .entry)) (now (trip .entry)) (now (statement .entry)) (now (book .exit)) (now (statement .exit)) r ⌝ }
 {
+    match plan_trip(tariff, counts, book, trip, statement.len()) {
+        Plan::Refuse(why) => Answer::Refused {
+            number: number(why),
+            place: 0,
+        },
+        Plan::Charge(window, checkout, rides) => {
+            let mut firsts = [0u32; MOST_CHARGES];
+            let mut seconds = [0u32; MOST_CHARGES];
+            let size = state_rides(
+                tariff,
+                counts,
+                book,
+                window,
+                rides,
+                &mut firsts,
+                &mut seconds,
+                statement,
+            );
+            post_rides(
+                tariff,
+                counts,
+                book,
+                window,
+                checkout,
+                rides,
+                &firsts,
+                &seconds,
+            );
+            Answer::Written(size)
+        }
+    }
+}
+
+// 4 to 12: under a tariff that was read and found faultless, on any byte string as a book. For whoever has something else to refuse
+// between the tariff and the book. It does what `settle_next` does and does not call it: a function with one call is made part of its caller's
+// frame, and a second call would cost `settle` its limit of stack.
+pub fn settle_under(
+    tariff: &[u8],
+    counts: Counts,
+    book: &mut [u8],
+    trip: &[u8],
+    statement: &mut [u8],
+) -> Answer
+    requires { ⌜ Read (now tariff) counts ⌝ }
+    ensures { λ r. ⌜ UnderSettled (now (tariff .entry)) counts (now (book .entry)) (now (trip .entry)) (now (statement .entry)) (now (book .exit)) (now (statement .exit)) r ⌝ }
+{
+    if !is_sound(book, counts.areas as usize) {
+        return Answer::Refused {
+            number: number(Refusal::UnsoundBook),
+            place: 0,
+        };
+    }
     match plan_trip(tariff, counts, book, trip, statement.len()) {
         Plan::Refuse(why) => Answer::Refused {
             number: number(why),

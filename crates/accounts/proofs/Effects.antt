@@ -1,0 +1,320 @@
+-- What adding, closing and settling come to, in the rules' words, each exactly then; and that a refusal leaves the page.
+-- Assumes nothing.
+use Prim.Native.Nat.{ℕ, _+_, _≤_, _<_}
+use native.Mathlib.Omega.{arith}
+use mathlib.Core.Path.{_≡_, refl, sym, _∙_}
+use mathlib.Core.Logic.{_↔_}
+use mathlib.Core.List.{List}
+use lib.ListN.{length, length-replicate}
+use Rattle.wire.proofs.Number.{length-put}
+use Rattle.tariff.specs.declared.Counts.{Counts}
+use Rattle.tariff.specs.declared.Reading.{Reading}
+use Rattle.tariff.specs.declared.Reading.the-variants.{Fault, Faultless}
+use Rattle.tariff.specs.Scan.{readTariff}
+use Rattle.tariff.specs.Areas.{Read}
+use Rattle.book.specs.Words.{bookSize}
+use Rattle.book.proofs.SoundLaws.{sound-has}
+use Rattle.statement.specs.Record.{Part}
+use Rattle.settle.specs.declared.decide.Decision.{Decision}
+use Rattle.settle.specs.declared.decide.Decision.the-variants as decision
+use Rattle.settle.specs.Outcome.{
+  Outcome,
+  refused,
+  accepted,
+  decidedUnder,
+  tripPosted,
+  acceptedTrip,
+  settledUnder,
+  settled,
+  bookAfter,
+  statementAfter,
+}
+use Rattle.settle.proofs.Ways.{clear-found, no-row, refused-under, accepted-under, all-clear, fault-way, faultless-way}
+use Rattle.settle.proofs.Clear.{parts-right}
+use Rattle.accounts.specs.declared.places.Spot.the-variants.{Nowhere, At}
+use Rattle.accounts.specs.declared.checks.Account.the-variants.{WrongPage, Absent, Present}
+use Rattle.accounts.specs.Pages.{
+  numberSize,
+  placeSize,
+  places,
+  startOf,
+  numberAt,
+  bookAt,
+  replaced,
+  clearedPlace,
+  newPlace,
+  lowestWith,
+  accountOf,
+  wrongPage,
+  wrongMember,
+  noPlace,
+  Change,
+  unchanged,
+  changed,
+  added,
+  closed,
+  onPage,
+  memberSettledUnder,
+  memberSettled,
+}
+use Rattle.accounts.specs.Words.{InNone, Lowest, CanHave, Passing, Eighteen, Touched}
+use Rattle.accounts.specs.Contracts.{pageAfter}
+use Rattle.accounts.proofs.Lowest.{at-lowest, nowhere-lowest, Searched, in-none, in-one, searched}
+use Rattle.accounts.proofs.Conditions.{Known, refused-page, nowhere, present, known, not-both}
+use Rattle.accounts.proofs.Touching.{place-touched, book-touched, number-kept}
+
+-- An accepted trip's new book is as long as every book.
+pub accepted-size :
+    (tariff : List ℕ) (counts : Counts) → Read tariff counts → (book trip : List ℕ) (room : ℕ) {new : List ℕ} {parts : List Part}
+    → settledUnder tariff counts book trip room ≡ accepted new parts → length new ≡ bookSize
+unfolding acceptedTrip
+accepted-size tariff counts read book trip room {new} {parts} e = go (decidedUnder tariff counts book trip room) refl
+  where
+    go : (d : Decision) → decidedUnder tariff counts book trip room ≡ d → length new ≡ bookSize
+    go (decision.Refused why) is =
+        absurd (let z : _≡_ {A = ℕ} 0 1 = cc (refused-under tariff counts book trip room is, e) in omega arith)
+    go (decision.Clear fields window breaking) is =
+        let same = sym (accepted-under tariff counts book trip room fields window is) ∙ e in
+        let these : tripPosted tariff counts book trip fields window ≡ new = cc in
+        let sound-book = no-row tariff counts book trip room (clear-found tariff counts book trip room is .0) .sound-book in
+        let clear = all-clear tariff counts book trip fields window breaking room (record { read = read; sound-book = sound-book }) is in
+        let again = parts-right tariff counts book trip fields window room clear .1 in
+        rw (← these) (sound-has (tripPosted tariff counts book trip fields window) (counts .areas) again .size)
+
+-- a cleared place and a new one have a place's length
+pub cleared-long : length clearedPlace ≡ placeSize
+cleared-long = length-replicate {A = ℕ} placeSize 0
+
+pub new-long : (member : ℕ) → length (newPlace member) ≡ placeSize
+new-long member = length-put 4 clearedPlace 0 member ∙ cleared-long
+
+module _ (first count : ℕ) (page : List ℕ) (member : ℕ) where
+  -- ---- Adding.
+
+  pub data Adding : Type 0 where
+    add-wrong-page : Eighteen first count page member → added first count page member ≡ unchanged wrongPage → Adding
+    add-present :
+        (place : ℕ) → Passing first count page → CanHave member → Lowest page member first count place
+        → added first count page member ≡ unchanged wrongMember → Adding
+    add-full :
+        Passing first count page → CanHave member → InNone page member first count → InNone page 0 first count
+        → added first count page member ≡ unchanged noPlace → Adding
+    add-at :
+        (place : ℕ) → Passing first count page → CanHave member → InNone page member first count → Lowest page 0 first count place
+        → added first count page member ≡ changed (replaced page (startOf place) placeSize (newPlace member)) → Adding
+
+  -- by what was found
+  pub adds-wrong-page : accountOf first count page member ≡ WrongPage → added first count page member ≡ unchanged wrongPage
+  unfolding added
+  adds-wrong-page e = rw (e, added)
+
+  pub adds-present : {place : ℕ} → accountOf first count page member ≡ Present place → added first count page member ≡ unchanged wrongMember
+  unfolding added
+  adds-present e = rw (e, added)
+
+  pub adds-nowhere :
+      accountOf first count page member ≡ Absent → lowestWith page first count 0 ≡ Nowhere → added first count page member ≡ unchanged noPlace
+  unfolding added
+  adds-nowhere e full = rw (e, full, added)
+
+  pub adds-there :
+      (place : ℕ) → accountOf first count page member ≡ Absent → lowestWith page first count 0 ≡ At place
+      → added first count page member ≡ changed (replaced page (startOf place) placeSize (newPlace member))
+  unfolding added
+  adds-there place e free = rw (e, free, added)
+
+  added-known : Known first count page member → Searched page 0 first count → Adding
+  added-known (refused-page why e) s = add-wrong-page why (adds-wrong-page e)
+  added-known (present place p can l e) s = add-present place p can l (adds-present e)
+  added-known (nowhere p can none e) (in-none full) =
+      add-full p can none full (adds-nowhere e (nowhere-lowest page 0 first count full))
+  added-known (nowhere p can none e) (in-one place l) = add-at place p can none l (adds-there place e (at-lowest page 0 first count place l))
+
+  pub adding : Adding
+  adding = added-known (known first count page member) (searched page 0 first count)
+
+  -- ---- Closing.
+
+  pub data Closing : Type 0 where
+    close-wrong-page : Eighteen first count page member → closed first count page member ≡ unchanged wrongPage → Closing
+    close-absent :
+        Passing first count page → CanHave member → InNone page member first count
+        → closed first count page member ≡ unchanged wrongMember → Closing
+    close-at :
+        (place : ℕ) → Passing first count page → CanHave member → Lowest page member first count place
+        → closed first count page member ≡ changed (replaced page (startOf place) placeSize clearedPlace) → Closing
+
+  pub closes-wrong-page : accountOf first count page member ≡ WrongPage → closed first count page member ≡ unchanged wrongPage
+  unfolding closed
+  closes-wrong-page e = rw (e, closed)
+
+  pub closes-absent : accountOf first count page member ≡ Absent → closed first count page member ≡ unchanged wrongMember
+  unfolding closed
+  closes-absent e = rw (e, closed)
+
+  pub closes-there :
+      (place : ℕ) → accountOf first count page member ≡ Present place
+      → closed first count page member ≡ changed (replaced page (startOf place) placeSize clearedPlace)
+  unfolding closed
+  closes-there place e = rw (e, closed)
+
+  closed-known : Known first count page member → Closing
+  closed-known (refused-page why e) = close-wrong-page why (closes-wrong-page e)
+  closed-known (nowhere p can none e) = close-absent p can none (closes-absent e)
+  closed-known (present place p can l e) = close-at place p can l (closes-there place e)
+
+  pub closing : Closing
+  closing = closed-known (known first count page member)
+
+  -- ---- Settling.
+
+  module _ (tariff : List ℕ) (trip : List ℕ) (room : ℕ) where
+    pub data Settling : Type 0 where
+      at-fault :
+          (number at : ℕ) → readTariff tariff ≡ Fault number at → memberSettled tariff first count page member trip room ≡ refused number at
+          → Settling
+      settle-wrong-page :
+          (counts : Counts) → Read tariff counts → Eighteen first count page member
+          → memberSettled tariff first count page member trip room ≡ refused wrongPage 0 → Settling
+      settle-absent :
+          (counts : Counts) → Read tariff counts → Passing first count page → CanHave member → InNone page member first count
+          → memberSettled tariff first count page member trip room ≡ refused wrongMember 0 → Settling
+      settle-at :
+          (counts : Counts) (place : ℕ) → Read tariff counts → Passing first count page → CanHave member → Lowest page member first count place
+          → memberSettled tariff first count page member trip room
+          ≡ onPage page place (settledUnder tariff counts (bookAt page place) trip room)
+          → Settling
+
+    -- under a tariff that was read
+    pub by-tariff : (number at : ℕ) → readTariff tariff ≡ Fault number at → memberSettled tariff first count page member trip room ≡ refused number at
+    unfolding memberSettled
+    by-tariff number at e = rw (e, memberSettled)
+
+    pub by-page :
+        (counts : Counts) → Read tariff counts
+        → memberSettled tariff first count page member trip room ≡ memberSettledUnder tariff counts first count page member trip room
+    unfolding memberSettled
+    by-page counts e = rw (e, memberSettled)
+
+    module _ (counts : Counts) where
+      pub under-wrong-page :
+          accountOf first count page member ≡ WrongPage
+          → memberSettledUnder tariff counts first count page member trip room ≡ refused wrongPage 0
+      unfolding memberSettledUnder
+      under-wrong-page e = rw (e, memberSettledUnder)
+
+      pub under-absent :
+          accountOf first count page member ≡ Absent
+          → memberSettledUnder tariff counts first count page member trip room ≡ refused wrongMember 0
+      unfolding memberSettledUnder
+      under-absent e = rw (e, memberSettledUnder)
+
+      pub under-present :
+          (place : ℕ) → accountOf first count page member ≡ Present place
+          → memberSettledUnder tariff counts first count page member trip room
+          ≡ onPage page place (settledUnder tariff counts (bookAt page place) trip room)
+      unfolding memberSettledUnder
+      under-present place e = rw (e, memberSettledUnder)
+
+    settled-known : (r : Reading) → readTariff tariff ≡ r → Known first count page member → Settling
+    settled-known (Fault number at) is k = at-fault number at is (by-tariff number at is)
+    settled-known (Faultless counts) is (refused-page why e) = settle-wrong-page counts is why (by-page counts is ∙ under-wrong-page counts e)
+    settled-known (Faultless counts) is (nowhere p can none e) = settle-absent counts is p can none (by-page counts is ∙ under-absent counts e)
+    settled-known (Faultless counts) is (present place p can l e) =
+        settle-at counts place is p can l (by-page counts is ∙ under-present counts place e)
+
+    pub settling : Settling
+    settling = settled-known (readTariff tariff) refl (known first count page member)
+
+    -- A refusal changes no byte of the page or of the statement.
+    pub refused-leaves :
+        {number at : ℕ} → memberSettled tariff first count page member trip room ≡ refused number at → (statement : List ℕ)
+        → (bookAfter (memberSettled tariff first count page member trip room) page ≡ page)
+        × (statementAfter (memberSettled tariff first count page member trip room) statement ≡ statement)
+    refused-leaves e statement = (rw e, rw e)
+
+  pub adding-refused-leaves :
+      {number : ℕ} → added first count page member ≡ unchanged number → pageAfter (added first count page member) page ≡ page
+  adding-refused-leaves e = rw e
+
+  pub closing-refused-leaves :
+      {number : ℕ} → closed first count page member ≡ unchanged number → pageAfter (closed first count page member) page ≡ page
+  closing-refused-leaves e = rw e
+
+-- ---- What they promise.
+
+-- two changes, or two outcomes, that cannot be the same
+other-number : {A : Type 0} {m n : ℕ} → (m ≡ n → ⊥) → unchanged m ≡ unchanged n → A
+other-number ne e = absurd (ne (cc e))
+
+pub not-changed : {A : Type 0} {n : ℕ} {new : List ℕ} → unchanged n ≡ changed new → A
+not-changed e = absurd (let z : _≡_ {A = ℕ} 0 1 = cc in omega arith)
+
+not-accepted : {A : Type 0} {n at : ℕ} {new : List ℕ} {parts : List Part} → refused n at ≡ accepted new parts → A
+not-accepted e = absurd (let z : _≡_ {A = ℕ} 0 1 = cc in omega arith)
+
+module _ (first count : ℕ) (page : List ℕ) (member : ℕ) where
+  -- what is asked of the page and the member before room is looked for: neither 18 nor 19
+  pub record Addable : Type 0 where
+    pub passing : Passing first count page
+    pub can : CanHave member
+    pub absent : InNone page member first count
+
+  -- Adding lacks room exactly when all places are taken.
+  pub no-room-exactly : added first count page member ≡ unchanged noPlace ↔ (Addable × InNone page 0 first count)
+  no-room-exactly = (λ e. there (adding first count page member) e, λ w. back (adding first count page member) (w .0) (w .1))
+    where
+      there : Adding first count page member → added first count page member ≡ unchanged noPlace → Addable × InNone page 0 first count
+      there (add-wrong-page why is) e = other-number (λ z. omega arith) (sym is ∙ e)
+      there (add-present place p can l is) e = other-number (λ z. omega arith) (sym is ∙ e)
+      there (add-full p can none full is) e = (record { passing = p; can = can; absent = none }, full)
+      there (add-at place p can none l is) e = not-changed (sym e ∙ is)
+
+      back : Adding first count page member → Addable → InNone page 0 first count → added first count page member ≡ unchanged noPlace
+      back (add-wrong-page why is) a full = absurd (not-both first count page member why (a .passing) (a .can))
+      back (add-present place p can l is) a full = absurd (a .absent place (l .from) (l .within) (l .there))
+      back (add-full p can none none-free is) a full = is
+      back (add-at place p can none l is) a full = absurd (full place (l .from) (l .within) (l .there))
+
+  -- Else it takes the lowest free place.
+  pub takes-the-lowest :
+      {new : List ℕ} → added first count page member ≡ changed new
+      → (place : ℕ) × (Addable × (Lowest page 0 first count place × (new ≡ replaced page (startOf place) placeSize (newPlace member))))
+  takes-the-lowest {new} e = there (adding first count page member)
+    where
+      there :
+          Adding first count page member
+          → (place : ℕ) × (Addable × (Lowest page 0 first count place × (new ≡ replaced page (startOf place) placeSize (newPlace member))))
+      there (add-wrong-page why is) = not-changed (sym is ∙ e)
+      there (add-present place p can l is) = not-changed (sym is ∙ e)
+      there (add-full p can none full is) = not-changed (sym is ∙ e)
+      there (add-at place p can none l is) =
+          (place, (record { passing = p; can = can; absent = none }, (l, cc (sym is ∙ e))))
+
+  -- Settling a member changes no byte of another's place, and not the number of the member's own.
+  pub settling-touches-one :
+      (tariff trip : List ℕ) (room : ℕ) {new : List ℕ} {parts : List Part} → first + count ≤ places
+      → memberSettled tariff first count page member trip room ≡ accepted new parts
+      → (place : ℕ) × (Lowest page member first count place × (Touched page new place × (numberAt new place ≡ member)))
+  settling-touches-one tariff trip room {new} {parts} few e = there (settling first count page member tariff trip room)
+    where
+      written :
+          (counts : Counts) (place : ℕ) → Read tariff counts → Passing first count page → Lowest page member first count place → (o : Outcome)
+          → settledUnder tariff counts (bookAt page place) trip room ≡ o → onPage page place o ≡ accepted new parts
+          → Touched page new place × (numberAt new place ≡ member)
+      written counts place read p l (refused number at) is same = not-accepted same
+      written counts place read p l (accepted book its) is same =
+          let long = accepted-size tariff counts read (bookAt page place) trip room is in
+          let inside : place < places = omega (arith, l .within, few) in
+          let these : replaced page (startOf place + numberSize) bookSize book ≡ new = cc in
+          rw (← these)
+          (book-touched page place (p .size) inside book long, number-kept page place (p .size) inside book long ∙ l .there)
+
+      there :
+          Settling first count page member tariff trip room
+          → (place : ℕ) × (Lowest page member first count place × (Touched page new place × (numberAt new place ≡ member)))
+      there (at-fault number at is s) = not-accepted (sym s ∙ e)
+      there (settle-wrong-page counts read why s) = not-accepted (sym s ∙ e)
+      there (settle-absent counts read p can none s) = not-accepted (sym s ∙ e)
+      there (settle-at counts place read p can l s) =
+          (place, (l, written counts place read p l (settledUnder tariff counts (bookAt page place) trip room) refl (sym s ∙ e)))

@@ -1,0 +1,76 @@
+-- What the functions over a page ask and answer, up to those that the exported ones call.
+use Prim.Native.Nat.{ℕ, _+_, _≤_, _<_}
+use mathlib.Core.Path.{_≡_}
+use mathlib.Core.List.{List}
+use lib.ListN.{length}
+use Rattle.tariff.specs.declared.Counts.{Counts}
+use Rattle.settle.specs.declared.Answer.{Answer}
+use Rattle.settle.specs.declared.Answer.the-variants.{Refused, Written}
+use Rattle.settle.specs.Outcome.{refusedAs, settledUnder}
+use Rattle.settle.specs.Contracts.{AnswerFits, Told}
+use Rattle.accounts.specs.Pages.{
+  places,
+  placeSize,
+  pageSize,
+  bookAt,
+  Change,
+  unchanged,
+  changed,
+  added,
+  closed,
+  onPage,
+  memberSettledUnder,
+  memberSettled,
+}
+
+-- what looking at some places asks: a page of the right length, which has them all
+pub record Looked (page : List ℕ) (first count : ℕ) : Type 0 where
+  pub size : length page ≡ pageSize
+  pub there : first + count ≤ places
+
+-- at one place
+pub record OnPage (page : List ℕ) (place : ℕ) : Type 0 where
+  pub size : length page ≡ pageSize
+  pub there : place < places
+
+-- a refusal leaves the page
+abbrev pub pageAfter : Change → List ℕ → List ℕ
+pageAfter (unchanged number) page = page
+pageAfter (changed new) page = new
+
+-- acceptance answers the bytes written, which are a place's
+abbrev pub toldChange : Change → Answer
+toldChange (unchanged number) = Refused number 0
+toldChange (changed new) = Written placeSize
+
+-- the answer and every byte of the page are the change's
+pub record ChangeTold (change : Change) (page page′ : List ℕ) (r : Answer) : Type 0 where
+  pub answer : r ≡ toldChange change
+  pub fits : AnswerFits r
+  pub page-is : page′ ≡ pageAfter change page
+
+-- as one number
+abbrev pub changeAnswer : Change → ℕ
+changeAnswer (unchanged number) = refusedAs number 0
+changeAnswer (changed new) = placeSize
+
+pub record Changed (change : Change) (page page′ : List ℕ) (r : ℕ) : Type 0 where
+  pub answer : r ≡ changeAnswer change
+  pub page-is : page′ ≡ pageAfter change page
+
+-- ---- What each function answers, of the slices at its entry and at its exit.
+
+-- `settle_at`
+abbrev pub PlaceSettled : List ℕ → Counts → List ℕ → ℕ → List ℕ → List ℕ → List ℕ → List ℕ → Answer → Type 0
+PlaceSettled tariff counts page place trip statement page′ statement′ r =
+    Told (onPage page place (settledUnder tariff counts (bookAt page place) trip (length statement))) page page′ statement statement′ r
+
+-- `settle_found`
+abbrev pub FoundSettled : List ℕ → Counts → ℕ → ℕ → List ℕ → ℕ → List ℕ → List ℕ → List ℕ → List ℕ → Answer → Type 0
+FoundSettled tariff counts first count page member trip statement page′ statement′ r =
+    Told (memberSettledUnder tariff counts first count page member trip (length statement)) page page′ statement statement′ r
+
+-- `settle_member`
+abbrev pub MemberSettled : List ℕ → ℕ → ℕ → List ℕ → ℕ → List ℕ → List ℕ → List ℕ → List ℕ → Answer → Type 0
+MemberSettled tariff first count page member trip statement page′ statement′ r =
+    Told (memberSettled tariff first count page member trip (length statement)) page page′ statement statement′ r

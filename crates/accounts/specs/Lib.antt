@@ -1,0 +1,4 @@
+pub mod Pages
+pub mod Words
+pub mod Contracts
+pub mod Calls

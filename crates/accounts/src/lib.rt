@@ -1,0 +1,165 @@
+// A page of accounts: twelve places, each a member's number and a book. Members are added, settled and closed on some places that follow
+// each other, `count` of them from `first` on.
+//
+// places.rt  where a place stands, its number, the lowest with a number
+// checks.rt  what is refused before anything else of the page is looked at, and where a member stands; only reads
+// clear.rt   a place cleared, or written for a new member
+//
+// Decide first, write last: a refusal changes no byte. Nothing is copied: settling is lent the book where it stands on the page.
+use book::words::SIZE;
+use checks::Account;
+use checks::account_of;
+use clear::clear;
+use clear::write_new;
+use places::NUMBER_SIZE;
+use places::PLACE_SIZE;
+use places::Spot;
+use places::lowest_with;
+use settle::Answer;
+use settle::settle_under;
+use tariff::Counts;
+use tariff::Reading;
+use tariff::scan::read_tariff;
+ghost use mathlib.Core.Path.{_≡_};
+ghost use Prim.Native.Nat.{_+_, _≤_};
+ghost use lib.ListN.{length};
+ghost use Rattle.tariff.specs.Areas.{Read};
+ghost use Rattle.settle.specs.declared.Answer.the-variants.{Refused};
+ghost use Rattle.accounts.specs.Pages.{places, startOf, placeSize, clearedPlace, newPlace, replaced, added, closed};
+ghost use Rattle.accounts.specs.Contracts.{OnPage, ChangeTold, PlaceSettled, FoundSettled, MemberSettled};
+
+pub mod checks;
+pub mod clear;
+pub mod places;
+
+// The page of the wrong length, a number outside its range or stored twice; a member who is not there, or is already; no free place.
+const WRONG_PAGE: u8 = 18;
+
+const WRONG_MEMBER: u8 = 19;
+
+const NO_PLACE: u8 = 20;
+
+fn refuse(number: u8) -> Answer
+    ensures { λ r. ⌜ r ≡ Refused number 0 ⌝ }
+{
+    Answer::Refused { number, place: 0 }
+}
+
+// A place written for a new member.
+fn fill_place(page: &mut [u8], place: usize, member: u32)
+    requires { ⌜ OnPage (now page) place ⌝ }
+    ensures { λ _. ⌜ now (page .exit) ≡ replaced (now (page .entry)) (startOf place) placeSize (newPlace member) ⌝ }
+{
+    let start = place * PLACE_SIZE;
+    let end = start + PLACE_SIZE;
+    write_new(&mut page[start..end], member);
+}
+
+// A place cleared.
+fn clear_place(page: &mut [u8], place: usize)
+    requires { ⌜ OnPage (now page) place ⌝ }
+    ensures { λ _. ⌜ now (page .exit) ≡ replaced (now (page .entry)) (startOf place) placeSize clearedPlace ⌝ }
+{
+    let start = place * PLACE_SIZE;
+    let end = start + PLACE_SIZE;
+    clear(&mut page[start..end]);
+}
+
+// Adds a member: the number and a fresh book in the lowest free place. 18, 19, 20.
+pub fn add(page: &mut [u8], first: usize, count: usize, member: u32) -> Answer
+    requires { ⌜ first + count ≤ places ⌝ }
+    ensures { λ r. ⌜ ChangeTold (added first count (now (page .entry)) member) (now (page .entry)) (now (page .exit)) r ⌝ }
+{
+    match account_of(page, first, count, member) {
+        Account::WrongPage => refuse(WRONG_PAGE),
+        Account::Present(_) => refuse(WRONG_MEMBER),
+        Account::Absent => match lowest_with(page, first, count, 0) {
+            Spot::Nowhere => refuse(NO_PLACE),
+            Spot::At(place) => {
+                fill_place(page, place, member);
+                Answer::Written(PLACE_SIZE)
+            }
+        },
+    }
+}
+
+// Closes a member's account: the whole place is cleared. 18, 19.
+pub fn close(page: &mut [u8], first: usize, count: usize, member: u32) -> Answer
+    requires { ⌜ first + count ≤ places ⌝ }
+    ensures { λ r. ⌜ ChangeTold (closed first count (now (page .entry)) member) (now (page .entry)) (now (page .exit)) r ⌝ }
+{
+    match account_of(page, first, count, member) {
+        Account::WrongPage => refuse(WRONG_PAGE),
+        Account::Absent => refuse(WRONG_MEMBER),
+        Account::Present(place) => {
+            clear_place(page, place);
+            Answer::Written(PLACE_SIZE)
+        }
+    }
+}
+
+// 4 to 12 on a place's book, lent where it stands.
+fn settle_at(
+    tariff: &[u8],
+    counts: Counts,
+    page: &mut [u8],
+    place: usize,
+    trip: &[u8],
+    statement: &mut [u8],
+) -> Answer
+    requires { ⌜ Read (now tariff) counts × OnPage (now page) place ⌝ }
+    ensures { λ r. ⌜ PlaceSettled (now (tariff .entry)) counts (now (page .entry)) place (now (trip .entry)) (now (statement .entry)) (now (page .exit)) (now (statement .exit)) r ⌝ }
+{
+    let start = place * PLACE_SIZE + NUMBER_SIZE;
+    let end = start + SIZE;
+    settle_under(tariff, counts, &mut page[start..end], trip, statement)
+}
+
+// 18, 19, then 4 to 12: under a faultless tariff.
+fn settle_found(
+    tariff: &[u8],
+    counts: Counts,
+    page: &mut [u8],
+    first: usize,
+    count: usize,
+    member: u32,
+    trip: &[u8],
+    statement: &mut [u8],
+) -> Answer
+    requires { ⌜ Read (now tariff) counts × (first + count ≤ places) ⌝ }
+    ensures { λ r. ⌜ FoundSettled (now (tariff .entry)) counts first count (now (page .entry)) member (now (trip .entry)) (now (statement .entry)) (now (page .exit)) (now (statement .exit)) r ⌝ }
+{
+    match account_of(page, first, count, member) {
+        Account::WrongPage => refuse(WRONG_PAGE),
+        Account::Absent => refuse(WRONG_MEMBER),
+        Account::Present(place) => settle_at(tariff, counts, page, place, trip, statement),
+    }
+}
+
+// Settles a member's trip: on that member's book as `settle` does, and every other byte of the page stays. 1 to 3, 18, 19, then 4 to 12.
+pub fn settle_member(
+    tariff: &[u8],
+    page: &mut [u8],
+    first: usize,
+    count: usize,
+    member: u32,
+    trip: &[u8],
+    statement: &mut [u8],
+) -> Answer
+    requires { ⌜ first + count ≤ places ⌝ }
+    ensures { λ r. ⌜ MemberSettled (now (tariff .entry)) first count (now (page .entry)) member (now (trip .entry)) (now (statement .entry)) (now (page .exit)) (now (statement .exit)) r ⌝ }
+{
+    match read_tariff(tariff) {
+        Reading::Fault { number, at } => Answer::Refused { number, place: at },
+        Reading::Faultless(counts) => settle_found(
+            tariff,
+            counts,
+            page,
+            first,
+            count,
+            member,
+            trip,
+            statement,
+        ),
+    }
+}
