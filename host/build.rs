@@ -85,12 +85,18 @@ fn plant(package: &Path, out: &Path) {
         quote: |tariff, book, trip, statement| {},
         post: |tariff, book, trip, record| {},
         read: |statement, at, fields| {},
+        add: |page, member| {},
+        close: |page, member| {},
+        settle_member: |tariff, page, member, trip, statement| {},
     }}),\n",
             told("check_tariff(tariff)"),
             told("settle(tariff, book, trip, statement)"),
             told("quote(tariff, book, trip, statement)"),
             told("post(tariff, book, trip, record)"),
             told("read(statement, at, fields)"),
+            told("add(page, member)"),
+            told("close(page, member)"),
+            told("settle_member(tariff, page, member, trip, statement)"),
         );
     }
     let many = edits::PLANTED.len();

@@ -2,7 +2,8 @@
  * milecopper.h: prices one trip, charges it against an account's book and writes its charge records: one, or two where
  * the trip went out and back. milecopper_settle does so at once. An app that shows the price first does it in two steps:
  * milecopper_quote writes the charge records and leaves the book, milecopper_post writes the book. milecopper_read reads charge
- * records that were kept, of this kind and of the kind before it, wherever they come from.
+ * records that were kept, of this kind and of the kind before it, wherever they come from. An app with several members may keep
+ * twelve of their books on one page: milecopper_add, milecopper_close and milecopper_settle_member.
  *
  * For C99 and later and C++11 and later. `host/install PREFIX` in the source's folder builds and installs this file, a
  * static and a shared library and a file for pkg-config below the folder PREFIX. Then:
@@ -46,7 +47,15 @@
  *         at += milecopper_record_read(read);
  *     }
  *
- * All numbers in a tariff, a book, a trip and a charge record are little-endian on every machine, so these bytes can
+ * Twelve members on one page, each by a number of the app's choice:
+ *
+ *     static uint8_t page[MILECOPPER_PAGE_BYTES];            // all zero: a new page, every place is free
+ *     answer = milecopper_add(page, sizeof page, 4711);      // a fresh book for member 4711
+ *     answer = milecopper_settle_member(tariff, tariff_len, page, sizeof page, 4711,
+ *                                       trip, trip_len, statement, sizeof statement);
+ *     answer = milecopper_close(page, sizeof page, 4711);    // the book is gone, and the place is free again
+ *
+ * All numbers in a tariff, a book, a page, a trip and a charge record are little-endian on every machine, so these bytes can
  * be stored and sent as they are. No slice needs any alignment.
  *
  * A trip is a record of kind MILECOPPER_TRIP_KIND. Its check-in and its check-out are stamps of MILECOPPER_STAMP_BYTES
@@ -58,25 +67,32 @@
  * Duties of the caller
  *
  *   - Each pointer points to at least as many bytes as the length beside it says. `tariff` and `trip` are only read, and
- *     so are a quote's `book`, a posting's `record` and a reading's `statement`. Else `book`, `statement` and `fields` may be
- *     written within their lengths, and only there.
+ *     so are a quote's `book`, a posting's `record` and a reading's `statement`. Else `book`, `page`, `statement` and `fields` may
+ *     be written within their lengths, and only there.
  *   - The slices of a call do not overlap, not even in part.
  *   - A pointer beside a length of 0 is not looked at. It may be null, as that of an empty std::vector is.
- *   - A tariff has at most MILECOPPER_LARGEST_TARIFF_BYTES bytes, a trip MILECOPPER_LARGEST_TRIP_BYTES and a book exactly
- *     MILECOPPER_BOOK_BYTES; others may be offered, and are refused. A statement of MILECOPPER_LARGEST_STATEMENT_BYTES has
- *     room for every trip, and fields of MILECOPPER_LARGEST_FIELDS_BYTES for every record. Any length that a size_t holds may
- *     be given, and any offset.
+ *   - A tariff has at most MILECOPPER_LARGEST_TARIFF_BYTES bytes, a trip MILECOPPER_LARGEST_TRIP_BYTES, a book exactly
+ *     MILECOPPER_BOOK_BYTES and a page MILECOPPER_PAGE_BYTES; others may be offered, and are refused. A statement of
+ *     MILECOPPER_LARGEST_STATEMENT_BYTES has room for every trip, and fields of MILECOPPER_LARGEST_FIELDS_BYTES for every
+ *     record. Any length that a size_t holds may be given, any offset, and any number of a member.
  *   - A fresh book is MILECOPPER_BOOK_BYTES bytes, all zero. From then on only this library writes into it. Each
  *     account has a book of its own, and the caller keeps it from one trip to the next. An account's trips are
  *     settled or posted in the order in which they were ridden.
+ *   - A new page is MILECOPPER_PAGE_BYTES bytes, all zero, and from then on only this library writes into it. The app gives each
+ *     member a number, 1 to MILECOPPER_LARGEST_MEMBER, and keeps it while that member has an account on the page. Who is closed
+ *     loses the book with its open window: a member who is added again begins with a fresh one.
  *   - During a call no other thread writes any of its slices, and none reads its book or its statement, unless the call
  *     only reads them. Calls on different books may run at the same time, on any threads, and so may quotes on one book and
- *     readings of one statement. They may share one tariff.
+ *     readings of one statement. They may share one tariff. A page is one slice: every call on it looks at all its numbers, so
+ *     calls on one page do not run at the same time, whoever the members are.
  *   - Where milecopper_check_tariff is called, at least 256 bytes of stack are free.
  *   - Where milecopper_settle is called, at least 1,024 bytes of stack are free.
  *   - Where milecopper_quote is called, at least 1,536 bytes of stack are free.
  *   - Where milecopper_post is called, at least 2,048 bytes of stack are free.
  *   - Where milecopper_read is called, at least 512 bytes of stack are free.
+ *   - Where milecopper_add is called, at least 256 bytes of stack are free.
+ *   - Where milecopper_close is called, at least 256 bytes of stack are free.
+ *   - Where milecopper_settle_member is called, at least 1,280 bytes of stack are free.
  *
  * What the library does not do
  *
@@ -89,9 +105,12 @@
  *     posting; the statement's further bytes stay as they were. The parts of a broken trip are accepted together or
  *     refused together. A record that is refused changes no byte of the fields; of one that is read the fields stand at their
  *     start, and the further bytes stay as they were.
+ *   - A call on a page that is refused changes no byte of the page. One that is accepted changes the bytes of that member's place
+ *     alone: all of them in adding and closing, its book in settling. What stands in other places, in free ones too, stays as it is.
  *   - It does not find every damage. A book is refused (4) where its words cannot stand together; one with another sum in
  *     it mostly can. A charge record is refused (16) where a number is none that settling writes; one with another charge in
- *     it mostly has none such. Keep a checksum of your own beside a book or a statement that is stored or sent.
+ *     it mostly has none such. A page is refused (18) by its length and the numbers of its places; of its books only the one that
+ *     is settled on is looked at. Keep a checksum of your own beside a book, a page or a statement that is stored or sent.
  *
  * Another tariff
  *
@@ -114,7 +133,8 @@
  *      list.
  *
  *   After a power cut ACCOUNT is the old file or the new one. Where its number is below that of the first trip on the
- *   list, begin at 1: from the same bytes come the same bytes. Where it is that number, go on at 4.
+ *   list, begin at 1: from the same bytes come the same bytes. Where it is that number, go on at 4. Where members share a page,
+ *   the page is kept so in the place of the book, with one list of trips; adding and closing are entries of that list.
  */
 #ifndef MILECOPPER_H
 #define MILECOPPER_H
@@ -125,7 +145,7 @@
 /* The version. The number stands here alone: the library's file names, its pkg-config file, its constant
  * milecopper_version and what the scripts say all come from these lines. */
 #define MILECOPPER_VERSION_MAJOR 0
-#define MILECOPPER_VERSION_MINOR 11
+#define MILECOPPER_VERSION_MINOR 12
 #define MILECOPPER_VERSION_PATCH 0
 #define MILECOPPER_VERSION_AS_TEXT(major, minor, patch) #major "." #minor "." #patch
 #define MILECOPPER_VERSION_AS_WRITTEN(major, minor, patch) MILECOPPER_VERSION_AS_TEXT(major, minor, patch)
@@ -137,6 +157,16 @@
 
 /* The book's length. A book of 5,428 bytes, from before areas of kind 8, is refused with 4: begin with a fresh one. */
 #define MILECOPPER_BOOK_BYTES 5468
+
+/* A page of accounts: places one after another, each a member's number in 4 bytes, 1 to MILECOPPER_LARGEST_MEMBER, and then the
+ * book. A place with the number MILECOPPER_FREE_PLACE is free, and its other bytes are not looked at. */
+#define MILECOPPER_PLACES 12
+#define MILECOPPER_PLACE_BYTES 5472
+#define MILECOPPER_PAGE_BYTES 65664
+#define MILECOPPER_PLACE_MEMBER_AT 0
+#define MILECOPPER_PLACE_BOOK_AT 4
+#define MILECOPPER_FREE_PLACE 0
+#define MILECOPPER_LARGEST_MEMBER 999999999
 
 /* Charge records: the smallest has one person, the largest MILECOPPER_MOST_PERSONS and MILECOPPER_MOST_BICYCLES. Each of
  * them has a charge. */
@@ -310,13 +340,18 @@
 #define MILECOPPER_WINDOW_MINUTES 1440
 #define MILECOPPER_MOST_TRIPS_IN_A_WINDOW 256
 
-/* Why a trip or a record was refused. Where several apply, the answer is the first of them in this order. Settling and a quote
- * give 1 to 12 and 17, a posting 1 to 11, 17 and 13, a reading 14 to 16 and then 12. */
+/* Why a trip, a record or a page was refused. Where several apply, the answer is the first of them in this order. Settling and a
+ * quote give 1 to 12 and 17, a posting 1 to 11, 17 and 13, a reading 14 to 16 and then 12; adding gives 18 to 20, closing 18 and
+ * 19, and settling a member 1 to 3, 18, 19, and then what settling gives. */
 enum milecopper_refusal {
     MILECOPPER_NOT_REFUSED = 0,
     MILECOPPER_TARIFF_BROKEN = 1,     /* tariff: a record's frame is broken */
     MILECOPPER_TARIFF_MISSHAPEN = 2,  /* tariff: kind, length, order or number of records wrong, or one is missing */
     MILECOPPER_TARIFF_VALUE = 3,      /* tariff: a value outside its range */
+    MILECOPPER_WRONG_PAGE = 18,       /* page: wrong length; the number asked for, or one stored, outside its range; or one
+                                       * stored twice */
+    MILECOPPER_WRONG_MEMBER = 19,     /* page: no such member; or there is one already, when adding */
+    MILECOPPER_NO_PLACE = 20,         /* page: no place is free */
     MILECOPPER_BOOK_UNSOUND = 4,      /* book: wrong length, or words that cannot stand together */
     MILECOPPER_TRIP_MISSHAPEN = 5,    /* trip: frame, kind or length wrong, or bytes after the record */
     MILECOPPER_TRIP_COUNTS = 6,       /* trip: class, ticket level, party or number of stops out of range; or first class
@@ -408,6 +443,38 @@ uint64_t milecopper_post(const uint8_t *tariff, size_t tariff_len,
 uint64_t milecopper_read(const uint8_t *statement, size_t statement_len, size_t at,
                          uint8_t *fields, size_t fields_len);
 
+/*
+ * Adds a member to a page: the number and a fresh book, all zero, whatever stood there, in the lowest free place.
+ *
+ * Accepted: the number of bytes written, MILECOPPER_PLACE_BYTES. Refused, times 2^32: by 18, MILECOPPER_WRONG_PAGE, where the page
+ * has another length, `member` is 0 or above MILECOPPER_LARGEST_MEMBER, a stored number is above that, or one but 0 is stored
+ * twice; by 19, MILECOPPER_WRONG_MEMBER, where the member is there already, also on a full page; and then by 20,
+ * MILECOPPER_NO_PLACE, which is so exactly where all twelve places are taken. A refusal leaves the page as it was.
+ */
+uint64_t milecopper_add(uint8_t *page, size_t page_len, uint32_t member);
+
+/*
+ * Closes a member's account: the whole place is cleared, number and book, and is free from then on. An open window is lost with
+ * it, and it is not asked whether the book is sound.
+ *
+ * Accepted: the number of bytes written, MILECOPPER_PLACE_BYTES. Refused, times 2^32: by 18 as milecopper_add is, and by 19 where
+ * there is no such member. A refusal leaves the page as it was.
+ */
+uint64_t milecopper_close(uint8_t *page, size_t page_len, uint32_t member);
+
+/*
+ * Settles one trip of a member on that member's book, where it stands on the page. Answer, charge records and book are what
+ * milecopper_settle would give on that book by itself; no other byte of the page changes, and no other member's book is looked at.
+ *
+ * Accepted: the number of bytes written to the statement, as by milecopper_settle. Refused: by 1 to 3, then by 18 as
+ * milecopper_add is and by 19 where there is no such member, and then by 4 to 12 and 17, as by milecopper_settle; page and
+ * statement stay as they were. A trip is quoted and posted on the book in a place (milecopper_book_in) as on any other.
+ */
+uint64_t milecopper_settle_member(const uint8_t *tariff, size_t tariff_len,
+                                  uint8_t *page, size_t page_len, uint32_t member,
+                                  const uint8_t *trip, size_t trip_len,
+                                  uint8_t *statement, size_t statement_len);
+
 #ifdef __cplusplus
 }
 #define MILECOPPER_AS(type, value) static_cast<type>(value)
@@ -417,17 +484,18 @@ uint64_t milecopper_read(const uint8_t *statement, size_t statement_len, size_t 
 
 /* ---- The answer ----
  *
- * `answer` is one that milecopper_settle, milecopper_quote, milecopper_post or milecopper_read gave.
+ * `answer` is one that milecopper_settle, milecopper_quote, milecopper_post, milecopper_read, milecopper_add, milecopper_close or
+ * milecopper_settle_member gave.
  */
 
-/* 1 if the trip was accepted, or the record read, else 0. */
+/* 1 if the trip was accepted, the record read, or the member added or closed, else 0. */
 static inline int milecopper_accepted(uint64_t answer)
 {
     return (answer >> 32) == 0;
 }
 
-/* The number of bytes written: the length of the charge records at the start of the statement or, by a posting, the book's;
- * 0 if the trip was refused. */
+/* The number of bytes written: the length of the charge records at the start of the statement, by a posting the book's, by adding
+ * and closing a place's; 0 if it was refused. */
 static inline size_t milecopper_bytes_written(uint64_t answer)
 {
     return milecopper_accepted(answer) ? MILECOPPER_AS(size_t, answer) : 0;
@@ -439,7 +507,7 @@ static inline size_t milecopper_record_read(uint64_t answer)
     return milecopper_bytes_written(answer);
 }
 
-/* Why the trip or the record was refused; MILECOPPER_NOT_REFUSED if it was accepted. */
+/* Why the trip, the record or the page was refused; MILECOPPER_NOT_REFUSED if it was accepted. */
 static inline enum milecopper_refusal milecopper_refusal_of(uint64_t answer)
 {
     return MILECOPPER_AS(enum milecopper_refusal, answer >> 32);
@@ -466,6 +534,12 @@ static inline const char *milecopper_refusal_text(enum milecopper_refusal refusa
         return "The price file is put together wrongly: a record is missing, too many, out of order or of the wrong kind.";
     case MILECOPPER_TARIFF_VALUE:
         return "The price file holds a number that is not allowed.";
+    case MILECOPPER_WRONG_PAGE:
+        return "The page of accounts is damaged, or the number asked for is not one of 1 to 999,999,999.";
+    case MILECOPPER_WRONG_MEMBER:
+        return "There is no account for this member on the page; or there is one already, where it should be opened.";
+    case MILECOPPER_NO_PLACE:
+        return "All twelve places of the page are taken. An account has to be closed first, or another page begun.";
     case MILECOPPER_BOOK_UNSOUND:
         return "The account's book is damaged, or it was kept with a different price file or by an older version.";
     case MILECOPPER_TRIP_MISSHAPEN:
@@ -521,6 +595,32 @@ static inline void milecopper_put_number(uint8_t *bytes, size_t width, uint32_t 
         bytes[i] = MILECOPPER_AS(uint8_t, number & 0xFFu);
         number >>= 8;
     }
+}
+
+/* ---- The page ----
+ *
+ * `page` has MILECOPPER_PAGE_BYTES bytes. This goes through the members, in the order of their places:
+ *
+ *     unsigned place;
+ *     for (place = 0; place < MILECOPPER_PLACES; place += 1)
+ *         if (milecopper_member_in(page, place) != MILECOPPER_FREE_PLACE)
+ *             printf("member %lu\n", (unsigned long)milecopper_member_in(page, place));
+ */
+
+/* The number of the member in a place, counted from 0; MILECOPPER_FREE_PLACE where it is free, or there is no such place. */
+static inline uint32_t milecopper_member_in(const uint8_t *page, unsigned place)
+{
+    if (place >= MILECOPPER_PLACES)
+        return MILECOPPER_FREE_PLACE;
+    return milecopper_number(page + MILECOPPER_PLACE_BYTES * MILECOPPER_AS(size_t, place) + MILECOPPER_PLACE_MEMBER_AT, 4);
+}
+
+/* The book in a place, MILECOPPER_BOOK_BYTES bytes; a null pointer where there is no such place. */
+static inline uint8_t *milecopper_book_in(uint8_t *page, unsigned place)
+{
+    if (place >= MILECOPPER_PLACES)
+        return NULL;
+    return page + MILECOPPER_PLACE_BYTES * MILECOPPER_AS(size_t, place) + MILECOPPER_PLACE_BOOK_AT;
 }
 
 /* ---- The charge record ----

@@ -69,7 +69,10 @@ test('the module offers what the header declares, asks for nothing and cannot gr
     const functions = WebAssembly.Module.exports(module).filter(({ kind }) => kind === 'function');
     const declared = [...header.matchAll(/^uint64_t (milecopper_\w+)\(/gm)].map(([, name]) => name);
     assert.deepEqual(functions.map(({ name }) => name).sort(), declared.sort());
-    for (const name of declared) assert.ok(name in binding.FUNCTIONS, name);
+    // Those on a page of accounts are not bound: a page does not fit into the module's memory, and the desk has none.
+    const onPages = ['milecopper_add', 'milecopper_close', 'milecopper_settle_member'];
+    const bound = declared.filter((name) => !onPages.includes(name));
+    assert.deepEqual(Object.keys(binding.FUNCTIONS).sort(), bound.sort());
     const { memory } = new WebAssembly.Instance(module).exports;
     assert.throws(() => memory.grow(1), RangeError);
 });

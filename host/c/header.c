@@ -35,6 +35,8 @@ static void sizes(void)
               MILECOPPER_FIELDS_CHARGES_AT + MILECOPPER_FIELDS_EACH_BYTES * MILECOPPER_MOST_CHARGES ==
                   MILECOPPER_LARGEST_FIELDS_BYTES, "the fields of the smallest and of the largest record");
     check(MILECOPPER_TRIP_STOPS_AT + 2 * MILECOPPER_MOST_STOPS_IN_A_TRIP == MILECOPPER_LARGEST_TRIP_BYTES, "a trip's stops");
+    check(MILECOPPER_PLACE_BYTES == MILECOPPER_PLACE_BOOK_AT + MILECOPPER_BOOK_BYTES, "a place");
+    check(MILECOPPER_PAGE_BYTES == MILECOPPER_PLACES * MILECOPPER_PLACE_BYTES, "a page");
     check(MILECOPPER_TRIP_CHECK_IN_AT + MILECOPPER_STAMP_BYTES == MILECOPPER_TRIP_CHECK_OUT_AT, "a trip's stamps");
 }
 
@@ -46,6 +48,8 @@ static void only_read(void)
     check(sizeof(milecopper_quote(read, 0, read, 0, read, 0, written, 0)) == 8, "a quote's book is only read");
     check(sizeof(milecopper_post(read, 0, written, 0, read, 0, read, 0)) == 8, "a posting's record is only read");
     check(sizeof(milecopper_read(read, 0, 0, written, 0)) == 8, "a reading's statement is only read");
+    check(sizeof(milecopper_settle_member(read, 0, written, 0, 1, read, 0, written, 0)) == 8, "a member's trip is only read");
+    check(sizeof(milecopper_add(written, 0, 1)) == 8 && sizeof(milecopper_close(written, 0, 1)) == 8, "a page is written");
 }
 
 static void answers(void)
@@ -61,6 +65,10 @@ static void answers(void)
     check(milecopper_refusal_of((uint64_t)17 << 32) == MILECOPPER_MISTAP, "a mistap");
     check(milecopper_refusal_of((uint64_t)16 << 32) == MILECOPPER_RECORD_VALUE, "the last refusal of a record that is read");
     check(milecopper_record_read(accepted) == 26 && milecopper_record_read(refused) == 0, "a record that was read");
+    check(milecopper_refusal_of((uint64_t)18 << 32) == MILECOPPER_WRONG_PAGE, "a page that is wrong");
+    check(milecopper_refusal_of((uint64_t)19 << 32) == MILECOPPER_WRONG_MEMBER, "a member who is not there, or is already");
+    check(milecopper_refusal_of((uint64_t)20 << 32) == MILECOPPER_NO_PLACE, "no free place");
+    check(milecopper_bytes_written(MILECOPPER_PLACE_BYTES) == MILECOPPER_PLACE_BYTES, "a member who was added");
     check(milecopper_bytes_written(MILECOPPER_BOOK_BYTES) == MILECOPPER_BOOK_BYTES, "a posted trip");
 }
 
@@ -68,7 +76,7 @@ static void texts(void)
 {
     int one;
     int other;
-    for (one = 0; one <= 18; one += 1)
+    for (one = 0; one <= 21; one += 1)
         for (other = 0; other < one; other += 1)
             check(strcmp(milecopper_refusal_text((enum milecopper_refusal)one),
                          milecopper_refusal_text((enum milecopper_refusal)other)) != 0, "two refusals with one text");
@@ -112,6 +120,18 @@ static void records(void)
     check(milecopper_record_total(record) == 70670, "the sum of the charges");
     check(milecopper_statement_total(record, sizeof record) == 70670, "the sum of a statement with one record");
     check(milecopper_number((const uint8_t *)"\xff\xff\xff\xff", 4) == 0xFFFFFFFFu, "the largest number");
+}
+
+/* Numbers and books by their places. */
+static void pages(void)
+{
+    static uint8_t page[MILECOPPER_PAGE_BYTES];
+    milecopper_put_number(page + 11 * MILECOPPER_PLACE_BYTES, 4, MILECOPPER_LARGEST_MEMBER);
+    check(milecopper_member_in(page, 11) == MILECOPPER_LARGEST_MEMBER, "the member in the last place");
+    check(milecopper_member_in(page, 10) == MILECOPPER_FREE_PLACE && milecopper_member_in(page, 12) == MILECOPPER_FREE_PLACE,
+          "no member");
+    check(milecopper_book_in(page, 0) == page + 4 && milecopper_book_in(page, 12) == NULL, "books and no book");
+    check(milecopper_book_in(page, 11) + MILECOPPER_BOOK_BYTES == page + MILECOPPER_PAGE_BYTES, "the last book ends the page");
 }
 
 /* Fields as a reading tells them, of a record with an adult and a bicycle. */
@@ -170,6 +190,7 @@ int main(void)
     texts();
     records();
     fields();
+    pages();
     two_records();
     return faults == 0 ? 0 : 1;
 }

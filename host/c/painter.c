@@ -1,27 +1,32 @@
 /*
  * Makes calls of the library on a painted stack, and writes how many bytes of it each function took at most: for an x86-64 that is emulated
- * (host/stack-check). On standard input comes call after call: the function's place in FUNCTIONS, a reading's offset, the lengths of four slices, and their bytes.
+ * (host/stack-check). On standard input comes call after call: the function's place in FUNCTIONS, a reading's offset or a member's number, the lengths of
+ * four slices, and their bytes.
  * On standard output goes a number for each function. All numbers have 8 bytes.
  */
 typedef __UINT64_TYPE__ word;
 typedef __INT64_TYPE__ number;
 
-word painted_depth(const void *function, const word given[8], word *stack, word size, word *answer);
+word painted_depth(const void *function, const word given[10], word *stack, word size, word *answer);
 word milecopper_settle(const void *, word, void *, word, const void *, word, void *, word);
 word milecopper_quote(const void *, word, const void *, word, const void *, word, void *, word);
 word milecopper_post(const void *, word, void *, word, const void *, word, const void *, word);
 word milecopper_check_tariff(const void *, word);
 word milecopper_read(const void *, word, word, void *, word);
+word milecopper_add(void *, word, unsigned);
+word milecopper_close(void *, word, unsigned);
+word milecopper_settle_member(const void *, word, void *, word, unsigned, const void *, word, void *, word);
 number read(int, void *, word);
 number write(int, const void *, word);
 
-/* As in host/src/stack.rs. */
-static const void *const FUNCTIONS[] = {
-    (const void *)milecopper_settle, (const void *)milecopper_quote, (const void *)milecopper_post, (const void *)milecopper_check_tariff,
-    (const void *)milecopper_read
+/* As in host/src/stack.rs: each function, and how many slices stand before its number; ALL where it has none. */
+enum { HEAD = 2, SLICES = 4, ALL = SLICES, LONGEST = 1 << 17, WORDS = 1 << 10 };
+static const struct { const void *start; int before; } FUNCTIONS[] = {
+    { (const void *)milecopper_settle, ALL },       { (const void *)milecopper_quote, ALL }, { (const void *)milecopper_post, ALL },
+    { (const void *)milecopper_check_tariff, ALL }, { (const void *)milecopper_read, 1 },    { (const void *)milecopper_add, 1 },
+    { (const void *)milecopper_close, 1 },          { (const void *)milecopper_settle_member, 2 }
 };
-
-enum { MANY = sizeof FUNCTIONS / sizeof *FUNCTIONS, READ = MANY - 1, HEAD = 2, SLICES = 4, LONGEST = 1 << 17, WORDS = 1 << 10 };
+enum { MANY = sizeof FUNCTIONS / sizeof *FUNCTIONS };
 static unsigned char slices[SLICES][LONGEST];
 static word stack[WORDS] __attribute__((aligned(16)));
 
@@ -35,20 +40,17 @@ static int read_all(void *bytes, word many) {
 }
 
 int main(void) {
-    word head[HEAD + SLICES], most[MANY] = { 0 }, given[2 * SLICES], answer;
+    word head[HEAD + SLICES], most[MANY] = { 0 }, given[2 * SLICES + 2] = { 0 }, answer;
     while (read_all(head, sizeof head)) {
         if (head[0] >= MANY) return 2;
+        word *next = given;
         for (int i = 0; i < SLICES; i++) {
+            if (i == FUNCTIONS[head[0]].before) *next++ = head[1];
             if (head[HEAD + i] > LONGEST || !read_all(slices[i], head[HEAD + i])) return 2;
-            given[2 * i] = (word)slices[i];
-            given[2 * i + 1] = head[HEAD + i];
+            *next++ = (word)slices[i];
+            *next++ = head[HEAD + i];
         }
-        if (head[0] == READ) { /* statement, offset, fields */
-            given[4] = given[3];
-            given[3] = given[2];
-            given[2] = head[1];
-        }
-        word depth = painted_depth(FUNCTIONS[head[0]], given, stack, WORDS, &answer);
+        word depth = painted_depth(FUNCTIONS[head[0]].start, given, stack, WORDS, &answer);
         if (depth > most[head[0]]) most[head[0]] = depth;
     }
     return write(1, most, sizeof most) == sizeof most ? 0 : 2;

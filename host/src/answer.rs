@@ -1,23 +1,28 @@
-//! The number that settling, a quote, a posting and a reading answer, taken apart.
+//! The number that settling, a quote, a posting, a reading and the calls on a page answer, taken apart.
 
 use std::fmt;
 
-/// What became of a trip, or of a record that was read.
+/// What became of a trip, of a record that was read, or of a page.
 #[derive(Clone, Copy, Debug, PartialEq, Eq)]
 pub enum Answer {
-    /// So many bytes were written: to the statement, or by a posting to the book. Of a reading, the record's bytes.
+    /// So many bytes were written: to the statement, by a posting to the book, by adding and closing to the page. Of a reading,
+    /// the record's bytes.
     Accepted { bytes: u32 },
     /// `place` is the offset in the tariff for the first three refusals, else 0.
     Refused { refusal: Refusal, place: u32 },
 }
 
 /// The refusals, in the order in which they are tried, in which 17 stands between 9 and 10. Settling and a quote give those
-/// up to 12; a posting has 13 in the place of 12. A reading gives 14 to 16, and then 12.
+/// up to 12; a posting has 13 in the place of 12. A reading gives 14 to 16, and then 12. 18 to 20 are of a page of accounts
+/// alone: adding gives these three, closing the first two of them, and settling a member those two between 3 and 4.
 #[derive(Clone, Copy, Debug, PartialEq, Eq)]
 pub enum Refusal {
     TariffBroken = 1,
     TariffMisshapen = 2,
     TariffValue = 3,
+    WrongPage = 18,
+    WrongMember = 19,
+    NoPlace = 20,
     BookUnsound = 4,
     TripMisshapen = 5,
     TripCounts = 6,
@@ -47,10 +52,13 @@ impl Answer {
 }
 
 impl Refusal {
-    pub const ALL: [Refusal; 17] = [
+    pub const ALL: [Refusal; 20] = [
         Refusal::TariffBroken,
         Refusal::TariffMisshapen,
         Refusal::TariffValue,
+        Refusal::WrongPage,
+        Refusal::WrongMember,
+        Refusal::NoPlace,
         Refusal::BookUnsound,
         Refusal::TripMisshapen,
         Refusal::TripCounts,
@@ -70,7 +78,8 @@ impl Refusal {
     /// Those that settling and a quote give, in their order.
     pub fn of_settling() -> impl Iterator<Item = Refusal> {
         let last = Refusal::ALL.iter().position(|&refusal| refusal == Refusal::NoRoom);
-        Refusal::ALL.into_iter().take(1 + last.expect("one of them"))
+        let up_to_it = Refusal::ALL.into_iter().take(1 + last.expect("one of them"));
+        up_to_it.filter(|refusal| ![Refusal::WrongPage, Refusal::WrongMember, Refusal::NoPlace].contains(refusal))
     }
 
     /// The refusal with this number.
@@ -84,6 +93,9 @@ impl Refusal {
             Refusal::TariffBroken => "tariff frame broken",
             Refusal::TariffMisshapen => "tariff misshapen",
             Refusal::TariffValue => "tariff value",
+            Refusal::WrongPage => "page misshapen, or a member's number",
+            Refusal::WrongMember => "no such member, or there already",
+            Refusal::NoPlace => "no free place",
             Refusal::BookUnsound => "book not sound",
             Refusal::TripMisshapen => "trip misshapen",
             Refusal::TripCounts => "trip counts",
@@ -127,8 +139,9 @@ mod tests {
         assert_eq!(Answer::of(13 << 32), Some(Answer::Refused { refusal: Refusal::OtherRecord, place: 0 }));
         assert_eq!(Answer::of(16 << 32), Some(Answer::Refused { refusal: Refusal::RecordValue, place: 0 }));
         assert_eq!(Answer::of(17 << 32), Some(Answer::Refused { refusal: Refusal::Mistap, place: 0 }));
-        assert_eq!(Answer::of(18 << 32), None);
+        assert_eq!(Answer::of(20 << 32), Some(Answer::Refused { refusal: Refusal::NoPlace, place: 0 }));
+        assert_eq!(Answer::of(21 << 32), None);
         assert_eq!(Answer::of(u64::MAX), None);
-        assert!((1..=17).all(|number| Refusal::of(number).is_some_and(|refusal| refusal as u64 == number)));
+        assert!((1..=20).all(|number| Refusal::of(number).is_some_and(|refusal| refusal as u64 == number)));
     }
 }

@@ -45,6 +45,20 @@ extern "C" {
         fields: *mut u8,
         fields_len: usize,
     ) -> u64;
+
+    pub(crate) fn milecopper_add(page: *mut u8, page_len: usize, member: u32) -> u64;
+    pub(crate) fn milecopper_close(page: *mut u8, page_len: usize, member: u32) -> u64;
+    pub(crate) fn milecopper_settle_member(
+        tariff: *const u8,
+        tariff_len: usize,
+        page: *mut u8,
+        page_len: usize,
+        member: u32,
+        trip: *const u8,
+        trip_len: usize,
+        statement: *mut u8,
+        statement_len: usize,
+    ) -> u64;
 }
 
 /// A faultless tariff's length, or the number that settling under it gives.
@@ -54,13 +68,16 @@ pub fn check_tariff(tariff: &[u8]) -> u64 {
     unsafe { milecopper_check_tariff(tariff.as_ptr(), tariff.len()) }
 }
 
-/// The five functions, each with the answer's number as the library gives it.
+/// The eight functions, each with the answer's number as the library gives it.
 pub const LIBRARY: Functions = Functions {
     check: check_tariff,
     settle: settle_to_number,
     quote: quote_to_number,
     post: post_to_number,
     read: read_to_number,
+    add: add_to_number,
+    close: close_to_number,
+    settle_member: settle_member_to_number,
 };
 
 pub fn settle_to_number(tariff: &[u8], book: &mut [u8], trip: &[u8], statement: &mut [u8]) -> u64 {
@@ -118,6 +135,33 @@ pub fn read_to_number(statement: &[u8], at: usize, fields: &mut [u8]) -> u64 {
     unsafe { milecopper_read(statement.as_ptr(), statement.len(), at, fields.as_mut_ptr(), fields.len()) }
 }
 
+pub fn add_to_number(page: &mut [u8], member: u32) -> u64 {
+    // SAFETY: as above. Any number may be given, here and below.
+    unsafe { milecopper_add(page.as_mut_ptr(), page.len(), member) }
+}
+
+pub fn close_to_number(page: &mut [u8], member: u32) -> u64 {
+    // SAFETY: as above.
+    unsafe { milecopper_close(page.as_mut_ptr(), page.len(), member) }
+}
+
+pub fn settle_member_to_number(tariff: &[u8], page: &mut [u8], member: u32, trip: &[u8], statement: &mut [u8]) -> u64 {
+    // SAFETY: as above.
+    unsafe {
+        milecopper_settle_member(
+            tariff.as_ptr(),
+            tariff.len(),
+            page.as_mut_ptr(),
+            page.len(),
+            member,
+            trip.as_ptr(),
+            trip.len(),
+            statement.as_mut_ptr(),
+            statement.len(),
+        )
+    }
+}
+
 /// Settles one trip. Accepted: the book is replaced, and the charge records stand at the start of the statement. Refused:
 /// book and statement stay.
 pub fn settle(tariff: &[u8], book: &mut [u8], trip: &[u8], statement: &mut [u8]) -> Answer {
@@ -138,6 +182,22 @@ pub fn post(tariff: &[u8], book: &mut [u8], trip: &[u8], record: &[u8]) -> Answe
 /// Reads the charge record at an offset. Accepted: its bytes, and its fields stand at the start of `fields`. Refused: they stay.
 pub fn read(statement: &[u8], at: usize, fields: &mut [u8]) -> Answer {
     answer_of(read_to_number(statement, at, fields))
+}
+
+/// Adds a member to a page. Accepted: number and fresh book stand in the lowest free place. Refused: the page stays.
+pub fn add(page: &mut [u8], member: u32) -> Answer {
+    answer_of(add_to_number(page, member))
+}
+
+/// Closes a member's account. Accepted: the place is cleared. Refused: the page stays.
+pub fn close(page: &mut [u8], member: u32) -> Answer {
+    answer_of(close_to_number(page, member))
+}
+
+/// Settles one trip of a member on a page. Accepted: that member's book is replaced, and the charge records stand at the start
+/// of the statement. Refused: page and statement stay.
+pub fn settle_member(tariff: &[u8], page: &mut [u8], member: u32, trip: &[u8], statement: &mut [u8]) -> Answer {
+    answer_of(settle_member_to_number(tariff, page, member, trip, statement))
 }
 
 fn answer_of(number: u64) -> Answer {

@@ -11,6 +11,7 @@
 //! - [`charge`]: windows, charges and bicycles;
 //! - [`statement`]: the charge record;
 //! - [`reading`]: charge records read off a statement that was kept;
+//! - [`page`]: twelve members' books on one page;
 //! - [`roll`]: what the program that settles a roll prints;
 //! - [`table`]: what the program that prints statements prints.
 //!
@@ -22,6 +23,7 @@ pub mod caps;
 pub mod charge;
 pub mod clock;
 pub mod fare;
+pub mod page;
 pub mod parts;
 pub mod reading;
 pub mod record;
@@ -35,6 +37,7 @@ use book::{Book, TRIPS_IN_A_WINDOW};
 use charge::{costs_of, window_for, Costs};
 use clock::MINUTES_IN_A_DAY;
 use fare::Ride;
+pub use page::{add, close, settle_member};
 use parts::{parts_of, rides_in_a_marked_town};
 pub use reading::read;
 pub use roll::settle_roll;

@@ -1,15 +1,26 @@
 //! The stack that a call of the library takes, by painting the stack that it runs on (c/painted.c). x86-64 and aarch64.
 
-use crate::library::{milecopper_check_tariff, milecopper_post, milecopper_quote, milecopper_read, milecopper_settle};
+use crate::library::{
+    milecopper_add, milecopper_check_tariff, milecopper_close, milecopper_post, milecopper_quote, milecopper_read,
+    milecopper_settle, milecopper_settle_member,
+};
 
 /// What the library exports, and how many bytes of stack a call may take. Who raises a limit says why in docs/DECISIONS.md.
 /// c/painter.c has the functions in the same order.
-pub const FUNCTIONS: [Function; 5] = [
-    Function { name: "milecopper_settle", limit: 1_024, start: milecopper_settle as *const () },
-    Function { name: "milecopper_quote", limit: 1_536, start: milecopper_quote as *const () },
-    Function { name: "milecopper_post", limit: 2_048, start: milecopper_post as *const () },
-    Function { name: "milecopper_check_tariff", limit: 256, start: milecopper_check_tariff as *const () },
-    Function { name: "milecopper_read", limit: 512, start: milecopper_read as *const () },
+pub const FUNCTIONS: [Function; 8] = [
+    Function { name: "milecopper_settle", limit: 1_024, start: milecopper_settle as *const (), before: ALL },
+    Function { name: "milecopper_quote", limit: 1_536, start: milecopper_quote as *const (), before: ALL },
+    Function { name: "milecopper_post", limit: 2_048, start: milecopper_post as *const (), before: ALL },
+    Function { name: "milecopper_check_tariff", limit: 256, start: milecopper_check_tariff as *const (), before: ALL },
+    Function { name: "milecopper_read", limit: 512, start: milecopper_read as *const (), before: 1 },
+    Function { name: "milecopper_add", limit: 256, start: milecopper_add as *const (), before: 1 },
+    Function { name: "milecopper_close", limit: 256, start: milecopper_close as *const (), before: 1 },
+    Function {
+        name: "milecopper_settle_member",
+        limit: 1_280,
+        start: milecopper_settle_member as *const (),
+        before: 2,
+    },
 ];
 
 /// Their places among them.
@@ -18,11 +29,23 @@ pub const QUOTE: usize = 1;
 pub const POST: usize = 2;
 pub const CHECK: usize = 3;
 pub const READ: usize = 4;
+pub const ADD: usize = 5;
+pub const CLOSE: usize = 6;
+pub const SETTLE_MEMBER: usize = 7;
+
+/// The most slices that a function takes, each a pointer and a length.
+const SLICES: usize = 4;
+/// A function has no number, before or behind which its slices stand.
+const ALL: usize = SLICES;
+/// The words that a call is given: those of the slices, and two for numbers.
+const GIVEN: usize = 2 * SLICES + 2;
 
 pub struct Function {
     pub name: &'static str,
     pub limit: usize,
     start: *const (),
+    /// How many slices stand before its number.
+    before: usize,
 }
 
 /// Whether a call can be made on a stack of one's choice here.
@@ -34,12 +57,12 @@ const WORDS: usize = 8 * 1_024;
 #[repr(align(16))]
 struct Stack([u64; WORDS]);
 
-/// What is lent to a call: tariff, book and trip, and a statement, or a posting's record; or the statement and the fields of
-/// a reading, and its offset. A function does not look at what it does not take.
+/// What is lent to a call: tariff, book or page and trip, and a statement, or a posting's record; the statement and the fields of
+/// a reading; or a page; and a reading's offset or a member's number. A function does not look at what it does not take.
 #[derive(Clone, Copy)]
 pub struct Call<'a> {
-    pub slices: [&'a [u8]; 4],
-    pub at: usize,
+    pub slices: [&'a [u8]; SLICES],
+    pub number: usize,
 }
 
 #[cfg(any(target_arch = "x86_64", target_arch = "aarch64"))]
@@ -58,12 +81,11 @@ pub fn depth_of(function: usize, call: &Call) -> usize {
     let mut stack = Box::new(Stack([0; WORDS]));
     let mut given: Vec<u64> =
         slices.iter_mut().flat_map(|slice| [slice.as_mut_ptr() as u64, slice.len() as u64]).collect();
-    if function == READ {
-        given.insert(2, call.at as u64);
-    }
-    // SAFETY: each function takes at most four slices, a pointer and a length each, eight words; a reading takes two, and the
-    // offset between them. The pointers come with their slices' own lengths, and the slices overlap nothing. The stack is
-    // memory that nobody else uses, of so many words, an even number, at a multiple of 16, and far more than a call needs.
+    given.insert(2 * FUNCTIONS[function].before, call.number as u64);
+    given.resize(GIVEN, 0);
+    // SAFETY: each function takes at most four slices, a pointer and a length each, and a number at its place between them: ten
+    // words. The pointers come with their slices' own lengths, and the slices overlap nothing. The stack is memory that nobody else
+    // uses, of so many words, an even number, at a multiple of 16, and far more than a call needs.
     unsafe {
         painted_depth(FUNCTIONS[function].start, given.as_ptr(), stack.0.as_mut_ptr(), WORDS as u64, &mut 0) as usize
     }
@@ -72,7 +94,7 @@ pub fn depth_of(function: usize, call: &Call) -> usize {
 /// A call as c/painter.c takes it.
 pub fn bytes_of(function: usize, call: &Call) -> Vec<u8> {
     let [first, second, third, fourth] = call.slices;
-    let numbers = [function, call.at, first.len(), second.len(), third.len(), fourth.len()];
+    let numbers = [function, call.number, first.len(), second.len(), third.len(), fourth.len()];
     let head = numbers.map(|number| (number as u64).to_le_bytes()).concat();
     [&head, first, second, third, fourth].concat()
 }

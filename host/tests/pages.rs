@@ -4,6 +4,7 @@
 use milecopper_host::differential::{settle_by_the_model, Functions, Read, Settle, MODEL};
 use milecopper_host::maker::checked_bytes_of;
 use milecopper_host::model::book::BOOK_BYTES;
+use milecopper_host::model::page::{PAGE_BYTES, PLACE_BYTES};
 use milecopper_host::model::settle_roll;
 use milecopper_host::model::table::print_statement;
 
@@ -86,6 +87,23 @@ fn are_read(read: Read) {
     }
 }
 
+/// Two members on a page of accounts, and what its places begin with.
+fn are_on_a_page(Functions { add, close, settle_member, .. }: Functions) {
+    let (tariff, trip, record) = (block("tariff"), block("trip"), block("record"));
+    let (first, second) = (block("place-0"), block("place-1"));
+    let (mut page, mut statement) = (vec![0; PAGE_BYTES], [0; 532]);
+    assert_eq!([4_711, 815].map(|member| add(&mut page, member)), [PLACE_BYTES as u64; 2]);
+    assert_eq!(settle_member(&tariff, &mut page, 815, &trip, &mut statement), record.len() as u64);
+    assert_eq!(statement[..record.len()], record);
+    assert_eq!(page[..first.len()], first);
+    assert!(page[first.len()..PLACE_BYTES].iter().all(|&byte| byte == 0));
+    assert_eq!(page[PLACE_BYTES..PLACE_BYTES + second.len()], second);
+    assert_eq!(add(&mut page, 4_711), 19 << 32);
+    assert_eq!(settle_member(&tariff, &mut page, 7, &trip, &mut statement), 19 << 32);
+    assert_eq!(close(&mut page, 815), PLACE_BYTES as u64);
+    assert!(page[PLACE_BYTES..].iter().all(|&byte| byte == 0));
+}
+
 /// The table of the statement that the page puts together.
 #[test]
 fn the_table_that_is_printed() {
@@ -101,6 +119,7 @@ fn the_worked_example_by_the_model() {
     gives_the_cut(settle_by_the_model);
     are_quoted_and_posted(MODEL);
     are_read(MODEL.read);
+    are_on_a_page(MODEL);
 }
 
 #[cfg(feature = "library")]
@@ -111,6 +130,7 @@ fn the_worked_example_by_the_library() {
     gives_the_cut(milecopper_host::library::settle_to_number);
     are_quoted_and_posted(milecopper_host::library::LIBRARY);
     are_read(milecopper_host::library::LIBRARY.read);
+    are_on_a_page(milecopper_host::library::LIBRARY);
 }
 
 #[test]

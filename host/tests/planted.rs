@@ -10,7 +10,7 @@ fn planted(name: &str) -> (bool, String) {
 }
 
 /// Each planted error, and words of the difference that it makes.
-const FOUND: [(&str, &str); 28] = [
+const FOUND: [(&str, &str); 37] = [
     ("refusal_12_writes_the_book", "the copy refused, and changed the book"),
     ("stops_after_stamps", "by the model: refused 7 at 0 (unknown stop)\n  by the copy: refused 8 at 0"),
     ("rounding_once_at_the_end", "of the statement is"),
@@ -38,6 +38,18 @@ const FOUND: [(&str, &str); 28] = [
     ("mistap_by_points", "\n  by the copy: refused 17 at 0 (mistap)"),
     ("mistap_after_10", "by the model: refused 17 at 0 (mistap)\n  by the copy: refused 10 at 0"),
     ("mistap_of_a_part", "\n  by the copy: refused 17 at 0 (mistap)"),
+    ("highest_free_place", "bytes of the page differ, first byte"),
+    ("closing_clears_the_number_alone", "bytes of the page differ, first byte"),
+    ("free_place_taken_for_fresh", "bytes of the page differ, first byte 4 of place"),
+    ("neighbours_byte_written", "1 bytes of the page differ, first byte 4 of place"),
+    ("doubled_number_overlooked", "by the model: refused 18 at 0"),
+    ("free_by_its_first_byte", "bytes of the page differ, first byte"),
+    (
+        "full_page_before_the_member",
+        "by the model: refused 19 at 0 (no such member, or there already)\n  by the copy: refused 20",
+    ),
+    ("page_before_the_tariff", "\n  by the copy: refused 18 at 0"),
+    ("others_books_looked_at", "\n  by the copy: refused 4 at 0 (book not sound)"),
     ("reads_past_the_trip", "signal 11 instead of an answer"),
 ];
 

@@ -7,7 +7,9 @@
 use milecopper_host::differential::{run_alike, Functions, Options};
 use milecopper_host::examples::{run, FILES};
 use milecopper_host::library::LIBRARY;
-use milecopper_host::stack::{bytes_of, depth_of, Call, CHECK, FUNCTIONS, IS_PAINTED, POST, QUOTE, READ, SETTLE};
+use milecopper_host::stack::{
+    bytes_of, depth_of, Call, ADD, CHECK, CLOSE, FUNCTIONS, IS_PAINTED, POST, QUOTE, READ, SETTLE, SETTLE_MEMBER,
+};
 use milecopper_host::tool::{is_asked, misused};
 use std::io::{BufWriter, Read, Write};
 use std::process::{Child, ChildStdin, Command, ExitCode, Stdio};
@@ -50,10 +52,22 @@ const PAINTED: Functions = Functions {
         paint(READ, [statement, fields, &[], &[]], at);
         (LIBRARY.read)(statement, at, fields)
     },
+    add: |page, member| {
+        paint(ADD, [page, &[], &[], &[]], member as usize);
+        (LIBRARY.add)(page, member)
+    },
+    close: |page, member| {
+        paint(CLOSE, [page, &[], &[], &[]], member as usize);
+        (LIBRARY.close)(page, member)
+    },
+    settle_member: |tariff, page, member, trip, statement| {
+        paint(SETTLE_MEMBER, [tariff, page, trip, statement], member as usize);
+        (LIBRARY.settle_member)(tariff, page, member, trip, statement)
+    },
 };
 
-fn paint(function: usize, slices: [&[u8]; 4], at: usize) {
-    let call = Call { slices, at };
+fn paint(function: usize, slices: [&[u8]; 4], number: usize) {
+    let call = Call { slices, number };
     CALLS[function].fetch_add(1, Relaxed);
     MOST[function].fetch_max(depth_of(function, &call), Relaxed);
     if let Some(painter) = PAINTER.lock().expect("one thread").as_mut() {

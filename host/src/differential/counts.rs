@@ -1,6 +1,7 @@
-//! How many settled cases ended in each refusal and in each kind of acceptance, and what quotes, postings and readings came
-//! to.
+//! How many settled cases ended in each refusal and in each kind of acceptance, and what quotes, postings, readings and calls
+//! on pages came to.
 
+use super::accounts::Accounts;
 use super::cases::Case;
 use super::kinds::{is_rare, kinds_of, KINDS};
 use super::offers::Offers;
@@ -21,6 +22,7 @@ pub struct Counts {
     particulars: [u64; PARTICULARS.len()],
     pub quotes: Offers,
     pub readings: Reads,
+    pub accounts: Accounts,
     /// Tariffs checked alone, those with a fault and those without.
     tariffs: [u64; 2],
 }
@@ -54,7 +56,7 @@ impl Counts {
 
     /// Everything that was called.
     fn cases(&self) -> u64 {
-        self.accepted + self.refused() + self.quotes.calls() + self.readings.calls()
+        self.accepted + self.refused() + self.quotes.calls() + self.readings.calls() + self.accounts.calls()
     }
 
     /// Each kind with its count.
@@ -76,6 +78,7 @@ impl Counts {
         }
         all.extend(self.quotes.too_few());
         all.extend(self.readings.too_few());
+        all.extend(self.accounts.too_few());
         if self.tariffs.contains(&0) {
             all.push("tariffs checked alone".to_string());
         }
@@ -108,6 +111,6 @@ impl fmt::Display for Counts {
         }
         let [faulty, faultless] = self.tariffs;
         writeln!(out, "tariffs checked alone: {faultless} without and {faulty} with a fault")?;
-        write!(out, "{}{}cases {}", self.quotes, self.readings, self.cases())
+        write!(out, "{}{}{}cases {}", self.quotes, self.readings, self.accounts, self.cases())
     }
 }

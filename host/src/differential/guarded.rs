@@ -17,7 +17,7 @@ const PRIVATE_AND_ANONYMOUS: c_int = 0x22;
 
 const PAGE: usize = 4_096;
 /// Bytes between the two protected pages.
-const ROOM: usize = 16 * PAGE;
+const ROOM: usize = 18 * PAGE;
 const CANARIES: usize = 256;
 
 /// The longest slice that can be lent.
@@ -30,7 +30,7 @@ pub enum Page {
     After,
 }
 
-/// Sixteen pages between two protected ones.
+/// Eighteen pages between two protected ones, so that a page of accounts and a place more can be held.
 pub struct Guarded {
     mapping: *mut u8,
     start: usize,
@@ -135,7 +135,7 @@ mod tests {
     #[test]
     fn slices_stand_beside_the_page() {
         let mut guarded = Guarded::new();
-        for length in [0, 1, 532, 5_468, LONGEST] {
+        for length in [0, 1, 532, 5_468, 65_664, LONGEST] {
             let bytes: Vec<u8> = (0..length).map(|place| place as u8).collect();
             guarded.hold(&bytes, Page::After);
             assert_eq!(guarded.bytes(), bytes);

@@ -75,7 +75,7 @@ pub fn slices_differ(what: &str, model: &[u8], other: &[u8], name: &str) -> Opti
 }
 
 /// Lines of up to 29 bytes: an area of kind 1 fills one.
-fn hexadecimal(bytes: &[u8]) -> String {
+pub fn hexadecimal(bytes: &[u8]) -> String {
     let line = |bytes: &[u8]| {
         let bytes: Vec<String> = bytes.iter().map(|byte| format!("{byte:02x}")).collect();
         format!("\n    bytes {}", bytes.join(" "))
@@ -84,7 +84,7 @@ fn hexadecimal(bytes: &[u8]) -> String {
 }
 
 /// The words that are not 0; all bytes of a book of the wrong length.
-fn book_in_words(book: &[u8]) -> String {
+pub fn book_in_words(book: &[u8]) -> String {
     if book.len() != BYTES {
         return hexadecimal(book);
     }

@@ -17,15 +17,17 @@ pub type Difference = String;
 
 pub struct Run {
     /// What is compared with the model.
-    name: &'static str,
-    functions: Functions,
-    tariff: Guarded,
+    pub(super) name: &'static str,
+    pub(super) functions: Functions,
+    pub(super) tariff: Guarded,
     book: Guarded,
-    trip: Guarded,
+    pub(super) trip: Guarded,
     /// The statement, a posting's record, or the fields of a reading.
-    fourth: Guarded,
+    pub(super) fourth: Guarded,
     /// A statement that is read.
     kept: Guarded,
+    /// A page of accounts.
+    pub(super) accounts: Guarded,
     /// What was settled in this part of the run.
     settled: Vec<Vec<u8>>,
     /// The last tariff that was checked alone.
@@ -36,7 +38,7 @@ pub struct Run {
     seed: u64,
     part: u64,
     /// Counted from 1 in each part.
-    case: u64,
+    pub(super) case: u64,
 }
 
 /// What the model made of a case; where there is no difference, the other side made the same of it.
@@ -56,10 +58,26 @@ impl Outcome {
 
 impl Run {
     pub fn of(name: &'static str, functions: Functions, print: bool) -> Run {
-        let [tariff, book, trip, fourth, kept] = [(); 5].map(|_| Guarded::new());
+        let [tariff, book, trip, fourth, kept, accounts] = [(); 6].map(|_| Guarded::new());
         let (settled, checked, counts) = (Vec::new(), Vec::new(), Counts::default());
         let (seed, part, case) = (0, 0, 0);
-        Run { name, functions, tariff, book, trip, fourth, kept, settled, checked, counts, print, seed, part, case }
+        Run {
+            name,
+            functions,
+            tariff,
+            book,
+            trip,
+            fourth,
+            kept,
+            accounts,
+            settled,
+            checked,
+            counts,
+            print,
+            seed,
+            part,
+            case,
+        }
     }
 
     pub fn start_part(&mut self, seed: u64, part: u64) {
@@ -148,7 +166,7 @@ impl Run {
     }
 
     /// A case begins; it is told where each is printed.
-    fn next_case(&mut self, told: impl FnOnce() -> String) {
+    pub(super) fn next_case(&mut self, told: impl FnOnce() -> String) {
         self.case += 1;
         now_at(self.seed, self.part, self.case);
         if self.print {
@@ -157,7 +175,7 @@ impl Run {
     }
 
     /// Which side the protected page is on, for one of the slices of this case.
-    fn page(&self, slice: u32) -> Page {
+    pub(super) fn page(&self, slice: u32) -> Page {
         if (self.case >> slice) & 1 == 0 {
             Page::After
         } else {
@@ -233,14 +251,14 @@ impl Run {
         faults
     }
 
-    fn answers_differ(&self, model: Result<usize, Refusal>, number: u64) -> Option<String> {
+    pub(super) fn answers_differ(&self, model: Result<usize, Refusal>, number: u64) -> Option<String> {
         let (name, due) = (self.name, number_of(model));
         let told = |due, found| format!("the answer differs\n  by the model: {due}\n  by {name}: {found}");
         (number != due).then(|| told(answer_in_words(due), answer_in_words(number)))
     }
 
     /// The slices beside which something was written.
-    fn beside<const MANY: usize>(&self, slices: [(&str, &Guarded); MANY]) -> Vec<String> {
+    pub(super) fn beside<const MANY: usize>(&self, slices: [(&str, &Guarded); MANY]) -> Vec<String> {
         let broken = slices.into_iter().filter(|(_, slice)| !slice.canaries_stand());
         broken.map(|(what, _)| format!("{} wrote beside the {what}", self.name)).collect()
     }
@@ -255,13 +273,13 @@ impl Run {
         self.told(&asked_in_words(asked), faults)
     }
 
-    fn told(&self, what: &str, faults: &[String]) -> Difference {
+    pub(super) fn told(&self, what: &str, faults: &[String]) -> Difference {
         let (Run { seed, part, case, .. }, faults) = (self, faults.join("\n"));
         format!("difference at seed {seed}, part {part}, case {case}; --seed {seed} --part {part} repeats it\n{what}{faults}")
     }
 }
 
 /// Other bytes in each case, so that one that is written is seen.
-fn blank_statement(room: usize, case: u64) -> Vec<u8> {
+pub(super) fn blank_statement(room: usize, case: u64) -> Vec<u8> {
     (0..room).map(|place| (0x5b + 31 * case as usize + 7 * place) as u8).collect()
 }

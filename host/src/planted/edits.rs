@@ -7,7 +7,7 @@ pub struct Planted {
     pub edits: &'static [(&'static str, &'static str, &'static str)],
 }
 
-pub const PLANTED: [Planted; 27] = [
+pub const PLANTED: [Planted; 36] = [
     // Promise 1: a refusal changes nothing, and the refusals are tried in their order.
     Planted {
         name: "refusal_12_writes_the_book",
@@ -213,6 +213,72 @@ pub const PLANTED: [Planted; 27] = [
              for part in &parts {
                  unless(!Trip { stops: part.stops.clone(), ..trip.clone() }.is_mistap(part.minutes), 17)?;
              }",
+        )],
+    },
+    // A page of accounts: the lowest place, the whole of it and no other, every number, and the order of the refusals.
+    Planted { name: "highest_free_place", edits: &[("page.rs", "numbers.iter().position(|&number| number == FREE)", "numbers.iter().rposition(|&number| number == FREE)")] },
+    Planted {
+        name: "closing_clears_the_number_alone",
+        edits: &[("page.rs", "page[bytes_of(place)].fill(0);", "page[bytes_of(place)][..NUMBER_BYTES].fill(0);")],
+    },
+    Planted {
+        name: "free_place_taken_for_fresh",
+        edits: &[(
+            "page.rs",
+            "page[bytes_of(place)].copy_from_slice(&bytes);",
+            "page[bytes_of(place)][..NUMBER_BYTES].copy_from_slice(&bytes[..NUMBER_BYTES]);",
+        )],
+    },
+    Planted {
+        name: "neighbours_byte_written",
+        edits: &[(
+            "page.rs",
+            "settle(tariff, &mut page[book_of(place)], trip, statement)",
+            "let written = settle(tariff, &mut page[book_of(place)], trip, statement)?;
+             page[PLACE_BYTES * ((place + 1) % PLACES) + NUMBER_BYTES] ^= 1;
+             Ok(written)",
+        )],
+    },
+    Planted {
+        name: "doubled_number_overlooked",
+        edits: &[(
+            "page.rs",
+            "members.iter().all(|&member| is_stored_once(member))",
+            "members.iter().take(10).all(|&member| is_stored_once(member))",
+        )],
+    },
+    Planted {
+        name: "free_by_its_first_byte",
+        edits: &[(
+            "page.rs",
+            "numbers.iter().position(|&number| number == FREE)",
+            "numbers.iter().position(|&number| number % 256 == FREE)",
+        )],
+    },
+    Planted {
+        name: "full_page_before_the_member",
+        edits: &[(
+            "page.rs",
+            "unless(place_of(&numbers, member).is_none(), 19)?;",
+            "unless(numbers.contains(&FREE), 20)?; unless(place_of(&numbers, member).is_none(), 19)?;",
+        )],
+    },
+    Planted {
+        name: "page_before_the_tariff",
+        edits: &[(
+            "page.rs",
+            "read_tariff(tariff)?;",
+            "numbers_of(page, member)?; read_tariff(tariff)?;",
+        )],
+    },
+    Planted {
+        name: "others_books_looked_at",
+        edits: &[(
+            "page.rs",
+            "// 4 to 12, and 17\n",
+            "let areas = read_tariff(tariff)?.areas.len();
+             let is_sound = |place| Book::read(&page[book_of(place)]).is_some_and(|book| book.is_sound(areas));
+             unless((0..PLACES).all(|place| numbers[place] == FREE || is_sound(place)), 4)?;\n",
         )],
     },
 ];
