@@ -268,6 +268,17 @@ module _ (first count : ℕ) (page : List ℕ) (member : ℕ) where
         not-before = λ i from less same. omega (arith, can .some, is, same, p .once i place from less high (is ∙ sym same));
       }))
 
+  -- A member who was found stands there.
+  pub present-lowest : {place : ℕ} → accountOf first count page member ≡ Present place → Lowest page member first count place
+  present-lowest {place} e = go known
+    where
+      go : Known → Lowest page member first count place
+      go (refused-page why is) = absurd (let z : _≡_ {A = ℕ} 0 1 = cc in omega arith)
+      go (nowhere p can none is) = absurd (let z : _≡_ {A = ℕ} 0 1 = cc in omega arith)
+      go (present q p can l is) =
+          let same : q ≡ place = cc in
+          rw (← same) l
+
   -- What reading a member's place, and looking for a free one, ask.
   module _ (few : first + count ≤ places) where
     pub present-there : {place : ℕ} → accountOf first count page member ≡ Present place → OnPage page place

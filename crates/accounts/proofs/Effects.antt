@@ -17,19 +17,8 @@ use Rattle.book.proofs.SoundLaws.{sound-has}
 use Rattle.statement.specs.Record.{Part}
 use Rattle.settle.specs.declared.decide.Decision.{Decision}
 use Rattle.settle.specs.declared.decide.Decision.the-variants as decision
-use Rattle.settle.specs.Outcome.{
-  Outcome,
-  refused,
-  accepted,
-  decidedUnder,
-  tripPosted,
-  acceptedTrip,
-  settledUnder,
-  settled,
-  bookAfter,
-  statementAfter,
-}
-use Rattle.settle.proofs.Ways.{clear-found, no-row, refused-under, accepted-under, all-clear, fault-way, faultless-way}
+use Rattle.settle.specs.Outcome.{Outcome, refused, accepted, decidedUnder, tripPosted, acceptedTrip, settledUnder, bookAfter, statementAfter}
+use Rattle.settle.proofs.Ways.{clear-found, no-row, refused-under, accepted-under, all-clear}
 use Rattle.settle.proofs.Clear.{parts-right}
 use Rattle.accounts.specs.declared.places.Spot.the-variants.{Nowhere, At}
 use Rattle.accounts.specs.declared.checks.Account.the-variants.{WrongPage, Absent, Present}
@@ -53,15 +42,15 @@ use Rattle.accounts.specs.Pages.{
   changed,
   added,
   closed,
+  pageAfter,
   onPage,
   memberSettledUnder,
   memberSettled,
 }
 use Rattle.accounts.specs.Words.{InNone, Lowest, CanHave, Passing, Eighteen, Touched}
-use Rattle.accounts.specs.Contracts.{pageAfter}
 use Rattle.accounts.proofs.Lowest.{at-lowest, nowhere-lowest, Searched, in-none, in-one, searched}
 use Rattle.accounts.proofs.Conditions.{Known, refused-page, nowhere, present, known, not-both}
-use Rattle.accounts.proofs.Touching.{place-touched, book-touched, number-kept}
+use Rattle.accounts.proofs.Touching.{book-touched, number-kept}
 
 -- An accepted trip's new book is as long as every book.
 pub accepted-size :
@@ -226,22 +215,16 @@ module _ (first count : ℕ) (page : List ℕ) (member : ℕ) where
     pub settling : Settling
     settling = settled-known (readTariff tariff) refl (known first count page member)
 
-    -- A refusal changes no byte of the page or of the statement.
-    pub refused-leaves :
-        {number at : ℕ} → memberSettled tariff first count page member trip room ≡ refused number at → (statement : List ℕ)
-        → (bookAfter (memberSettled tariff first count page member trip room) page ≡ page)
-        × (statementAfter (memberSettled tariff first count page member trip room) statement ≡ statement)
-    refused-leaves e statement = (rw e, rw e)
-
-  pub adding-refused-leaves :
-      {number : ℕ} → added first count page member ≡ unchanged number → pageAfter (added first count page member) page ≡ page
-  adding-refused-leaves e = rw e
-
-  pub closing-refused-leaves :
-      {number : ℕ} → closed first count page member ≡ unchanged number → pageAfter (closed first count page member) page ≡ page
-  closing-refused-leaves e = rw e
-
 -- ---- What they promise.
+
+-- A refusal changes no byte of the page, and none of the statement.
+pub refusal-leaves : {change : Change} {number : ℕ} → change ≡ unchanged number → (page : List ℕ) → pageAfter change page ≡ page
+refusal-leaves e page = rw e
+
+pub refused-leaves :
+    {outcome : Outcome} {number at : ℕ} → outcome ≡ refused number at → (page statement : List ℕ)
+    → (bookAfter outcome page ≡ page) × (statementAfter outcome statement ≡ statement)
+refused-leaves e page statement = (rw e, rw e)
 
 -- two changes, or two outcomes, that cannot be the same
 other-number : {A : Type 0} {m n : ℕ} → (m ≡ n → ⊥) → unchanged m ≡ unchanged n → A

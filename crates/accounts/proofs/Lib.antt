@@ -5,4 +5,7 @@ pub mod Touching
 pub mod Effects
 pub mod Refusing
 pub mod Members
+pub mod Agreeing
+pub mod Halves
+pub mod Sharing
 pub mod Placing

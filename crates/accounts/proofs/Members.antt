@@ -1,7 +1,7 @@
 -- A member from adding to closing: whatever else is called on the page, and whatever the other places hold, the member's trips come to what
 -- they come to on a book of their own.
 -- Assumes nothing.
-use Prim.Native.Nat.{ℕ, _+_, _^_, _≤_, _<_}
+use Prim.Native.Nat.{ℕ, _+_, _≤_, _<_}
 use native.Mathlib.Omega.{arith}
 use native.Mathlib.Decide.{ℕ-discrete, decLt}
 use mathlib.Core.Path.{_≡_, refl, sym, ap, _∙_}
@@ -9,7 +9,7 @@ use mathlib.Core.List.{List, [], _∷_}
 use mathlib.Core.Logic.{inr}
 use mathlib.Core.Bool.{true, false, not, false≢true}
 use borrow.Author.Tests.{eq-eqb, ne-eqb}
-use lib.ListN.{length, getD, take, drop, length-take, length-drop, getD-replicate, length-replicate}
+use lib.ListN.{length, getD, drop, length-take, length-drop, getD-replicate}
 use lib.Seq.{getD-take, getD-drop, ext-getD}
 use lib.Dec.{eqb}
 use Rattle.wire.specs.Number.{getLe}
@@ -25,7 +25,7 @@ use Rattle.book.specs.Words.{bookSize, freshBook}
 use Rattle.book.proofs.WordLaws.{fresh-size}
 use Rattle.statement.specs.Record.{Part}
 use Rattle.settle.specs.Outcome.{Outcome, refused, accepted, settledUnder, settled, answerOf, bookAfter, statementAfter}
-use Rattle.settle.specs.Runs.{Offer, Settlement, runFrom, bookFrom}
+use Rattle.settle.specs.Runs.{Offer, runFrom, bookFrom}
 use Rattle.settle.proofs.Ways.{fault-way, faultless-way}
 use Rattle.accounts.specs.Pages.{
   numberSize,
@@ -39,19 +39,16 @@ use Rattle.accounts.specs.Pages.{
   replaced,
   clearedPlace,
   newPlace,
-  mostNumber,
-  accountOf,
   changed,
-  unchanged,
   added,
   closed,
+  pageAfter,
   onPage,
-  memberSettledUnder,
+  onBook,
   memberSettled,
 }
 use Rattle.accounts.specs.Words.{InNone, Lowest, CanHave, Passing, Touched}
-use Rattle.accounts.specs.Contracts.{pageAfter}
-use Rattle.accounts.specs.Calls.{Call, adds, closes, settles, pageWith, pageFrom, stays, offersOf, onBook, settlementsOf}
+use Rattle.accounts.specs.Calls.{Call, adds, closes, settles, pageWith, pageFrom, stays, offersOf, settlementsOf}
 use Rattle.accounts.proofs.Replacing.{byte-there}
 use Rattle.accounts.proofs.Conditions.{found-there, not-both}
 use Rattle.accounts.proofs.Touching.{
@@ -414,6 +411,24 @@ module _ (tariff : List ℕ) (first count : ℕ) (few : first + count ≤ places
 
   -- ---- From adding to closing.
 
+  -- closing a member's account clears the member's place, and no other byte
+  pub record ClosedThere (page : List ℕ) (member place : ℕ) : Type 0 where
+    pub page-closed : List ℕ
+    pub closed-is : closed first count page member ≡ changed page-closed
+    pub touched : Touched page page-closed place
+    pub cleared : placeAt page-closed place ≡ clearedPlace
+
+  pub closed-there : {page : List ℕ} {member place : ℕ} → Stands first count page member place → ClosedThere page member place
+  closed-there {page} {member} {place} s =
+      let on-page : place < places = omega (arith, s .within, few) in
+      record {
+        page-closed = replaced page (startOf place) placeSize clearedPlace;
+        closed-is = closes-there first count page member place
+            (found-there first count page member place (s .passing) (s .can) (s .from) (s .within) (s .is));
+        touched = place-touched page place (s .passing .size) on-page clearedPlace cleared-long;
+        cleared = place-is page place (s .passing .size) on-page clearedPlace cleared-long;
+      }
+
   -- all that a member is promised: added in the lowest free place; then, whatever is called but the closing of this account, the trips
   -- come to what they come to on a fresh book of their own, in answers, records and book; and closing clears that place, and no other byte
   pub record OwnBook (page : List ℕ) (member : ℕ) (calls : List Call) : Type 0 where
@@ -424,10 +439,8 @@ module _ (tariff : List ℕ) (first count : ℕ) (few : first + count ≤ places
     pub settlements :
         settlementsOf tariff first count page-added member place calls ≡ runFrom tariff freshBook (offersOf member calls)
     pub book : bookAt (pageFrom tariff first count page-added calls) place ≡ bookFrom tariff freshBook (offersOf member calls)
-    pub page-closed : List ℕ
-    pub closed-is : closed first count (pageFrom tariff first count page-added calls) member ≡ changed page-closed
-    pub touched : Touched (pageFrom tariff first count page-added calls) page-closed place
-    pub cleared : placeAt page-closed place ≡ clearedPlace
+    pub stands : Stands first count (pageFrom tariff first count page-added calls) member place
+    pub closing : ClosedThere (pageFrom tariff first count page-added calls) member place
 
   -- On any page that passes, lacks the member and has a free place, whatever the books on it hold.
   pub from-adding-to-closing :
@@ -442,8 +455,6 @@ module _ (tariff : List ℕ) (first count : ℕ) (few : first + count ≤ places
       go (add-at place p can none l e) =
           let (s, fresh) = added-stands p can none l in
           let k = member-kept calls s stay in
-          let after = pageFrom tariff first count (replaced page (startOf place) placeSize (newPlace member)) calls in
-          let on-page : place < places = omega (arith, l .within, few) in
           record {
             place = place;
             lowest = l;
@@ -451,9 +462,6 @@ module _ (tariff : List ℕ) (first count : ℕ) (few : first + count ≤ places
             added-is = e;
             settlements = k .settlements ∙ rw fresh;
             book = k .book ∙ rw fresh;
-            page-closed = replaced after (startOf place) placeSize clearedPlace;
-            closed-is = closes-there first count after member place
-                (found-there first count after member place (k .stands .passing) can (l .from) (l .within) (k .stands .is));
-            touched = place-touched after place (k .stands .passing .size) on-page clearedPlace cleared-long;
-            cleared = place-is after place (k .stands .passing .size) on-page clearedPlace cleared-long;
+            stands = k .stands;
+            closing = closed-there (k .stands);
           }

@@ -1,6 +1,6 @@
 -- The refusals of adding, closing and settling: each is given exactly when its condition holds and none before it does.
 -- Assumes nothing.
-use Prim.Native.Nat.{ℕ, _+_, _≤_, _<_}
+use Prim.Native.Nat.{ℕ}
 use native.Mathlib.Omega.{arith}
 use mathlib.Core.Path.{_≡_, refl, sym, ap, subst, _∙_}
 use mathlib.Core.Logic.{_↔_}
@@ -9,20 +9,7 @@ use Rattle.tariff.specs.declared.Counts.{Counts}
 use Rattle.tariff.specs.Areas.{Read}
 use Rattle.settle.specs.Outcome.{Outcome, refused, accepted, settledUnder}
 use Rattle.accounts.specs.declared.checks.Account.the-variants.{WrongPage, Absent, Present}
-use Rattle.accounts.specs.Pages.{
-  bookAt,
-  accountOf,
-  wrongPage,
-  wrongMember,
-  noPlace,
-  Change,
-  unchanged,
-  changed,
-  added,
-  closed,
-  onPage,
-  memberSettled,
-}
+use Rattle.accounts.specs.Pages.{bookAt, accountOf, unchanged, added, closed, onPage, memberSettled}
 use Rattle.accounts.specs.Words.{
   InNone,
   InOne,
@@ -77,10 +64,10 @@ use Rattle.accounts.proofs.Effects.{
 }
 
 -- two refusals that are the same have the same number, and the same place
-same-number : {m n : ℕ} → unchanged m ≡ unchanged n → m ≡ n
+pub same-number : {m n : ℕ} → unchanged m ≡ unchanged n → m ≡ n
 same-number e = cc
 
-same-refusal : {m n a b : ℕ} → refused m a ≡ refused n b → (m ≡ n) × (a ≡ b)
+pub same-refusal : {m n a b : ℕ} → refused m a ≡ refused n b → (m ≡ n) × (a ≡ b)
 same-refusal e = (cc, cc)
 
 module _ (first count : ℕ) (page : List ℕ) (member : ℕ) where

@@ -1,29 +1,16 @@
 -- What each call does to the page: it leaves every byte, or every byte but those of one place. What is said of one place and of no other.
 -- Assumes nothing.
-use Prim.Native.Nat.{ℕ, _+_, _*_, _-_, _≤_, _<_}
+use Prim.Native.Nat.{ℕ, _+_, _-_, _≤_, _<_}
 use native.Mathlib.Omega.{arith}
 use native.Mathlib.Decide.{ℕ-discrete, decLt}
-use mathlib.Core.Path.{_≡_, refl, sym, ap, _∙_}
+use mathlib.Core.Path.{_≡_, sym, ap, _∙_}
 use mathlib.Core.Logic.{_⊎_, inl, inr, ⊎-elim}
 use mathlib.Core.List.{List}
-use lib.ListN.{length, getD, take, drop, length-replicate}
+use lib.ListN.{length, getD}
 use Rattle.wire.specs.Number.{getLe}
-use Rattle.wire.proofs.Number.{get-same, length-put, read-back}
-use Rattle.book.specs.Words.{bookSize, freshBook}
-use Rattle.accounts.specs.Pages.{
-  numberSize,
-  placeSize,
-  places,
-  pageSize,
-  startOf,
-  placeAt,
-  numberAt,
-  bookAt,
-  replaced,
-  clearedPlace,
-  newPlace,
-  mostNumber,
-}
+use Rattle.wire.proofs.Number.{get-same}
+use Rattle.book.specs.Words.{bookSize}
+use Rattle.accounts.specs.Pages.{numberSize, placeSize, places, pageSize, startOf, placeAt, numberAt, bookAt, replaced, mostNumber}
 use Rattle.accounts.specs.Words.{Passing, Touched}
 use Rattle.accounts.proofs.Replacing.{
   part-alike,

@@ -3,10 +3,9 @@ use Prim.Native.Nat.{ℕ}
 use mathlib.Core.List.{List, [], _∷_}
 use mathlib.Core.Bool.{Bool, true, cond, not, _&&_}
 use lib.Dec.{eqb}
-use Rattle.settle.specs.Outcome.{Outcome, refused, accepted, bookAfter}
+use Rattle.settle.specs.Outcome.{bookAfter}
 use Rattle.settle.specs.Runs.{Offer, Settlement}
-use Rattle.accounts.specs.Pages.{bookAt, added, closed, memberSettled}
-use Rattle.accounts.specs.Contracts.{pageAfter}
+use Rattle.accounts.specs.Pages.{bookAt, added, closed, pageAfter, onBook, memberSettled}
 
 pub data Call : Type 0 where
   adds : ℕ → Call
@@ -37,11 +36,6 @@ offersOf member [] = []
 offersOf member (adds other ∷ calls) = offersOf member calls
 offersOf member (closes other ∷ calls) = offersOf member calls
 offersOf member (settles other o ∷ calls) = cond (eqb other member) (o ∷ offersOf member calls) (offersOf member calls)
-
--- an outcome on the page as one on a place's book
-abbrev pub onBook : ℕ → Outcome → Outcome
-onBook place (refused number at) = refused number at
-onBook place (accepted new parts) = accepted (bookAt new place) parts
 
 -- what they came to, with the book that stood in a place before each
 unfoldable pub settlementsOf : List ℕ → ℕ → ℕ → List ℕ → ℕ → ℕ → List Call → List Settlement

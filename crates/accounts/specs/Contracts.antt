@@ -6,7 +6,7 @@ use lib.ListN.{length}
 use Rattle.tariff.specs.declared.Counts.{Counts}
 use Rattle.settle.specs.declared.Answer.{Answer}
 use Rattle.settle.specs.declared.Answer.the-variants.{Refused, Written}
-use Rattle.settle.specs.Outcome.{refusedAs, settledUnder}
+use Rattle.settle.specs.Outcome.{settledUnder}
 use Rattle.settle.specs.Contracts.{AnswerFits, Told}
 use Rattle.accounts.specs.Pages.{
   places,
@@ -16,12 +16,11 @@ use Rattle.accounts.specs.Pages.{
   Change,
   unchanged,
   changed,
-  added,
-  closed,
+  pageAfter,
   onPage,
   memberSettledUnder,
-  memberSettled,
 }
+use Rattle.accounts.specs.Associations.{settledForUnder, settledFor}
 
 -- what looking at some places asks: a page of the right length, which has them all
 pub record Looked (page : List ℕ) (first count : ℕ) : Type 0 where
@@ -33,11 +32,6 @@ pub record OnPage (page : List ℕ) (place : ℕ) : Type 0 where
   pub size : length page ≡ pageSize
   pub there : place < places
 
--- a refusal leaves the page
-abbrev pub pageAfter : Change → List ℕ → List ℕ
-pageAfter (unchanged number) page = page
-pageAfter (changed new) page = new
-
 -- acceptance answers the bytes written, which are a place's
 abbrev pub toldChange : Change → Answer
 toldChange (unchanged number) = Refused number 0
@@ -47,15 +41,6 @@ toldChange (changed new) = Written placeSize
 pub record ChangeTold (change : Change) (page page′ : List ℕ) (r : Answer) : Type 0 where
   pub answer : r ≡ toldChange change
   pub fits : AnswerFits r
-  pub page-is : page′ ≡ pageAfter change page
-
--- as one number
-abbrev pub changeAnswer : Change → ℕ
-changeAnswer (unchanged number) = refusedAs number 0
-changeAnswer (changed new) = placeSize
-
-pub record Changed (change : Change) (page page′ : List ℕ) (r : ℕ) : Type 0 where
-  pub answer : r ≡ changeAnswer change
   pub page-is : page′ ≡ pageAfter change page
 
 -- ---- What each function answers, of the slices at its entry and at its exit.
@@ -70,7 +55,12 @@ abbrev pub FoundSettled : List ℕ → Counts → ℕ → ℕ → List ℕ → �
 FoundSettled tariff counts first count page member trip statement page′ statement′ r =
     Told (memberSettledUnder tariff counts first count page member trip (length statement)) page page′ statement statement′ r
 
--- `settle_member`
-abbrev pub MemberSettled : List ℕ → ℕ → ℕ → List ℕ → ℕ → List ℕ → List ℕ → List ℕ → List ℕ → Answer → Type 0
-MemberSettled tariff first count page member trip statement page′ statement′ r =
-    Told (memberSettled tariff first count page member trip (length statement)) page page′ statement statement′ r
+-- `settle_own`
+abbrev pub OwnSettled : List ℕ → Counts → ℕ → List ℕ → ℕ → List ℕ → List ℕ → List ℕ → List ℕ → Answer → Type 0
+OwnSettled tariff counts association page member trip statement page′ statement′ r =
+    Told (settledForUnder tariff counts association page member trip (length statement)) page page′ statement statement′ r
+
+-- `settle_for`
+abbrev pub ForSettled : List ℕ → ℕ → List ℕ → ℕ → List ℕ → List ℕ → List ℕ → List ℕ → Answer → Type 0
+ForSettled tariff association page member trip statement page′ statement′ r =
+    Told (settledFor tariff association page member trip (length statement)) page page′ statement statement′ r

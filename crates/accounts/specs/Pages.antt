@@ -1,7 +1,8 @@
 -- docs/RULES.md, section 21: a page of accounts. Twelve places one after another, each a member's number and a book; members are added,
 -- settled and closed. What is said of the page's places is said of some that follow each other, `count` of them from `first` on: nothing
--- else of the page is looked at but its length.
+-- else of the page is looked at but its length. Which of them are whose: Associations.
 use Prim.Native.Nat.{ℕ, zero, suc, _+_, _-_, _*_}
+use mathlib.Core.Path.{_≡_}
 use mathlib.Core.List.{List, _++_}
 use mathlib.Core.Bool.{Bool, true, false, cond, not, _&&_}
 use lib.ListN.{length, take, drop, replicate}
@@ -12,7 +13,7 @@ use Rattle.tariff.specs.declared.Counts.{Counts}
 use Rattle.tariff.specs.declared.Reading.the-variants.{Fault, Faultless}
 use Rattle.tariff.specs.Scan.{readTariff}
 use Rattle.book.specs.Words.{bookSize}
-use Rattle.settle.specs.Outcome.{Outcome, refused, accepted, settledUnder}
+use Rattle.settle.specs.Outcome.{Outcome, refused, accepted, refusedAs, settledUnder}
 use Rattle.accounts.specs.declared.places.Spot.{Spot}
 use Rattle.accounts.specs.declared.places.Spot.the-variants.{Nowhere, At}
 use Rattle.accounts.specs.declared.checks.Account.{Account}
@@ -39,6 +40,10 @@ startOf place = place * placeSize
 
 abbrev pub placeAt : List ℕ → ℕ → List ℕ
 placeAt page place = take placeSize (drop (startOf place) page)
+
+-- some places that follow each other, as one part of the page
+abbrev pub placesAt : List ℕ → ℕ → ℕ → List ℕ
+placesAt page first count = take (count * placeSize) (drop (startOf first) page)
 
 -- 0 in a free place
 abbrev pub numberAt : List ℕ → ℕ → ℕ
@@ -150,6 +155,11 @@ abbrev pub onPage : List ℕ → ℕ → Outcome → Outcome
 onPage page place (refused number at) = refused number at
 onPage page place (accepted new parts) = accepted (replaced page (startOf place + numberSize) bookSize new) parts
 
+-- and one on the page as one on a place's book
+abbrev pub onBook : ℕ → Outcome → Outcome
+onBook place (refused number at) = refused number at
+onBook place (accepted new parts) = accepted (bookAt new place) parts
+
 -- settling a member's trip on that member's book: 18 and 19, and then 4 to 12
 unfoldable pub memberSettledUnder : List ℕ → Counts → ℕ → ℕ → List ℕ → ℕ → List ℕ → ℕ → Outcome
 memberSettledUnder tariff counts first count page member trip room =
@@ -166,3 +176,20 @@ memberSettled tariff first count page member trip room =
       | Fault number at ↦ refused number at
       | Faultless counts ↦ memberSettledUnder tariff counts first count page member trip room
     ]
+
+-- ---- What comes back of adding and closing.
+
+-- acceptance returns the bytes written, which are a place's
+abbrev pub changeAnswer : Change → ℕ
+changeAnswer (unchanged number) = refusedAs number 0
+changeAnswer (changed new) = placeSize
+
+-- a refusal leaves the page
+abbrev pub pageAfter : Change → List ℕ → List ℕ
+pageAfter (unchanged number) page = page
+pageAfter (changed new) page = new
+
+-- the answer and every byte of the page are the change's
+pub record Changed (change : Change) (page page′ : List ℕ) (r : ℕ) : Type 0 where
+  pub answer : r ≡ changeAnswer change
+  pub page-is : page′ ≡ pageAfter change page

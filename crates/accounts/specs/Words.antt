@@ -9,17 +9,22 @@ use Rattle.tariff.specs.declared.Counts.{Counts}
 use Rattle.tariff.specs.declared.Reading.the-variants.{Fault}
 use Rattle.tariff.specs.Scan.{readTariff}
 use Rattle.tariff.specs.Areas.{Read}
-use Rattle.settle.specs.Outcome.{refused, settledUnder}
+use Rattle.settle.specs.Outcome.{Outcome, refused, settledUnder, answerOf, partsIn, bookAfter, statementAfter}
 use Rattle.accounts.specs.Pages.{
   placeSize,
   pageSize,
   startOf,
+  placesAt,
   mostNumber,
   numberAt,
   bookAt,
   wrongPage,
   wrongMember,
   noPlace,
+  Change,
+  pageAfter,
+  changeAnswer,
+  onBook,
 }
 
 -- a number stands in none of some places; 0 in none: no place is free
@@ -97,3 +102,28 @@ pub data SettlingRefused (tariff : List ℕ) (first count : ℕ) (page : List �
 pub record Touched (page page′ : List ℕ) (place : ℕ) : Type 0 where
   pub size : length page′ ≡ length page
   pub others : (i : ℕ) → (i < startOf place) ⊎ (startOf place + placeSize ≤ i) → getD page′ i 0 ≡ getD page i 0
+
+-- ---- Some places of a page, and all others.
+
+-- two pages of one length agree in some places
+pub record Agree (first count : ℕ) (page page′ : List ℕ) : Type 0 where
+  pub size : length page ≡ length page′
+  pub same : placesAt page first count ≡ placesAt page′ first count
+
+-- what adding or closing comes to on two such pages: equal answers, and the pages agree afterwards
+pub record ChangesAgree (first count : ℕ) (page page′ : List ℕ) (one other : Change) : Type 0 where
+  pub answers : changeAnswer one ≡ changeAnswer other
+  pub pages : Agree first count (pageAfter one page) (pageAfter other page′)
+
+-- and a trip: equal records besides, and it is the same outcome on the book of each of these places
+pub record TripsAgree (first count : ℕ) (page page′ : List ℕ) (one other : Outcome) : Type 0 where
+  pub answers : answerOf one ≡ answerOf other
+  pub parts : partsIn one ≡ partsIn other
+  pub statements : (statement : List ℕ) → statementAfter one statement ≡ statementAfter other statement
+  pub books : (i : ℕ) → first ≤ i → i < first + count → onBook i one ≡ onBook i other
+  pub pages : Agree first count (bookAfter one page) (bookAfter other page′)
+
+-- no byte of a page has changed but those of some places
+pub record OnlyIn (first count : ℕ) (page page′ : List ℕ) : Type 0 where
+  pub size : length page′ ≡ length page
+  pub others : (i : ℕ) → (i < startOf first) ⊎ (startOf (first + count) ≤ i) → getD page′ i 0 ≡ getD page i 0

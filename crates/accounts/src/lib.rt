@@ -1,9 +1,10 @@
 // A page of accounts: twelve places, each a member's number and a book. Members are added, settled and closed on some places that follow
-// each other, `count` of them from `first` on.
+// each other, `count` of them from `first` on; two associations have six each.
 //
-// places.rt  where a place stands, its number, the lowest with a number
-// checks.rt  what is refused before anything else of the page is looked at, and where a member stands; only reads
-// clear.rt   a place cleared, or written for a new member
+// associations.rt  the functions for an association, on its own places
+// places.rt        where a place stands, its number, the lowest with a number
+// checks.rt        what is refused before anything else of the page is looked at, and where a member stands; only reads
+// clear.rt         a place cleared, or written for a new member
 //
 // Decide first, write last: a refusal changes no byte. Nothing is copied: settling is lent the book where it stands on the page.
 use book::words::SIZE;
@@ -18,16 +19,15 @@ use places::lowest_with;
 use settle::Answer;
 use settle::settle_under;
 use tariff::Counts;
-use tariff::Reading;
-use tariff::scan::read_tariff;
 ghost use mathlib.Core.Path.{_≡_};
 ghost use Prim.Native.Nat.{_+_, _≤_};
 ghost use lib.ListN.{length};
 ghost use Rattle.tariff.specs.Areas.{Read};
 ghost use Rattle.settle.specs.declared.Answer.the-variants.{Refused};
 ghost use Rattle.accounts.specs.Pages.{places, startOf, placeSize, clearedPlace, newPlace, replaced, added, closed};
-ghost use Rattle.accounts.specs.Contracts.{OnPage, ChangeTold, PlaceSettled, FoundSettled, MemberSettled};
+ghost use Rattle.accounts.specs.Contracts.{OnPage, ChangeTold, PlaceSettled, FoundSettled};
 
+pub mod associations;
 pub mod checks;
 pub mod clear;
 pub mod places;
@@ -133,33 +133,5 @@ fn settle_found(
         Account::WrongPage => refuse(WRONG_PAGE),
         Account::Absent => refuse(WRONG_MEMBER),
         Account::Present(place) => settle_at(tariff, counts, page, place, trip, statement),
-    }
-}
-
-// Settles a member's trip: on that member's book as `settle` does, and every other byte of the page stays. 1 to 3, 18, 19, then 4 to 12.
-pub fn settle_member(
-    tariff: &[u8],
-    page: &mut [u8],
-    first: usize,
-    count: usize,
-    member: u32,
-    trip: &[u8],
-    statement: &mut [u8],
-) -> Answer
-    requires { ⌜ first + count ≤ places ⌝ }
-    ensures { λ r. ⌜ MemberSettled (now (tariff .entry)) first count (now (page .entry)) member (now (trip .entry)) (now (statement .entry)) (now (page .exit)) (now (statement .exit)) r ⌝ }
-{
-    match read_tariff(tariff) {
-        Reading::Fault { number, at } => Answer::Refused { number, place: at },
-        Reading::Faultless(counts) => settle_found(
-            tariff,
-            counts,
-            page,
-            first,
-            count,
-            member,
-            trip,
-            statement,
-        ),
     }
 }

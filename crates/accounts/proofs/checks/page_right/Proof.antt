@@ -18,7 +18,7 @@ numbers-right-requires : tie.Need-numbers-right-requires
 numbers-right-requires c κs = record { size = c .before .if1 .left; there = c .before .before .before .pre }
 
 numbers-once-requires : tie.Need-numbers-once-requires
-numbers-once-requires c κs = record { size = c .before .before .if1 .left; there = c .before .before .before .before .pre }
+numbers-once-requires c κs = record { size = c .before .before .if1 .left; there = omega (arith, c .before .before .before .before .pre) }
 
 returns-2 : tie.Need-returns-2
 unfolding pageRight

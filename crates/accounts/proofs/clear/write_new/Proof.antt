@@ -1,13 +1,10 @@
 -- `accounts::clear::write_new` meets its contract: the place is cleared, and the number put.
 -- Assumes nothing.
-use native.Mathlib.Omega.{arith}
 use Prim.Native.Nat.{ℕ}
-use mathlib.Core.Path.{sym, ap, _∙_}
+use mathlib.Core.Path.{ap, _∙_}
 use mathlib.Core.List.{List}
-use lib.ListN.{length}
 use borrow.Author.Needs.{needs}
 use Rattle.wire.specs.Number.{putLe}
-use Rattle.wire.proofs.Number.{length-put}
 use Rattle.accounts.proofs.clear.write_new.Statement.{statement}
 use Rattle.accounts.proofs.clear.write_new.Tie as tie
 

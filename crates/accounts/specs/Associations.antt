@@ -1,0 +1,91 @@
+-- docs/RULES.md, section 21: two associations share a page. Association 0 has the first six places, association 1 the others, each with its own
+-- members. What is said of some places of a page (Pages, Words) is here said of an association's; 21 comes before all of it but the tariff's.
+use Prim.Native.Nat.{ℕ, _*_}
+use mathlib.Core.Path.{_≡_}
+use mathlib.Core.Logic.{_⊎_}
+use mathlib.Core.List.{List}
+use mathlib.Core.Bool.{Bool, cond}
+use lib.Dec.{leb}
+use Rattle.tariff.specs.declared.Counts.{Counts}
+use Rattle.tariff.specs.declared.Reading.the-variants.{Fault, Faultless}
+use Rattle.tariff.specs.Scan.{readTariff}
+use Rattle.tariff.specs.Areas.{Read}
+use Rattle.settle.specs.Outcome.{Outcome, refused}
+use Rattle.accounts.specs.Pages.{placesAt, Change, unchanged, added, closed, memberSettledUnder}
+use Rattle.accounts.specs.Words.{Agree, OnlyIn, AddingRefused, ClosingRefused, SettlingRefused}
+
+-- so many places, from this one on
+abbrev pub ownPlaces : ℕ
+ownPlaces = 6
+
+abbrev pub firstPlace : ℕ → ℕ
+firstPlace association = association * ownPlaces
+
+abbrev pub placesOf : ℕ → List ℕ → List ℕ
+placesOf association page = placesAt page (firstPlace association) ownPlaces
+
+-- 21: association not 0 or 1
+abbrev pub noAssociation : ℕ
+noAssociation = 21
+
+abbrev pub isAssociation : ℕ → Bool
+isAssociation association = leb association 1
+
+-- ---- What comes of a call.
+
+unfoldable pub addedFor : ℕ → List ℕ → ℕ → Change
+addedFor association page member =
+    cond (isAssociation association) (added (firstPlace association) ownPlaces page member) (unchanged noAssociation)
+
+unfoldable pub closedFor : ℕ → List ℕ → ℕ → Change
+closedFor association page member =
+    cond (isAssociation association) (closed (firstPlace association) ownPlaces page member) (unchanged noAssociation)
+
+-- 21, then 18 and 19, and then 4 to 12
+unfoldable pub settledForUnder : List ℕ → Counts → ℕ → List ℕ → ℕ → List ℕ → ℕ → Outcome
+settledForUnder tariff counts association page member trip room =
+    cond (isAssociation association) (memberSettledUnder tariff counts (firstPlace association) ownPlaces page member trip room)
+    (refused noAssociation 0)
+
+-- under any byte string as a tariff. 1 to 3 come first
+unfoldable pub settledFor : List ℕ → ℕ → List ℕ → ℕ → List ℕ → ℕ → Outcome
+settledFor tariff association page member trip room =
+    elim (readTariff tariff) [
+      | Fault number at ↦ refused number at
+      | Faultless counts ↦ settledForUnder tariff counts association page member trip room
+    ]
+
+-- ---- In words.
+
+abbrev pub Association : ℕ → Type 0
+Association association = (association ≡ 0) ⊎ (association ≡ 1)
+
+-- two pages of one length agree in an association's places
+abbrev pub AgreeFor : ℕ → List ℕ → List ℕ → Type 0
+AgreeFor association = Agree (firstPlace association) ownPlaces
+
+-- no byte of a page has changed but those of an association's places: the other's are left byte for byte
+abbrev pub OnlyOf : ℕ → List ℕ → List ℕ → Type 0
+OnlyOf association = OnlyIn (firstPlace association) ownPlaces
+
+-- the refusals in their order. Adding and closing: 21, and then those of the association's places
+pub data Behind (association : ℕ) (others : ℕ → Type 0) : ℕ → Type 0 where
+  twenty-one : (Association association → ⊥) → Behind association others noAssociation
+  other-refusal : (n : ℕ) → Association association → others n → Behind association others n
+
+abbrev pub AddingRefusedFor : ℕ → List ℕ → ℕ → ℕ → Type 0
+AddingRefusedFor association page member = Behind association (AddingRefused (firstPlace association) ownPlaces page member)
+
+abbrev pub ClosingRefusedFor : ℕ → List ℕ → ℕ → ℕ → Type 0
+ClosingRefusedFor association page member = Behind association (ClosingRefused (firstPlace association) ownPlaces page member)
+
+-- settling: 1 to 3, the tariff's; 21; and then those of the association's places
+pub data SettlingRefusedFor (tariff : List ℕ) (association : ℕ) (page : List ℕ) (member : ℕ) (trip : List ℕ) (room : ℕ) : ℕ → ℕ → Type 0 where
+  for-faulty : (number at : ℕ) → readTariff tariff ≡ Fault number at → SettlingRefusedFor tariff association page member trip room number at
+  for-twenty-one :
+      (counts : Counts) → Read tariff counts → (Association association → ⊥)
+      → SettlingRefusedFor tariff association page member trip room noAssociation 0
+  for-others :
+      (counts : Counts) → Read tariff counts → Association association → (number at : ℕ)
+      → SettlingRefused tariff (firstPlace association) ownPlaces page member trip room number at
+      → SettlingRefusedFor tariff association page member trip room number at

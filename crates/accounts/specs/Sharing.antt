@@ -1,0 +1,84 @@
+-- Both associations call on one page, one after another and in any order.
+use Prim.Native.Nat.{ℕ}
+use mathlib.Core.List.{List, [], _∷_}
+use mathlib.Core.Bool.{cond}
+use lib.Dec.{eqb}
+use Rattle.statement.specs.Record.{statementOf}
+use Rattle.settle.specs.Outcome.{Outcome, answerOf, partsIn, bookAfter}
+use Rattle.settle.specs.Runs.{Settlement}
+use Rattle.accounts.specs.Pages.{bookAt, Change, pageAfter, changeAnswer, onBook}
+use Rattle.accounts.specs.Calls.{Call, adds, closes, settles}
+use Rattle.accounts.specs.Associations.{placesOf, addedFor, closedFor, settledFor}
+
+-- a call, and the association whose it is
+pub record Asked : Type 0 where
+  pub association : ℕ
+  pub call : Call
+
+-- the page that a call of an association leaves
+unfoldable pub pageWithFor : List ℕ → ℕ → List ℕ → Call → List ℕ
+pageWithFor tariff association page (adds member) = pageAfter (addedFor association page member) page
+pageWithFor tariff association page (closes member) = pageAfter (closedFor association page member) page
+pageWithFor tariff association page (settles member o) =
+    bookAfter (settledFor tariff association page member (o .bytes) (o .room)) page
+
+-- and some calls
+unfoldable pub pageShared : List ℕ → List ℕ → List Asked → List ℕ
+pageShared tariff page [] = page
+pageShared tariff page (asked ∷ later) = pageShared tariff (pageWithFor tariff (asked .association) page (asked .call)) later
+
+-- the calls of one association
+unfoldable pub callsOf : ℕ → List Asked → List Call
+callsOf association [] = []
+callsOf association (asked ∷ later) =
+    cond (eqb (asked .association) association) (asked .call ∷ callsOf association later) (callsOf association later)
+
+-- ---- What an association learns.
+
+-- of a call: the number answered, the bytes written to the statement, and its places afterwards
+pub record Reply : Type 0 where
+  pub answer : ℕ
+  pub written : List ℕ
+  pub places : List ℕ
+
+abbrev pub changeReply : Change → ℕ → List ℕ → Reply
+changeReply change association page =
+    record { answer = changeAnswer change; written = []; places = placesOf association (pageAfter change page) }
+
+abbrev pub tripReply : Outcome → ℕ → List ℕ → Reply
+tripReply outcome association page =
+    record {
+      answer = answerOf outcome;
+      written = statementOf (partsIn outcome);
+      places = placesOf association (bookAfter outcome page);
+    }
+
+unfoldable pub replyTo : List ℕ → ℕ → List ℕ → Call → Reply
+replyTo tariff association page (adds member) = changeReply (addedFor association page member) association page
+replyTo tariff association page (closes member) = changeReply (closedFor association page member) association page
+replyTo tariff association page (settles member o) =
+    tripReply (settledFor tariff association page member (o .bytes) (o .room)) association page
+
+-- of its calls among all, first to last
+unfoldable pub repliesTo : List ℕ → ℕ → List ℕ → List Asked → List Reply
+repliesTo tariff association page [] = []
+repliesTo tariff association page (asked ∷ later) =
+    let rest = repliesTo tariff association (pageWithFor tariff (asked .association) page (asked .call)) later in
+    cond (eqb (asked .association) association) (replyTo tariff association page (asked .call) ∷ rest) rest
+
+-- ---- A member's trips.
+
+-- what a call came to for a member in a place, before those that came later
+unfoldable pub settlementBefore : List ℕ → ℕ → List ℕ → ℕ → ℕ → Call → List Settlement → List Settlement
+settlementBefore tariff association page member place (adds other) later = later
+settlementBefore tariff association page member place (closes other) later = later
+settlementBefore tariff association page member place (settles other o) later =
+    let outcome = settledFor tariff association page other (o .bytes) (o .room) in
+    cond (eqb other member) (record { book = bookAt page place; offer = o; outcome = onBook place outcome } ∷ later) later
+
+-- what the trips of an association's member came to, with the book that stood in a place before each
+unfoldable pub settlementsFor : List ℕ → ℕ → List ℕ → ℕ → ℕ → List Asked → List Settlement
+settlementsFor tariff association page member place [] = []
+settlementsFor tariff association page member place (asked ∷ later) =
+    let rest = settlementsFor tariff association (pageWithFor tariff (asked .association) page (asked .call)) member place later in
+    cond (eqb (asked .association) association) (settlementBefore tariff association page member place (asked .call) rest) rest
