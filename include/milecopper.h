@@ -3,7 +3,8 @@
  * the trip went out and back. milecopper_settle does so at once. An app that shows the price first does it in two steps:
  * milecopper_quote writes the charge records and leaves the book, milecopper_post writes the book. milecopper_read reads charge
  * records that were kept, of this kind and of the kind before it, wherever they come from. An app with several members may keep
- * twelve of their books on one page: milecopper_add, milecopper_close and milecopper_settle_member.
+ * twelve of their books on one page, six for each of two associations: milecopper_add, milecopper_close and
+ * milecopper_settle_member.
  *
  * For C99 and later and C++11 and later. `host/install PREFIX` in the source's folder builds and installs this file, a
  * static and a shared library and a file for pkg-config below the folder PREFIX. Then:
@@ -47,13 +48,14 @@
  *         at += milecopper_record_read(read);
  *     }
  *
- * Twelve members on one page, each by a number of the app's choice:
+ * Two associations' members on one page, each by a number of the app's choice:
  *
  *     static uint8_t page[MILECOPPER_PAGE_BYTES];            // all zero: a new page, every place is free
- *     answer = milecopper_add(page, sizeof page, 4711);      // a fresh book for member 4711
- *     answer = milecopper_settle_member(tariff, tariff_len, page, sizeof page, 4711,
+ *     answer = milecopper_add(page, sizeof page, 0, 4711);   // a fresh book for member 4711 of association 0
+ *     answer = milecopper_add(page, sizeof page, 1, 4711);   // and one for somebody else, 4711 of association 1
+ *     answer = milecopper_settle_member(tariff, tariff_len, page, sizeof page, 0, 4711,
  *                                       trip, trip_len, statement, sizeof statement);
- *     answer = milecopper_close(page, sizeof page, 4711);    // the book is gone, and the place is free again
+ *     answer = milecopper_close(page, sizeof page, 0, 4711); // the book is gone, and the place is free again
  *
  * All numbers in a tariff, a book, a page, a trip and a charge record are little-endian on every machine, so these bytes can
  * be stored and sent as they are. No slice needs any alignment.
@@ -74,17 +76,17 @@
  *   - A tariff has at most MILECOPPER_LARGEST_TARIFF_BYTES bytes, a trip MILECOPPER_LARGEST_TRIP_BYTES, a book exactly
  *     MILECOPPER_BOOK_BYTES and a page MILECOPPER_PAGE_BYTES; others may be offered, and are refused. A statement of
  *     MILECOPPER_LARGEST_STATEMENT_BYTES has room for every trip, and fields of MILECOPPER_LARGEST_FIELDS_BYTES for every
- *     record. Any length that a size_t holds may be given, any offset, and any number of a member.
+ *     record. Any length that a size_t holds may be given, any offset, and any number of an association or of a member.
  *   - A fresh book is MILECOPPER_BOOK_BYTES bytes, all zero. From then on only this library writes into it. Each
  *     account has a book of its own, and the caller keeps it from one trip to the next. An account's trips are
  *     settled or posted in the order in which they were ridden.
- *   - A new page is MILECOPPER_PAGE_BYTES bytes, all zero, and from then on only this library writes into it. The app gives each
- *     member a number, 1 to MILECOPPER_LARGEST_MEMBER, and keeps it while that member has an account on the page. Who is closed
- *     loses the book with its open window: a member who is added again begins with a fresh one.
+ *   - A new page is MILECOPPER_PAGE_BYTES bytes, all zero, and from then on only this library writes into it. Each association
+ *     gives its members numbers, 1 to MILECOPPER_LARGEST_MEMBER, whatever the other's are, and keeps one while that member has an
+ *     account on the page. Who is closed loses the book with its open window: a member who is added again begins with a fresh one.
  *   - During a call no other thread writes any of its slices, and none reads its book or its statement, unless the call
  *     only reads them. Calls on different books may run at the same time, on any threads, and so may quotes on one book and
- *     readings of one statement. They may share one tariff. A page is one slice: every call on it looks at all its numbers, so
- *     calls on one page do not run at the same time, whoever the members are.
+ *     readings of one statement. They may share one tariff. A page is one slice, so calls on one page do not run at the same
+ *     time, whoever the members are and of whichever association.
  *   - Where milecopper_check_tariff is called, at least 256 bytes of stack are free.
  *   - Where milecopper_settle is called, at least 1,024 bytes of stack are free.
  *   - Where milecopper_quote is called, at least 1,536 bytes of stack are free.
@@ -107,10 +109,13 @@
  *     start, and the further bytes stay as they were.
  *   - A call on a page that is refused changes no byte of the page. One that is accepted changes the bytes of that member's place
  *     alone: all of them in adding and closing, its book in settling. What stands in other places, in free ones too, stays as it is.
+ *   - It tells an association nothing of the other. For the same call, pages that agree in the association's own places give the
+ *     same answer, "no room" included, the same charge records and the same places afterwards, whatever the other association's
+ *     places hold. That is said of answers: who must not read the other's bytes must not be lent the page.
  *   - It does not find every damage. A book is refused (4) where its words cannot stand together; one with another sum in
  *     it mostly can. A charge record is refused (16) where a number is none that settling writes; one with another charge in
- *     it mostly has none such. A page is refused (18) by its length and the numbers of its places; of its books only the one that
- *     is settled on is looked at. Keep a checksum of your own beside a book, a page or a statement that is stored or sent.
+ *     it mostly has none such. A page is refused (18) by its length and the numbers in the association's places; of its books only
+ *     the one that is settled on is looked at. Keep a checksum of your own beside a book, a page or a statement that is stored or sent.
  *
  * Another tariff
  *
@@ -145,7 +150,7 @@
 /* The version. The number stands here alone: the library's file names, its pkg-config file, its constant
  * milecopper_version and what the scripts say all come from these lines. */
 #define MILECOPPER_VERSION_MAJOR 0
-#define MILECOPPER_VERSION_MINOR 12
+#define MILECOPPER_VERSION_MINOR 13
 #define MILECOPPER_VERSION_PATCH 0
 #define MILECOPPER_VERSION_AS_TEXT(major, minor, patch) #major "." #minor "." #patch
 #define MILECOPPER_VERSION_AS_WRITTEN(major, minor, patch) MILECOPPER_VERSION_AS_TEXT(major, minor, patch)
@@ -161,6 +166,10 @@
 /* A page of accounts: places one after another, each a member's number in 4 bytes, 1 to MILECOPPER_LARGEST_MEMBER, and then the
  * book. A place with the number MILECOPPER_FREE_PLACE is free, and its other bytes are not looked at. */
 #define MILECOPPER_PLACES 12
+/* Two associations share it. Association 0 has the first six places, association 1 the others: those of association a begin with
+ * place MILECOPPER_PLACES_OF_EACH * a. */
+#define MILECOPPER_ASSOCIATIONS 2
+#define MILECOPPER_PLACES_OF_EACH 6
 #define MILECOPPER_PLACE_BYTES 5472
 #define MILECOPPER_PAGE_BYTES 65664
 #define MILECOPPER_PLACE_MEMBER_AT 0
@@ -341,17 +350,18 @@
 #define MILECOPPER_MOST_TRIPS_IN_A_WINDOW 256
 
 /* Why a trip, a record or a page was refused. Where several apply, the answer is the first of them in this order. Settling and a
- * quote give 1 to 12 and 17, a posting 1 to 11, 17 and 13, a reading 14 to 16 and then 12; adding gives 18 to 20, closing 18 and
- * 19, and settling a member 1 to 3, 18, 19, and then what settling gives. */
+ * quote give 1 to 12 and 17, a posting 1 to 11, 17 and 13, a reading 14 to 16 and then 12; adding gives 21 and 18 to 20, closing
+ * 21, 18 and 19, and settling a member 1 to 3, 21, 18, 19, and then what settling gives. */
 enum milecopper_refusal {
     MILECOPPER_NOT_REFUSED = 0,
     MILECOPPER_TARIFF_BROKEN = 1,     /* tariff: a record's frame is broken */
     MILECOPPER_TARIFF_MISSHAPEN = 2,  /* tariff: kind, length, order or number of records wrong, or one is missing */
     MILECOPPER_TARIFF_VALUE = 3,      /* tariff: a value outside its range */
-    MILECOPPER_WRONG_PAGE = 18,       /* page: wrong length; the number asked for, or one stored, outside its range; or one
-                                       * stored twice */
-    MILECOPPER_WRONG_MEMBER = 19,     /* page: no such member; or there is one already, when adding */
-    MILECOPPER_NO_PLACE = 20,         /* page: no place is free */
+    MILECOPPER_WRONG_ASSOCIATION = 21, /* page: the association is not 0 or 1 */
+    MILECOPPER_WRONG_PAGE = 18,       /* page: wrong length; the number asked for, or one stored in the association's places,
+                                       * outside its range; or one stored twice there */
+    MILECOPPER_WRONG_MEMBER = 19,     /* page: the association has no such member; or it has one already, when adding */
+    MILECOPPER_NO_PLACE = 20,         /* page: no place of the association is free */
     MILECOPPER_BOOK_UNSOUND = 4,      /* book: wrong length, or words that cannot stand together */
     MILECOPPER_TRIP_MISSHAPEN = 5,    /* trip: frame, kind or length wrong, or bytes after the record */
     MILECOPPER_TRIP_COUNTS = 6,       /* trip: class, ticket level, party or number of stops out of range; or first class
@@ -444,34 +454,37 @@ uint64_t milecopper_read(const uint8_t *statement, size_t statement_len, size_t 
                          uint8_t *fields, size_t fields_len);
 
 /*
- * Adds a member to a page: the number and a fresh book, all zero, whatever stood there, in the lowest free place.
+ * Adds a member of an association to a page: the number and a fresh book, all zero, whatever stood there, in the lowest free
+ * place of the association's six. The same number in the other association is somebody else.
  *
- * Accepted: the number of bytes written, MILECOPPER_PLACE_BYTES. Refused, times 2^32: by 18, MILECOPPER_WRONG_PAGE, where the page
- * has another length, `member` is 0 or above MILECOPPER_LARGEST_MEMBER, a stored number is above that, or one but 0 is stored
- * twice; by 19, MILECOPPER_WRONG_MEMBER, where the member is there already, also on a full page; and then by 20,
- * MILECOPPER_NO_PLACE, which is so exactly where all twelve places are taken. A refusal leaves the page as it was.
+ * Accepted: the number of bytes written, MILECOPPER_PLACE_BYTES. Refused, times 2^32: by 21, MILECOPPER_WRONG_ASSOCIATION, where
+ * `association` is not 0 or 1; by 18, MILECOPPER_WRONG_PAGE, where the page has another length, `member` is 0 or above
+ * MILECOPPER_LARGEST_MEMBER, or in the association's places a number is above that, or one but 0 stands twice; by 19,
+ * MILECOPPER_WRONG_MEMBER, where the association has the member already, also where no place is free; and then by 20,
+ * MILECOPPER_NO_PLACE, which is so exactly where the association's own six places are taken. A refusal leaves the page as it was.
+ * What stands in the other association's places does not matter and does not change, here and below.
  */
-uint64_t milecopper_add(uint8_t *page, size_t page_len, uint32_t member);
+uint64_t milecopper_add(uint8_t *page, size_t page_len, uint32_t association, uint32_t member);
 
 /*
  * Closes a member's account: the whole place is cleared, number and book, and is free from then on. An open window is lost with
  * it, and it is not asked whether the book is sound.
  *
- * Accepted: the number of bytes written, MILECOPPER_PLACE_BYTES. Refused, times 2^32: by 18 as milecopper_add is, and by 19 where
- * there is no such member. A refusal leaves the page as it was.
+ * Accepted: the number of bytes written, MILECOPPER_PLACE_BYTES. Refused, times 2^32: by 21 and 18 as milecopper_add is, and by 19
+ * where the association has no such member. A refusal leaves the page as it was.
  */
-uint64_t milecopper_close(uint8_t *page, size_t page_len, uint32_t member);
+uint64_t milecopper_close(uint8_t *page, size_t page_len, uint32_t association, uint32_t member);
 
 /*
  * Settles one trip of a member on that member's book, where it stands on the page. Answer, charge records and book are what
  * milecopper_settle would give on that book by itself; no other byte of the page changes, and no other member's book is looked at.
  *
- * Accepted: the number of bytes written to the statement, as by milecopper_settle. Refused: by 1 to 3, then by 18 as
- * milecopper_add is and by 19 where there is no such member, and then by 4 to 12 and 17, as by milecopper_settle; page and
- * statement stay as they were. A trip is quoted and posted on the book in a place (milecopper_book_in) as on any other.
+ * Accepted: the number of bytes written to the statement, as by milecopper_settle. Refused: by 1 to 3, then by 21 and 18 as
+ * milecopper_add is and by 19 where the association has no such member, and then by 4 to 12 and 17, as by milecopper_settle; page
+ * and statement stay as they were. A trip is quoted and posted on the book in a place (milecopper_book_in) as on any other.
  */
 uint64_t milecopper_settle_member(const uint8_t *tariff, size_t tariff_len,
-                                  uint8_t *page, size_t page_len, uint32_t member,
+                                  uint8_t *page, size_t page_len, uint32_t association, uint32_t member,
                                   const uint8_t *trip, size_t trip_len,
                                   uint8_t *statement, size_t statement_len);
 
@@ -534,12 +547,14 @@ static inline const char *milecopper_refusal_text(enum milecopper_refusal refusa
         return "The price file is put together wrongly: a record is missing, too many, out of order or of the wrong kind.";
     case MILECOPPER_TARIFF_VALUE:
         return "The price file holds a number that is not allowed.";
+    case MILECOPPER_WRONG_ASSOCIATION:
+        return "There is no such association: it is number 0 or number 1.";
     case MILECOPPER_WRONG_PAGE:
         return "The page of accounts is damaged, or the number asked for is not one of 1 to 999,999,999.";
     case MILECOPPER_WRONG_MEMBER:
         return "There is no account for this member on the page; or there is one already, where it should be opened.";
     case MILECOPPER_NO_PLACE:
-        return "All twelve places of the page are taken. An account has to be closed first, or another page begun.";
+        return "All six places of the association are taken. One of its accounts has to be closed first, or another page begun.";
     case MILECOPPER_BOOK_UNSOUND:
         return "The account's book is damaged, or it was kept with a different price file or by an older version.";
     case MILECOPPER_TRIP_MISSHAPEN:
@@ -599,10 +614,10 @@ static inline void milecopper_put_number(uint8_t *bytes, size_t width, uint32_t 
 
 /* ---- The page ----
  *
- * `page` has MILECOPPER_PAGE_BYTES bytes. This goes through the members, in the order of their places:
+ * `page` has MILECOPPER_PAGE_BYTES bytes. This goes through the members of association 1, in the order of their places:
  *
  *     unsigned place;
- *     for (place = 0; place < MILECOPPER_PLACES; place += 1)
+ *     for (place = MILECOPPER_PLACES_OF_EACH; place < 2 * MILECOPPER_PLACES_OF_EACH; place += 1)
  *         if (milecopper_member_in(page, place) != MILECOPPER_FREE_PLACE)
  *             printf("member %lu\n", (unsigned long)milecopper_member_in(page, place));
  */

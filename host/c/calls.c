@@ -263,7 +263,8 @@ static void any_fields(void)
     (void)milecopper_fields_total(fields);
 }
 
-/* Members on a page: added, settled, closed; what is refused changes nothing, and nobody else's place is touched. */
+/* Members of two associations on a page: added, settled, closed; what is refused changes nothing, and nobody else's place is
+ * touched, the other association's half least of all. */
 static void members(const uint8_t *tariff, size_t tariff_len, const uint8_t *trip, size_t trip_len)
 {
     uint8_t *page = guarded(MILECOPPER_PAGE_BYTES);
@@ -274,39 +275,46 @@ static void members(const uint8_t *tariff, size_t tariff_len, const uint8_t *tri
     size_t all = MILECOPPER_PAGE_BYTES;
     uint32_t member;
     uint64_t answer;
-    check(milecopper_add(NULL, 0, 1) == refused(MILECOPPER_WRONG_PAGE, 0), "no page to add to");
-    check(milecopper_close(NULL, 0, 1) == refused(MILECOPPER_WRONG_PAGE, 0), "no page to close on");
-    check(milecopper_settle_member(tariff, tariff_len, NULL, 0, 1, trip, trip_len, statement, sizeof statement) ==
+    check(milecopper_add(NULL, 0, 0, 1) == refused(MILECOPPER_WRONG_PAGE, 0), "no page to add to");
+    check(milecopper_close(NULL, 0, 1, 1) == refused(MILECOPPER_WRONG_PAGE, 0), "no page to close on");
+    check(milecopper_close(NULL, 0, 2, 0) == refused(MILECOPPER_WRONG_ASSOCIATION, 0), "no association, and no page either");
+    check(milecopper_settle_member(tariff, tariff_len, NULL, 0, 0, 1, trip, trip_len, statement, sizeof statement) ==
               refused(MILECOPPER_WRONG_PAGE, 0), "no page to settle on");
-    check(milecopper_settle_member(NULL, 0, NULL, 0, 0, NULL, 0, NULL, 0) == refused(MILECOPPER_TARIFF_MISSHAPEN, 0),
+    check(milecopper_settle_member(NULL, 0, NULL, 0, 2, 0, NULL, 0, NULL, 0) == refused(MILECOPPER_TARIFF_MISSHAPEN, 0),
           "nothing to settle a member by");
-    for (member = 1; member <= MILECOPPER_PLACES; member += 1)
-        check(milecopper_add(page, all, member) == MILECOPPER_PLACE_BYTES && milecopper_member_in(page, member - 1) == member,
-              "each member in the next place");
+    for (member = 1; member <= MILECOPPER_PLACES_OF_EACH; member += 1) {
+        check(milecopper_add(page, all, 1, member) == MILECOPPER_PLACE_BYTES && milecopper_member_in(page, 5 + member) == member,
+              "each member of association 1 in its next place");
+        check(milecopper_add(page, all, 0, member) == MILECOPPER_PLACE_BYTES && milecopper_member_in(page, member - 1) == member,
+              "and one with the same number of association 0");
+    }
     memcpy(before, page, all);
-    check(milecopper_add(page, all, 13) == refused(MILECOPPER_NO_PLACE, 0), "a thirteenth member");
-    check(milecopper_add(page, all, 12) == refused(MILECOPPER_WRONG_MEMBER, 0), "a member who is there already");
-    check(milecopper_close(page, all, 13) == refused(MILECOPPER_WRONG_MEMBER, 0), "a member who is not there");
-    check(milecopper_add(page, all, 0) == refused(MILECOPPER_WRONG_PAGE, 0), "member 0");
-    check(milecopper_close(page, all, MILECOPPER_LARGEST_MEMBER + 1) == refused(MILECOPPER_WRONG_PAGE, 0), "too large a number");
-    check(milecopper_add(page, all - 1, 13) == refused(MILECOPPER_WRONG_PAGE, 0), "a page a byte too short");
-    check(milecopper_settle_member(tariff, tariff_len, page, all, 5, trip, trip_len, NULL, 0) == refused(MILECOPPER_NO_ROOM, 0),
+    check(milecopper_add(page, all, 0, 7) == refused(MILECOPPER_NO_PLACE, 0), "a seventh member");
+    check(milecopper_add(page, all, 0, 6) == refused(MILECOPPER_WRONG_MEMBER, 0), "a member who is there already");
+    check(milecopper_close(page, all, 1, 7) == refused(MILECOPPER_WRONG_MEMBER, 0), "a member who is not there");
+    check(milecopper_add(page, all, 2, 7) == refused(MILECOPPER_WRONG_ASSOCIATION, 0), "a third association");
+    check(milecopper_add(page, all, 0, 0) == refused(MILECOPPER_WRONG_PAGE, 0), "member 0");
+    check(milecopper_close(page, all, 0, MILECOPPER_LARGEST_MEMBER + 1) == refused(MILECOPPER_WRONG_PAGE, 0), "too large a number");
+    check(milecopper_add(page, all - 1, 0, 7) == refused(MILECOPPER_WRONG_PAGE, 0), "a page a byte too short");
+    check(milecopper_settle_member(tariff, tariff_len, page, all, 1, 5, trip, trip_len, NULL, 0) == refused(MILECOPPER_NO_ROOM, 0),
           "a member without a statement");
     check(memcmp(before, page, all) == 0, "a refusal changes no byte of a page");
-    answer = milecopper_settle_member(tariff, tariff_len, page, all, 5, trip, trip_len, statement, sizeof statement);
+    answer = milecopper_settle_member(tariff, tariff_len, page, all, 1, 5, trip, trip_len, statement, sizeof statement);
     check(answer == milecopper_settle(tariff, tariff_len, book, sizeof book, trip, trip_len, alone, sizeof alone) &&
               milecopper_accepted(answer), "a member's trip is answered as on a book of its own");
     check(memcmp(statement, alone, milecopper_bytes_written(answer)) == 0, "its charge records");
-    check(memcmp(milecopper_book_in(page, 4), book, sizeof book) == 0, "its book");
-    memcpy(milecopper_book_in(before, 4), book, sizeof book);
+    check(memcmp(milecopper_book_in(page, 10), book, sizeof book) == 0, "its book");
+    memcpy(milecopper_book_in(before, 10), book, sizeof book);
     check(memcmp(before, page, all) == 0, "and nothing else of the page");
-    check(milecopper_close(page, all, 5) == MILECOPPER_PLACE_BYTES, "an account closed");
-    memset(before + 4 * MILECOPPER_PLACE_BYTES, 0, MILECOPPER_PLACE_BYTES);
+    check(milecopper_close(page, all, 1, 5) == MILECOPPER_PLACE_BYTES, "an account closed");
+    memset(before + 10 * MILECOPPER_PLACE_BYTES, 0, MILECOPPER_PLACE_BYTES);
     check(memcmp(before, page, all) == 0, "its place is cleared, and nothing else");
-    check(milecopper_add(page, all, MILECOPPER_LARGEST_MEMBER) == MILECOPPER_PLACE_BYTES, "the largest number");
-    check(milecopper_member_in(page, 4) == MILECOPPER_LARGEST_MEMBER, "in the place that is free");
+    check(milecopper_add(page, all, 0, 7) == refused(MILECOPPER_NO_PLACE, 0), "a free place of the other association is no room");
+    check(milecopper_add(page, all, 1, MILECOPPER_LARGEST_MEMBER) == MILECOPPER_PLACE_BYTES, "the largest number");
+    check(milecopper_member_in(page, 10) == MILECOPPER_LARGEST_MEMBER, "in the place that is free");
     milecopper_put_number(page + 11 * MILECOPPER_PLACE_BYTES, 4, 1);
-    check(milecopper_close(page, all, 7) == refused(MILECOPPER_WRONG_PAGE, 0), "a number stored twice");
+    check(milecopper_close(page, all, 1, 2) == refused(MILECOPPER_WRONG_PAGE, 0), "a number stored twice");
+    check(milecopper_close(page, all, 0, 2) == MILECOPPER_PLACE_BYTES, "which is nothing to the other association");
 }
 
 /* ---- The writers. */

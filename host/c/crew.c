@@ -1,6 +1,6 @@
 /*
- * Keeps a crew's books on one page: adds three members, settles the trips of a roll for them in turn, closes an account and
- * gives its place to another member.
+ * Keeps the books of two crews on one page, the train crew's as association 0 and the engineering crew's as association 1: adds
+ * three members, settles the trips of a roll for them in turn, closes an account and gives its place to another member.
  *
  *     crew TARIFF ROLL
  *
@@ -12,6 +12,11 @@
 #include <stdlib.h>
 
 static uint8_t page[MILECOPPER_PAGE_BYTES]; /* all zero: every place is free */
+
+struct member {
+    uint32_t association;
+    uint32_t number;
+};
 
 /* The bytes of a file, to be freed by the caller. */
 static uint8_t *bytes_of(const char *name, size_t *length)
@@ -33,31 +38,37 @@ static uint8_t *bytes_of(const char *name, size_t *length)
 }
 
 /* What came of a call for a member; of a trip that was settled, what it costs. */
-static void tell(const char *what, uint32_t member, uint64_t answer)
+static void tell(const char *what, struct member whose, uint64_t answer)
 {
     enum milecopper_refusal refusal = milecopper_refusal_of(answer);
-    printf("%s member %lu: ", what, (unsigned long)member);
+    printf("%s member %lu of association %lu: ", what, (unsigned long)whose.number, (unsigned long)whose.association);
     if (refusal == MILECOPPER_NOT_REFUSED)
         printf("%lu bytes written.\n", (unsigned long)milecopper_bytes_written(answer));
     else
         printf("refused (%d). %s\n", (int)refusal, milecopper_refusal_text(refusal));
 }
 
-static void settle(const uint8_t *tariff, size_t tariff_len, uint32_t member, const uint8_t *trip, size_t trip_len)
+static void add(struct member whose)
+{
+    tell("Adding", whose, milecopper_add(page, sizeof page, whose.association, whose.number));
+}
+
+static void settle(const uint8_t *tariff, size_t tariff_len, struct member whose, const uint8_t *trip, size_t trip_len)
 {
     uint8_t statement[MILECOPPER_LARGEST_STATEMENT_BYTES];
-    uint64_t answer =
-        milecopper_settle_member(tariff, tariff_len, page, sizeof page, member, trip, trip_len, statement, sizeof statement);
+    uint64_t answer = milecopper_settle_member(tariff, tariff_len, page, sizeof page, whose.association, whose.number, trip,
+                                               trip_len, statement, sizeof statement);
     if (milecopper_accepted(answer))
-        printf("A trip of member %lu: %lu cents.\n", (unsigned long)member,
-               (unsigned long)milecopper_statement_total(statement, answer));
+        printf("A trip of member %lu of association %lu: %lu cents.\n", (unsigned long)whose.number,
+               (unsigned long)whose.association, (unsigned long)milecopper_statement_total(statement, answer));
     else
-        tell("A trip of", member, answer);
+        tell("A trip of", whose, answer);
 }
 
 int main(int argc, char **argv)
 {
-    static const uint32_t crew[] = {4711, 815, MILECOPPER_LARGEST_MEMBER};
+    static const struct member crew[] = {{0, 4711}, {0, 815}, {1, 815}}; /* the last two are two people */
+    static const struct member later = {0, 7};
     size_t tariff_len;
     size_t roll_len;
     size_t at = 0;
@@ -71,8 +82,8 @@ int main(int argc, char **argv)
     tariff = bytes_of(argv[1], &tariff_len);
     roll = bytes_of(argv[2], &roll_len);
     for (i = 0; i < 3; i += 1)
-        tell("Adding", crew[i], milecopper_add(page, sizeof page, crew[i]));
-    tell("Adding", 815, milecopper_add(page, sizeof page, 815));
+        add(crew[i]);
+    add(crew[1]);
     for (i = 0; at + MILECOPPER_HEAD_BYTES <= roll_len; i += 1) {
         size_t size = MILECOPPER_KIND_AT + milecopper_number(roll + at + MILECOPPER_LENGTH_AT, 2);
         if (size > roll_len - at)
@@ -80,12 +91,13 @@ int main(int argc, char **argv)
         settle(tariff, tariff_len, crew[i % 3], roll + at, size);
         at += size;
     }
-    tell("Closing", 4711, milecopper_close(page, sizeof page, 4711));
-    settle(tariff, tariff_len, 4711, roll, MILECOPPER_KIND_AT + milecopper_number(roll + MILECOPPER_LENGTH_AT, 2));
-    tell("Adding", 7, milecopper_add(page, sizeof page, 7));
+    tell("Closing", crew[0], milecopper_close(page, sizeof page, crew[0].association, crew[0].number));
+    settle(tariff, tariff_len, crew[0], roll, MILECOPPER_KIND_AT + milecopper_number(roll + MILECOPPER_LENGTH_AT, 2));
+    add(later);
     for (i = 0; i < MILECOPPER_PLACES; i += 1)
         if (milecopper_member_in(page, i) != MILECOPPER_FREE_PLACE)
-            printf("Place %u: member %lu.\n", i, (unsigned long)milecopper_member_in(page, i));
+            printf("Place %u: member %lu of association %u.\n", i, (unsigned long)milecopper_member_in(page, i),
+                   i / MILECOPPER_PLACES_OF_EACH);
     free(tariff);
     free(roll);
     return 0;

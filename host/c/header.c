@@ -37,6 +37,7 @@ static void sizes(void)
     check(MILECOPPER_TRIP_STOPS_AT + 2 * MILECOPPER_MOST_STOPS_IN_A_TRIP == MILECOPPER_LARGEST_TRIP_BYTES, "a trip's stops");
     check(MILECOPPER_PLACE_BYTES == MILECOPPER_PLACE_BOOK_AT + MILECOPPER_BOOK_BYTES, "a place");
     check(MILECOPPER_PAGE_BYTES == MILECOPPER_PLACES * MILECOPPER_PLACE_BYTES, "a page");
+    check(MILECOPPER_PLACES == MILECOPPER_ASSOCIATIONS * MILECOPPER_PLACES_OF_EACH, "the associations' places");
     check(MILECOPPER_TRIP_CHECK_IN_AT + MILECOPPER_STAMP_BYTES == MILECOPPER_TRIP_CHECK_OUT_AT, "a trip's stamps");
 }
 
@@ -48,8 +49,8 @@ static void only_read(void)
     check(sizeof(milecopper_quote(read, 0, read, 0, read, 0, written, 0)) == 8, "a quote's book is only read");
     check(sizeof(milecopper_post(read, 0, written, 0, read, 0, read, 0)) == 8, "a posting's record is only read");
     check(sizeof(milecopper_read(read, 0, 0, written, 0)) == 8, "a reading's statement is only read");
-    check(sizeof(milecopper_settle_member(read, 0, written, 0, 1, read, 0, written, 0)) == 8, "a member's trip is only read");
-    check(sizeof(milecopper_add(written, 0, 1)) == 8 && sizeof(milecopper_close(written, 0, 1)) == 8, "a page is written");
+    check(sizeof(milecopper_settle_member(read, 0, written, 0, 1, 1, read, 0, written, 0)) == 8, "a member's trip is only read");
+    check(sizeof(milecopper_add(written, 0, 1, 1)) == 8 && sizeof(milecopper_close(written, 0, 1, 1)) == 8, "a page is written");
 }
 
 static void answers(void)
@@ -68,6 +69,7 @@ static void answers(void)
     check(milecopper_refusal_of((uint64_t)18 << 32) == MILECOPPER_WRONG_PAGE, "a page that is wrong");
     check(milecopper_refusal_of((uint64_t)19 << 32) == MILECOPPER_WRONG_MEMBER, "a member who is not there, or is already");
     check(milecopper_refusal_of((uint64_t)20 << 32) == MILECOPPER_NO_PLACE, "no free place");
+    check(milecopper_refusal_of((uint64_t)21 << 32) == MILECOPPER_WRONG_ASSOCIATION, "no such association");
     check(milecopper_bytes_written(MILECOPPER_PLACE_BYTES) == MILECOPPER_PLACE_BYTES, "a member who was added");
     check(milecopper_bytes_written(MILECOPPER_BOOK_BYTES) == MILECOPPER_BOOK_BYTES, "a posted trip");
 }
@@ -76,7 +78,7 @@ static void texts(void)
 {
     int one;
     int other;
-    for (one = 0; one <= 21; one += 1)
+    for (one = 0; one <= 22; one += 1)
         for (other = 0; other < one; other += 1)
             check(strcmp(milecopper_refusal_text((enum milecopper_refusal)one),
                          milecopper_refusal_text((enum milecopper_refusal)other)) != 0, "two refusals with one text");

@@ -1,7 +1,7 @@
 /*
  * Makes calls of the library on a painted stack, and writes how many bytes of it each function took at most: for an x86-64 that is emulated
- * (host/stack-check). On standard input comes call after call: the function's place in FUNCTIONS, a reading's offset or a member's number, the lengths of
- * four slices, and their bytes.
+ * (host/stack-check). On standard input comes call after call: the function's place in FUNCTIONS, a reading's offset or an association, a member's
+ * number, the lengths of four slices, and their bytes.
  * On standard output goes a number for each function. All numbers have 8 bytes.
  */
 typedef __UINT64_TYPE__ word;
@@ -13,18 +13,18 @@ word milecopper_quote(const void *, word, const void *, word, const void *, word
 word milecopper_post(const void *, word, void *, word, const void *, word, const void *, word);
 word milecopper_check_tariff(const void *, word);
 word milecopper_read(const void *, word, word, void *, word);
-word milecopper_add(void *, word, unsigned);
-word milecopper_close(void *, word, unsigned);
-word milecopper_settle_member(const void *, word, void *, word, unsigned, const void *, word, void *, word);
+word milecopper_add(void *, word, unsigned, unsigned);
+word milecopper_close(void *, word, unsigned, unsigned);
+word milecopper_settle_member(const void *, word, void *, word, unsigned, unsigned, const void *, word, void *, word);
 number read(int, void *, word);
 number write(int, const void *, word);
 
-/* As in host/src/stack.rs: each function, and how many slices stand before its number; ALL where it has none. */
-enum { HEAD = 2, SLICES = 4, ALL = SLICES, LONGEST = 1 << 17, WORDS = 1 << 10 };
-static const struct { const void *start; int before; } FUNCTIONS[] = {
-    { (const void *)milecopper_settle, ALL },       { (const void *)milecopper_quote, ALL }, { (const void *)milecopper_post, ALL },
-    { (const void *)milecopper_check_tariff, ALL }, { (const void *)milecopper_read, 1 },    { (const void *)milecopper_add, 1 },
-    { (const void *)milecopper_close, 1 },          { (const void *)milecopper_settle_member, 2 }
+/* As in host/src/stack.rs: each function, how many slices stand before its numbers, and how many these are. */
+enum { HEAD = 3, SLICES = 4, ALL = SLICES, LONGEST = 1 << 17, WORDS = 1 << 10 };
+static const struct { const void *start; int before, numbers; } FUNCTIONS[] = {
+    { (const void *)milecopper_settle, ALL, 0 },       { (const void *)milecopper_quote, ALL, 0 }, { (const void *)milecopper_post, ALL, 0 },
+    { (const void *)milecopper_check_tariff, ALL, 0 }, { (const void *)milecopper_read, 1, 1 },    { (const void *)milecopper_add, 1, 2 },
+    { (const void *)milecopper_close, 1, 2 },          { (const void *)milecopper_settle_member, 2, 2 }
 };
 enum { MANY = sizeof FUNCTIONS / sizeof *FUNCTIONS };
 static unsigned char slices[SLICES][LONGEST];
@@ -45,7 +45,8 @@ int main(void) {
         if (head[0] >= MANY) return 2;
         word *next = given;
         for (int i = 0; i < SLICES; i++) {
-            if (i == FUNCTIONS[head[0]].before) *next++ = head[1];
+            if (i == FUNCTIONS[head[0]].before)
+                for (int k = 0; k < FUNCTIONS[head[0]].numbers; k++) *next++ = head[1 + k];
             if (head[HEAD + i] > LONGEST || !read_all(slices[i], head[HEAD + i])) return 2;
             *next++ = (word)slices[i];
             *next++ = head[HEAD + i];

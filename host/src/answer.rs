@@ -14,12 +14,14 @@ pub enum Answer {
 
 /// The refusals, in the order in which they are tried, in which 17 stands between 9 and 10. Settling and a quote give those
 /// up to 12; a posting has 13 in the place of 12. A reading gives 14 to 16, and then 12. 18 to 20 are of a page of accounts
-/// alone: adding gives these three, closing the first two of them, and settling a member those two between 3 and 4.
+/// alone, with 21 before them: adding gives these four, closing the first three of them, and settling a member those three between
+/// 3 and 4.
 #[derive(Clone, Copy, Debug, PartialEq, Eq)]
 pub enum Refusal {
     TariffBroken = 1,
     TariffMisshapen = 2,
     TariffValue = 3,
+    WrongAssociation = 21,
     WrongPage = 18,
     WrongMember = 19,
     NoPlace = 20,
@@ -52,10 +54,11 @@ impl Answer {
 }
 
 impl Refusal {
-    pub const ALL: [Refusal; 20] = [
+    pub const ALL: [Refusal; 21] = [
         Refusal::TariffBroken,
         Refusal::TariffMisshapen,
         Refusal::TariffValue,
+        Refusal::WrongAssociation,
         Refusal::WrongPage,
         Refusal::WrongMember,
         Refusal::NoPlace,
@@ -75,11 +78,15 @@ impl Refusal {
         Refusal::RecordValue,
     ];
 
+    /// Those of a page of accounts alone, in their order.
+    pub const OF_A_PAGE: [Refusal; 4] =
+        [Refusal::WrongAssociation, Refusal::WrongPage, Refusal::WrongMember, Refusal::NoPlace];
+
     /// Those that settling and a quote give, in their order.
     pub fn of_settling() -> impl Iterator<Item = Refusal> {
         let last = Refusal::ALL.iter().position(|&refusal| refusal == Refusal::NoRoom);
         let up_to_it = Refusal::ALL.into_iter().take(1 + last.expect("one of them"));
-        up_to_it.filter(|refusal| ![Refusal::WrongPage, Refusal::WrongMember, Refusal::NoPlace].contains(refusal))
+        up_to_it.filter(|refusal| !Refusal::OF_A_PAGE.contains(refusal))
     }
 
     /// The refusal with this number.
@@ -93,6 +100,7 @@ impl Refusal {
             Refusal::TariffBroken => "tariff frame broken",
             Refusal::TariffMisshapen => "tariff misshapen",
             Refusal::TariffValue => "tariff value",
+            Refusal::WrongAssociation => "no such association",
             Refusal::WrongPage => "page misshapen, or a member's number",
             Refusal::WrongMember => "no such member, or there already",
             Refusal::NoPlace => "no free place",
@@ -140,8 +148,9 @@ mod tests {
         assert_eq!(Answer::of(16 << 32), Some(Answer::Refused { refusal: Refusal::RecordValue, place: 0 }));
         assert_eq!(Answer::of(17 << 32), Some(Answer::Refused { refusal: Refusal::Mistap, place: 0 }));
         assert_eq!(Answer::of(20 << 32), Some(Answer::Refused { refusal: Refusal::NoPlace, place: 0 }));
-        assert_eq!(Answer::of(21 << 32), None);
+        assert_eq!(Answer::of(21 << 32), Some(Answer::Refused { refusal: Refusal::WrongAssociation, place: 0 }));
+        assert_eq!(Answer::of(22 << 32), None);
         assert_eq!(Answer::of(u64::MAX), None);
-        assert!((1..=20).all(|number| Refusal::of(number).is_some_and(|refusal| refusal as u64 == number)));
+        assert!((1..=21).all(|number| Refusal::of(number).is_some_and(|refusal| refusal as u64 == number)));
     }
 }

@@ -6,8 +6,8 @@
 //! A run has parts, which can be repeated one by one. Part 0 of a seed is a sweep ([`sweeps`]): two good cases, one with a
 //! broken trip, and all that lie one step away from them. Every other part is a chain ([`chains`]): trips settled one
 //! after another on one book, with damaged cases in between ([`damage`]). Beside many of them stand a quote and a posting
-//! ([`quotes`]), behind each part records are read ([`readings`]), and behind some there is a page ([`accounts`]). What is called on the library's side gets slices
-//! beside protected pages ([`guarded`]), so that a byte touched outside them is seen.
+//! ([`quotes`]), behind each part records are read ([`readings`]), and behind some there is a page ([`accounts`]). What is
+//! called on the library's side gets slices beside protected pages ([`guarded`]), so that a byte touched outside them is seen.
 
 mod aachen;
 mod accounts;

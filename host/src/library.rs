@@ -46,13 +46,14 @@ extern "C" {
         fields_len: usize,
     ) -> u64;
 
-    pub(crate) fn milecopper_add(page: *mut u8, page_len: usize, member: u32) -> u64;
-    pub(crate) fn milecopper_close(page: *mut u8, page_len: usize, member: u32) -> u64;
+    pub(crate) fn milecopper_add(page: *mut u8, page_len: usize, association: u32, member: u32) -> u64;
+    pub(crate) fn milecopper_close(page: *mut u8, page_len: usize, association: u32, member: u32) -> u64;
     pub(crate) fn milecopper_settle_member(
         tariff: *const u8,
         tariff_len: usize,
         page: *mut u8,
         page_len: usize,
+        association: u32,
         member: u32,
         trip: *const u8,
         trip_len: usize,
@@ -135,17 +136,24 @@ pub fn read_to_number(statement: &[u8], at: usize, fields: &mut [u8]) -> u64 {
     unsafe { milecopper_read(statement.as_ptr(), statement.len(), at, fields.as_mut_ptr(), fields.len()) }
 }
 
-pub fn add_to_number(page: &mut [u8], member: u32) -> u64 {
-    // SAFETY: as above. Any number may be given, here and below.
-    unsafe { milecopper_add(page.as_mut_ptr(), page.len(), member) }
+pub fn add_to_number(page: &mut [u8], association: u32, member: u32) -> u64 {
+    // SAFETY: as above. Any numbers may be given, here and below.
+    unsafe { milecopper_add(page.as_mut_ptr(), page.len(), association, member) }
 }
 
-pub fn close_to_number(page: &mut [u8], member: u32) -> u64 {
+pub fn close_to_number(page: &mut [u8], association: u32, member: u32) -> u64 {
     // SAFETY: as above.
-    unsafe { milecopper_close(page.as_mut_ptr(), page.len(), member) }
+    unsafe { milecopper_close(page.as_mut_ptr(), page.len(), association, member) }
 }
 
-pub fn settle_member_to_number(tariff: &[u8], page: &mut [u8], member: u32, trip: &[u8], statement: &mut [u8]) -> u64 {
+pub fn settle_member_to_number(
+    tariff: &[u8],
+    page: &mut [u8],
+    association: u32,
+    member: u32,
+    trip: &[u8],
+    statement: &mut [u8],
+) -> u64 {
     // SAFETY: as above.
     unsafe {
         milecopper_settle_member(
@@ -153,6 +161,7 @@ pub fn settle_member_to_number(tariff: &[u8], page: &mut [u8], member: u32, trip
             tariff.len(),
             page.as_mut_ptr(),
             page.len(),
+            association,
             member,
             trip.as_ptr(),
             trip.len(),
@@ -184,20 +193,28 @@ pub fn read(statement: &[u8], at: usize, fields: &mut [u8]) -> Answer {
     answer_of(read_to_number(statement, at, fields))
 }
 
-/// Adds a member to a page. Accepted: number and fresh book stand in the lowest free place. Refused: the page stays.
-pub fn add(page: &mut [u8], member: u32) -> Answer {
-    answer_of(add_to_number(page, member))
+/// Adds a member of an association to a page. Accepted: number and fresh book stand in the lowest of its free places. Refused:
+/// the page stays.
+pub fn add(page: &mut [u8], association: u32, member: u32) -> Answer {
+    answer_of(add_to_number(page, association, member))
 }
 
 /// Closes a member's account. Accepted: the place is cleared. Refused: the page stays.
-pub fn close(page: &mut [u8], member: u32) -> Answer {
-    answer_of(close_to_number(page, member))
+pub fn close(page: &mut [u8], association: u32, member: u32) -> Answer {
+    answer_of(close_to_number(page, association, member))
 }
 
 /// Settles one trip of a member on a page. Accepted: that member's book is replaced, and the charge records stand at the start
 /// of the statement. Refused: page and statement stay.
-pub fn settle_member(tariff: &[u8], page: &mut [u8], member: u32, trip: &[u8], statement: &mut [u8]) -> Answer {
-    answer_of(settle_member_to_number(tariff, page, member, trip, statement))
+pub fn settle_member(
+    tariff: &[u8],
+    page: &mut [u8],
+    association: u32,
+    member: u32,
+    trip: &[u8],
+    statement: &mut [u8],
+) -> Answer {
+    answer_of(settle_member_to_number(tariff, page, association, member, trip, statement))
 }
 
 fn answer_of(number: u64) -> Answer {

@@ -11,7 +11,7 @@
 //! - [`charge`]: windows, charges and bicycles;
 //! - [`statement`]: the charge record;
 //! - [`reading`]: charge records read off a statement that was kept;
-//! - [`page`]: twelve members' books on one page;
+//! - [`page`]: twelve members' books on one page, six of each of two associations;
 //! - [`roll`]: what the program that settles a roll prints;
 //! - [`table`]: what the program that prints statements prints.
 //!

@@ -8,18 +8,31 @@ use crate::library::{
 /// What the library exports, and how many bytes of stack a call may take. Who raises a limit says why in docs/DECISIONS.md.
 /// c/painter.c has the functions in the same order.
 pub const FUNCTIONS: [Function; 8] = [
-    Function { name: "milecopper_settle", limit: 1_024, start: milecopper_settle as *const (), before: ALL },
-    Function { name: "milecopper_quote", limit: 1_536, start: milecopper_quote as *const (), before: ALL },
-    Function { name: "milecopper_post", limit: 2_048, start: milecopper_post as *const (), before: ALL },
-    Function { name: "milecopper_check_tariff", limit: 256, start: milecopper_check_tariff as *const (), before: ALL },
-    Function { name: "milecopper_read", limit: 512, start: milecopper_read as *const (), before: 1 },
-    Function { name: "milecopper_add", limit: 256, start: milecopper_add as *const (), before: 1 },
-    Function { name: "milecopper_close", limit: 256, start: milecopper_close as *const (), before: 1 },
+    Function {
+        name: "milecopper_settle",
+        limit: 1_024,
+        start: milecopper_settle as *const (),
+        before: ALL,
+        numbers: 0,
+    },
+    Function { name: "milecopper_quote", limit: 1_536, start: milecopper_quote as *const (), before: ALL, numbers: 0 },
+    Function { name: "milecopper_post", limit: 2_048, start: milecopper_post as *const (), before: ALL, numbers: 0 },
+    Function {
+        name: "milecopper_check_tariff",
+        limit: 256,
+        start: milecopper_check_tariff as *const (),
+        before: ALL,
+        numbers: 0,
+    },
+    Function { name: "milecopper_read", limit: 512, start: milecopper_read as *const (), before: 1, numbers: 1 },
+    Function { name: "milecopper_add", limit: 256, start: milecopper_add as *const (), before: 1, numbers: 2 },
+    Function { name: "milecopper_close", limit: 256, start: milecopper_close as *const (), before: 1, numbers: 2 },
     Function {
         name: "milecopper_settle_member",
         limit: 1_280,
         start: milecopper_settle_member as *const (),
         before: 2,
+        numbers: 2,
     },
 ];
 
@@ -35,7 +48,7 @@ pub const SETTLE_MEMBER: usize = 7;
 
 /// The most slices that a function takes, each a pointer and a length.
 const SLICES: usize = 4;
-/// A function has no number, before or behind which its slices stand.
+/// A function has no numbers between its slices.
 const ALL: usize = SLICES;
 /// The words that a call is given: those of the slices, and two for numbers.
 const GIVEN: usize = 2 * SLICES + 2;
@@ -44,8 +57,9 @@ pub struct Function {
     pub name: &'static str,
     pub limit: usize,
     start: *const (),
-    /// How many slices stand before its number.
+    /// How many slices stand before its numbers, and how many these are.
     before: usize,
+    numbers: usize,
 }
 
 /// Whether a call can be made on a stack of one's choice here.
@@ -58,11 +72,11 @@ const WORDS: usize = 8 * 1_024;
 struct Stack([u64; WORDS]);
 
 /// What is lent to a call: tariff, book or page and trip, and a statement, or a posting's record; the statement and the fields of
-/// a reading; or a page; and a reading's offset or a member's number. A function does not look at what it does not take.
+/// a reading; or a page; and a reading's offset, or an association and a member's number. A function does not look at what it does not take.
 #[derive(Clone, Copy)]
 pub struct Call<'a> {
     pub slices: [&'a [u8]; SLICES],
-    pub number: usize,
+    pub numbers: [usize; 2],
 }
 
 #[cfg(any(target_arch = "x86_64", target_arch = "aarch64"))]
@@ -81,9 +95,10 @@ pub fn depth_of(function: usize, call: &Call) -> usize {
     let mut stack = Box::new(Stack([0; WORDS]));
     let mut given: Vec<u64> =
         slices.iter_mut().flat_map(|slice| [slice.as_mut_ptr() as u64, slice.len() as u64]).collect();
-    given.insert(2 * FUNCTIONS[function].before, call.number as u64);
+    let Function { before, numbers, .. } = FUNCTIONS[function];
+    given.splice(2 * before..2 * before, call.numbers[..numbers].iter().map(|&number| number as u64));
     given.resize(GIVEN, 0);
-    // SAFETY: each function takes at most four slices, a pointer and a length each, and a number at its place between them: ten
+    // SAFETY: each function takes at most four slices, a pointer and a length each, and two numbers between them: ten
     // words. The pointers come with their slices' own lengths, and the slices overlap nothing. The stack is memory that nobody else
     // uses, of so many words, an even number, at a multiple of 16, and far more than a call needs.
     unsafe {
@@ -94,7 +109,8 @@ pub fn depth_of(function: usize, call: &Call) -> usize {
 /// A call as c/painter.c takes it.
 pub fn bytes_of(function: usize, call: &Call) -> Vec<u8> {
     let [first, second, third, fourth] = call.slices;
-    let numbers = [function, call.number, first.len(), second.len(), third.len(), fourth.len()];
+    let [one, other] = call.numbers;
+    let numbers = [function, one, other, first.len(), second.len(), third.len(), fourth.len()];
     let head = numbers.map(|number| (number as u64).to_le_bytes()).concat();
     [&head, first, second, third, fourth].concat()
 }

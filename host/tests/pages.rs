@@ -87,21 +87,25 @@ fn are_read(read: Read) {
     }
 }
 
-/// Two members on a page of accounts, and what its places begin with.
+/// Three members of two associations on a page of accounts, and what its places begin with.
 fn are_on_a_page(Functions { add, close, settle_member, .. }: Functions) {
     let (tariff, trip, record) = (block("tariff"), block("trip"), block("record"));
-    let (first, second) = (block("place-0"), block("place-1"));
+    let [first, second, other] = ["place-0", "place-1", "place-6"].map(block);
     let (mut page, mut statement) = (vec![0; PAGE_BYTES], [0; 532]);
-    assert_eq!([4_711, 815].map(|member| add(&mut page, member)), [PLACE_BYTES as u64; 2]);
-    assert_eq!(settle_member(&tariff, &mut page, 815, &trip, &mut statement), record.len() as u64);
+    let members = [(0, 4_711), (0, 815), (1, 815)];
+    assert_eq!(members.map(|(association, member)| add(&mut page, association, member)), [PLACE_BYTES as u64; 3]);
+    assert_eq!(settle_member(&tariff, &mut page, 0, 815, &trip, &mut statement), record.len() as u64);
     assert_eq!(statement[..record.len()], record);
     assert_eq!(page[..first.len()], first);
     assert!(page[first.len()..PLACE_BYTES].iter().all(|&byte| byte == 0));
     assert_eq!(page[PLACE_BYTES..PLACE_BYTES + second.len()], second);
-    assert_eq!(add(&mut page, 4_711), 19 << 32);
-    assert_eq!(settle_member(&tariff, &mut page, 7, &trip, &mut statement), 19 << 32);
-    assert_eq!(close(&mut page, 815), PLACE_BYTES as u64);
-    assert!(page[PLACE_BYTES..].iter().all(|&byte| byte == 0));
+    assert_eq!(page[6 * PLACE_BYTES..6 * PLACE_BYTES + other.len()], other);
+    assert_eq!(add(&mut page, 0, 4_711), 19 << 32);
+    assert_eq!(settle_member(&tariff, &mut page, 1, 4_711, &trip, &mut statement), 19 << 32);
+    assert_eq!(add(&mut page, 2, 7), 21 << 32);
+    assert_eq!(close(&mut page, 0, 815), PLACE_BYTES as u64);
+    assert!(page[PLACE_BYTES..6 * PLACE_BYTES].iter().all(|&byte| byte == 0));
+    assert_eq!(page[6 * PLACE_BYTES..6 * PLACE_BYTES + other.len()], other);
 }
 
 /// The table of the statement that the page puts together.

@@ -10,7 +10,7 @@ fn planted(name: &str) -> (bool, String) {
 }
 
 /// Each planted error, and words of the difference that it makes.
-const FOUND: [(&str, &str); 37] = [
+const FOUND: [(&str, &str); 41] = [
     ("refusal_12_writes_the_book", "the copy refused, and changed the book"),
     ("stops_after_stamps", "by the model: refused 7 at 0 (unknown stop)\n  by the copy: refused 8 at 0"),
     ("rounding_once_at_the_end", "of the statement is"),
@@ -50,6 +50,10 @@ const FOUND: [(&str, &str); 37] = [
     ),
     ("page_before_the_tariff", "\n  by the copy: refused 18 at 0"),
     ("others_books_looked_at", "\n  by the copy: refused 4 at 0 (book not sound)"),
+    ("doubled_in_the_other_half", "\n  by the copy: refused 18 at 0"),
+    ("room_in_the_other_half", "by the model: refused 20 at 0 (no free place)\n  by the copy: accepted"),
+    ("association_after_the_page", "by the model: refused 21 at 0 (no such association)\n  by the copy: refused 18"),
+    ("other_half_written", "bytes of the page differ, first byte"),
     ("reads_past_the_trip", "signal 11 instead of an answer"),
 ];
 

@@ -33,41 +33,41 @@ static PAINTER: Mutex<Option<BufWriter<ChildStdin>>> = Mutex::new(None);
 /// The library, with each call made on a painted stack first.
 const PAINTED: Functions = Functions {
     check: |tariff| {
-        paint(CHECK, [tariff, &[], &[], &[]], 0);
+        paint(CHECK, [tariff, &[], &[], &[]], [0; 2]);
         (LIBRARY.check)(tariff)
     },
     settle: |tariff, book, trip, statement| {
-        paint(SETTLE, [tariff, book, trip, statement], 0);
+        paint(SETTLE, [tariff, book, trip, statement], [0; 2]);
         (LIBRARY.settle)(tariff, book, trip, statement)
     },
     quote: |tariff, book, trip, statement| {
-        paint(QUOTE, [tariff, book, trip, statement], 0);
+        paint(QUOTE, [tariff, book, trip, statement], [0; 2]);
         (LIBRARY.quote)(tariff, book, trip, statement)
     },
     post: |tariff, book, trip, record| {
-        paint(POST, [tariff, book, trip, record], 0);
+        paint(POST, [tariff, book, trip, record], [0; 2]);
         (LIBRARY.post)(tariff, book, trip, record)
     },
     read: |statement, at, fields| {
-        paint(READ, [statement, fields, &[], &[]], at);
+        paint(READ, [statement, fields, &[], &[]], [at, 0]);
         (LIBRARY.read)(statement, at, fields)
     },
-    add: |page, member| {
-        paint(ADD, [page, &[], &[], &[]], member as usize);
-        (LIBRARY.add)(page, member)
+    add: |page, association, member| {
+        paint(ADD, [page, &[], &[], &[]], [association as usize, member as usize]);
+        (LIBRARY.add)(page, association, member)
     },
-    close: |page, member| {
-        paint(CLOSE, [page, &[], &[], &[]], member as usize);
-        (LIBRARY.close)(page, member)
+    close: |page, association, member| {
+        paint(CLOSE, [page, &[], &[], &[]], [association as usize, member as usize]);
+        (LIBRARY.close)(page, association, member)
     },
-    settle_member: |tariff, page, member, trip, statement| {
-        paint(SETTLE_MEMBER, [tariff, page, trip, statement], member as usize);
-        (LIBRARY.settle_member)(tariff, page, member, trip, statement)
+    settle_member: |tariff, page, association, member, trip, statement| {
+        paint(SETTLE_MEMBER, [tariff, page, trip, statement], [association as usize, member as usize]);
+        (LIBRARY.settle_member)(tariff, page, association, member, trip, statement)
     },
 };
 
-fn paint(function: usize, slices: [&[u8]; 4], number: usize) {
-    let call = Call { slices, number };
+fn paint(function: usize, slices: [&[u8]; 4], numbers: [usize; 2]) {
+    let call = Call { slices, numbers };
     CALLS[function].fetch_add(1, Relaxed);
     MOST[function].fetch_max(depth_of(function, &call), Relaxed);
     if let Some(painter) = PAINTER.lock().expect("one thread").as_mut() {

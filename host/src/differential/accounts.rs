@@ -21,7 +21,8 @@ use crate::model::tariff::Tariff;
 use calls::{Call, PageCase};
 use damage::damage;
 use pages::{
-    book_of, book_to_plan_on, is_taken, member_in, members_in, page_with, pool, put_number, some_book, OUTSIDE,
+    book_of, book_to_plan_on, is_taken, member_in, members_in, other_half, page_with, pool, put_number, some_book,
+    OUTSIDE,
 };
 
 const STEPS: u64 = 24;
@@ -31,23 +32,32 @@ struct Chain {
     bytes: Vec<u8>,
     tariff: Tariff,
     page: Vec<u8>,
-    /// Who is added, settled and closed.
+    /// Who is added, settled and closed, in both associations.
     pool: Vec<u32>,
     /// The check-in of a member's next trip, where the book has none.
     now: u64,
 }
 
-/// A chain of calls on one page: a third of them damaged. What a damaged one leaves is not kept.
+/// A chain of calls of both associations on one page: a third of them damaged. What a damaged one leaves is not kept. Some are
+/// made with another half for the other association besides.
 pub fn chain(random: &mut Random, run: &mut Run) -> Result<(), Difference> {
-    let many = random.pick(&[0, 1, 4, 9, 11, 12, 12]);
+    let many = [(); 2].map(|()| random.pick(&[0, 1, 3, 5, 6, 6]));
     let mut chain = Chain::start(random, many);
     for _ in 0..STEPS {
         let mut case = chain.next(random);
-        if random.chance(35) {
+        let is_damaged = random.chance(35);
+        if is_damaged {
             damage(random, &mut case);
-            run.check_page(&case.page_case())?;
+        }
+        let case = case.page_case();
+        let left = if random.chance(25) && case.page.len() == PAGE_BYTES {
+            let other = other_half(random, &case.page, case.association);
+            run.check_twins(&case, &other)?
         } else {
-            chain.page = run.check_page(&case.page_case())?;
+            run.check_page(&case)?
+        };
+        if !is_damaged {
+            chain.page = left;
         }
     }
     Ok(())
@@ -56,6 +66,7 @@ pub fn chain(random: &mut Random, run: &mut Run) -> Result<(), Difference> {
 /// A call on a page with what its trip was made of, before any damage.
 pub struct PageDraft {
     pub page: Vec<u8>,
+    pub association: u32,
     pub member: u32,
     pub call: Call,
     /// Tariff, trip and the statement's length; the book is the member's, and not given.
@@ -67,17 +78,18 @@ impl PageDraft {
     fn page_case(&self) -> PageCase {
         let Case { tariff, trip, room, .. } = self.draft.case.clone();
         let story = [self.story.clone(), self.draft.case.story.clone()].concat();
-        PageCase { page: self.page.clone(), member: self.member, call: self.call, tariff, trip, room, story }
+        let PageDraft { association, member, call, .. } = *self;
+        PageCase { page: self.page.clone(), association, member, call, tariff, trip, room, story }
     }
 }
 
 impl Chain {
-    fn start(random: &mut Random, many: usize) -> Chain {
+    fn start(random: &mut Random, many: [usize; 2]) -> Chain {
         let now = start(random);
         let bytes = tariff(random);
         let tariff = read_tariff(&bytes).expect("the makers of tariffs make no faults");
         let pool = pool(random);
-        let page = page_with(random, &pool[..many], tariff.areas.len(), now);
+        let page = page_with(random, many, &pool, tariff.areas.len(), now);
         Chain { bytes, tariff, page, pool, now }
     }
 
@@ -85,39 +97,56 @@ impl Chain {
     fn next(&self, random: &mut Random) -> PageDraft {
         let call = random.pick(&[Call::Add, Call::Add, Call::Close, Call::Settle, Call::Settle, Call::Settle]);
         let is_there = random.chance(if call == Call::Add { 20 } else { 85 });
-        let some: Vec<u32> =
-            self.pool.iter().copied().filter(|&member| is_taken(&self.page, member) == is_there).collect();
+        let association = random.pick(&[0, 1]);
+        let is_it = |member: &u32| is_taken(&self.page, association, *member) == is_there;
+        let some: Vec<u32> = self.pool.iter().copied().filter(is_it).collect();
         let member = if some.is_empty() { random.pick(&self.pool) } else { random.pick(&some) };
-        self.draft(random, call, member)
+        self.draft(random, call, association, member)
     }
 
     /// A call for a member; the trip is one that fits that member's book.
-    fn draft(&self, random: &mut Random, call: Call, member: u32) -> PageDraft {
-        let book = book_to_plan_on(&self.page, member, self.tariff.areas.len());
+    fn draft(&self, random: &mut Random, call: Call, association: u32, member: u32) -> PageDraft {
+        let book = book_to_plan_on(&self.page, association, member, self.tariff.areas.len());
         let plan = plan(random, &self.tariff, &book, self.now);
         let parts = plan.parts(&self.tariff);
         let case = Case { tariff: self.bytes.clone(), book, trip: plan.bytes(), room: 0, story: Vec::new() };
         let mut draft = Draft { case, layout: Layout::of(&self.tariff), plan, parts };
         draft.case.room = draft.statement_bytes() + random.pick(&[0, 0, 1, 5, 120]);
-        PageDraft { page: self.page.clone(), member, call, draft, story: vec!["a call in a chain"] }
+        PageDraft { page: self.page.clone(), association, member, call, draft, story: vec!["a call in a chain"] }
     }
 }
 
-/// A page with five members, and all that lie one step away from it, each with every call: lengths, numbers asked for,
-/// numbers stored in each place, each two places with one number. And a member added where each set of places is taken.
+/// A page with three members of each association, and all that lie one step away from it, each with every call: associations,
+/// lengths, numbers asked for, numbers stored in each place, each two places with one number. And a member added where each set
+/// of places is taken.
 pub fn sweep(random: &mut Random, run: &mut Run) -> Result<(), Difference> {
-    let chain = Chain::start(random, 5);
-    let members = members_in(&chain.page);
-    let (there, absent) = (members[random.index(members.len())], chain.pool[chain.pool.len() - 1]);
+    let chain = Chain::start(random, [3, 3]);
     for call in Call::ALL {
-        let mut good = chain.draft(random, call, if call == Call::Add { absent } else { there });
-        good.story = vec!["a step away from a good page"];
-        lengths(run, &good)?;
-        numbers_asked_for(run, &good, &members)?;
-        numbers_stored(run, &good)?;
-        numbers_stored_twice(run, &good)?;
+        for association in [0, 1] {
+            let members = members_in(&chain.page, association);
+            let absent = chain.pool[chain.pool.len() - 1];
+            let member = if call == Call::Add { absent } else { random.pick(&members) };
+            let mut good = chain.draft(random, call, association, member);
+            good.story = vec!["a step away from a good page"];
+            associations(run, &good)?;
+            lengths(run, &good)?;
+            numbers_asked_for(run, &good, &members)?;
+            numbers_stored(run, &good)?;
+            numbers_stored_twice(run, &good)?;
+        }
     }
     taken_places(random, run, &chain)
+}
+
+/// Also where 18 holds: with a page that is too short, and with a number that no member has.
+fn associations(run: &mut Run, good: &PageDraft) -> Result<(), Difference> {
+    for association in [0, 1, 2, 3, 6, 255, 256, 257, 1 << 16, 1 << 31, u32::MAX] {
+        let case = PageCase { association, ..good.page_case() };
+        run.check_page(&case)?;
+        run.check_page(&PageCase { page: good.page[1..].to_vec(), ..case.clone() })?;
+        run.check_page(&PageCase { member: 0, ..case })?;
+    }
+    Ok(())
 }
 
 fn lengths(run: &mut Run, good: &PageDraft) -> Result<(), Difference> {
@@ -166,13 +195,15 @@ fn numbers_stored_twice(run: &mut Run, good: &PageDraft) -> Result<(), Differenc
     Ok(())
 }
 
-/// Adding takes the lowest free place, whichever are taken.
+/// Adding takes the association's lowest free place, whichever are taken of all twelve.
 fn taken_places(random: &mut Random, run: &mut Run, chain: &Chain) -> Result<(), Difference> {
-    let good = chain.draft(random, Call::Add, chain.pool[PLACES]);
+    let good = chain.draft(random, Call::Add, 0, chain.pool[PLACES]);
     for taken in 0..1 << PLACES {
-        let mut case = good.page_case();
+        // Each association has half of the sets: those of an odd or of an even number of members.
+        let mut case = PageCase { association: u32::count_ones(taken) % 2, ..good.page_case() };
         for place in 0..PLACES {
-            put_number(&mut case.page, place, if taken >> place & 1 == 1 { chain.pool[place] } else { FREE as u32 });
+            let is_taken = taken >> place & 1 == 1;
+            put_number(&mut case.page, place, if is_taken { chain.pool[place] } else { FREE as u32 });
         }
         run.check_page(&case)?;
     }

@@ -17,11 +17,11 @@ pub type Post = fn(&[u8], &mut [u8], &[u8], &[u8]) -> u64;
 /// Reads: statement, offset, fields, and the answer's number.
 pub type Read = fn(&[u8], usize, &mut [u8]) -> u64;
 
-/// Adds or closes: page, member, and the answer's number.
-pub type ChangePage = fn(&mut [u8], u32) -> u64;
+/// Adds or closes: page, association, member, and the answer's number.
+pub type ChangePage = fn(&mut [u8], u32, u32) -> u64;
 
-/// Settles a member: tariff, page, member, trip, statement, and the answer's number.
-pub type SettleMember = fn(&[u8], &mut [u8], u32, &[u8], &mut [u8]) -> u64;
+/// Settles a member: tariff, page, association, member, trip, statement, and the answer's number.
+pub type SettleMember = fn(&[u8], &mut [u8], u32, u32, &[u8], &mut [u8]) -> u64;
 
 #[derive(Clone, Copy)]
 pub struct Functions {
@@ -42,10 +42,10 @@ pub const MODEL: Functions = Functions {
     quote: |tariff, book, trip, statement| number_of(model::quote(tariff, book, trip, statement)),
     post: |tariff, book, trip, record| number_of(model::post(tariff, book, trip, record)),
     read: |statement, at, fields| number_of(model::read(statement, at, fields)),
-    add: |page, member| number_of(model::add(page, member)),
-    close: |page, member| number_of(model::close(page, member)),
-    settle_member: |tariff, page, member, trip, statement| {
-        number_of(model::settle_member(tariff, page, member, trip, statement))
+    add: |page, association, member| number_of(model::add(page, association, member)),
+    close: |page, association, member| number_of(model::close(page, association, member)),
+    settle_member: |tariff, page, association, member, trip, statement| {
+        number_of(model::settle_member(tariff, page, association, member, trip, statement))
     },
 };
 

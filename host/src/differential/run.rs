@@ -26,8 +26,9 @@ pub struct Run {
     pub(super) fourth: Guarded,
     /// A statement that is read.
     kept: Guarded,
-    /// A page of accounts.
+    /// A page of accounts, and the number that the last call on one answered.
     pub(super) accounts: Guarded,
+    pub(super) answer: u64,
     /// What was settled in this part of the run.
     settled: Vec<Vec<u8>>,
     /// The last tariff that was checked alone.
@@ -60,7 +61,7 @@ impl Run {
     pub fn of(name: &'static str, functions: Functions, print: bool) -> Run {
         let [tariff, book, trip, fourth, kept, accounts] = [(); 6].map(|_| Guarded::new());
         let (settled, checked, counts) = (Vec::new(), Vec::new(), Counts::default());
-        let (seed, part, case) = (0, 0, 0);
+        let (answer, seed, part, case) = (0, 0, 0, 0);
         Run {
             name,
             functions,
@@ -70,6 +71,7 @@ impl Run {
             fourth,
             kept,
             accounts,
+            answer,
             settled,
             checked,
             counts,

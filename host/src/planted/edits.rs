@@ -7,7 +7,7 @@ pub struct Planted {
     pub edits: &'static [(&'static str, &'static str, &'static str)],
 }
 
-pub const PLANTED: [Planted; 36] = [
+pub const PLANTED: [Planted; 40] = [
     // Promise 1: a refusal changes nothing, and the refusals are tried in their order.
     Planted {
         name: "refusal_12_writes_the_book",
@@ -216,7 +216,14 @@ pub const PLANTED: [Planted; 36] = [
         )],
     },
     // A page of accounts: the lowest place, the whole of it and no other, every number, and the order of the refusals.
-    Planted { name: "highest_free_place", edits: &[("page.rs", "numbers.iter().position(|&number| number == FREE)", "numbers.iter().rposition(|&number| number == FREE)")] },
+    Planted {
+        name: "highest_free_place",
+        edits: &[(
+            "page.rs",
+            "self.numbers.iter().position(|&number| number == FREE)",
+            "self.numbers.iter().rposition(|&number| number == FREE)",
+        )],
+    },
     Planted {
         name: "closing_clears_the_number_alone",
         edits: &[("page.rs", "page[bytes_of(place)].fill(0);", "page[bytes_of(place)][..NUMBER_BYTES].fill(0);")],
@@ -244,32 +251,28 @@ pub const PLANTED: [Planted; 36] = [
         edits: &[(
             "page.rs",
             "members.iter().all(|&member| is_stored_once(member))",
-            "members.iter().take(10).all(|&member| is_stored_once(member))",
+            "members.iter().take(4).all(|&member| is_stored_once(member))",
         )],
     },
     Planted {
         name: "free_by_its_first_byte",
         edits: &[(
             "page.rs",
-            "numbers.iter().position(|&number| number == FREE)",
-            "numbers.iter().position(|&number| number % 256 == FREE)",
+            "self.numbers.iter().position(|&number| number == FREE)",
+            "self.numbers.iter().position(|&number| number % 256 == FREE)",
         )],
     },
     Planted {
         name: "full_page_before_the_member",
         edits: &[(
             "page.rs",
-            "unless(place_of(&numbers, member).is_none(), 19)?;",
-            "unless(numbers.contains(&FREE), 20)?; unless(place_of(&numbers, member).is_none(), 19)?;",
+            "unless(half.place_of(member).is_none(), 19)?;",
+            "unless(half.free_place().is_some(), 20)?; unless(half.place_of(member).is_none(), 19)?;",
         )],
     },
     Planted {
         name: "page_before_the_tariff",
-        edits: &[(
-            "page.rs",
-            "read_tariff(tariff)?;",
-            "numbers_of(page, member)?; read_tariff(tariff)?;",
-        )],
+        edits: &[("page.rs", "read_tariff(tariff)?;", "Half::of(page, association, member)?; read_tariff(tariff)?;")],
     },
     Planted {
         name: "others_books_looked_at",
@@ -278,7 +281,52 @@ pub const PLANTED: [Planted; 36] = [
             "// 4 to 12, and 17\n",
             "let areas = read_tariff(tariff)?.areas.len();
              let is_sound = |place| Book::read(&page[book_of(place)]).is_some_and(|book| book.is_sound(areas));
-             unless((0..PLACES).all(|place| numbers[place] == FREE || is_sound(place)), 4)?;\n",
+             let own = half.first..half.first + PLACES_OF_EACH;
+             unless(own.into_iter().all(|place| half.numbers[place - half.first] == FREE || is_sound(place)), 4)?;\n",
+        )],
+    },
+    // Two associations on it: neither's half matters to the other, and 21 goes before 18.
+    Planted {
+        name: "doubled_in_the_other_half",
+        edits: &[(
+            "page.rs",
+            "let own = page.chunks(PLACE_BYTES).skip(first)",
+            "let all: Vec<u64> = page.chunks(PLACE_BYTES).map(|place| number(&place[..NUMBER_BYTES])).collect();
+             let is_once = |number: u64| number == FREE || all.iter().filter(|&&other| other == number).count() < 3;
+             unless(all.iter().all(|&number| is_once(number)), 18)?;
+             let own = page.chunks(PLACE_BYTES).skip(first)",
+        )],
+    },
+    Planted {
+        name: "room_in_the_other_half",
+        edits: &[(
+            "page.rs",
+            "half.free_place().ok_or(refused(20))?;",
+            "match half.free_place() {
+                 Some(place) => place,
+                 None => Half::of(page, 1 - association, member)?.free_place().ok_or(refused(20))?,
+             };",
+        )],
+    },
+    Planted {
+        name: "association_after_the_page",
+        edits: &[
+            ("page.rs", "unless(association < ASSOCIATIONS, 21)?;", ""),
+            (
+                "page.rs",
+                "unless(is_a_members(member.into()), 18)?;",
+                "unless(is_a_members(member.into()), 18)?; unless(association < ASSOCIATIONS, 21)?;",
+            ),
+        ],
+    },
+    Planted {
+        name: "other_half_written",
+        edits: &[(
+            "page.rs",
+            "page[bytes_of(place)].fill(0);",
+            "page[bytes_of(place)].fill(0);
+             let other = bytes_of((place + PLACES_OF_EACH) % PLACES);
+             if number(&page[other.clone()][..NUMBER_BYTES]) == u64::from(member) { page[other].fill(0); }",
         )],
     },
 ];

@@ -29,6 +29,7 @@ impl Call {
 #[derive(Clone, Debug)]
 pub struct PageCase {
     pub page: Vec<u8>,
+    pub association: u32,
     pub member: u32,
     pub call: Call,
     pub tariff: Vec<u8>,
@@ -42,7 +43,7 @@ pub struct PageCase {
 impl PageCase {
     /// What is asked, and of which page.
     pub fn in_words(&self) -> String {
-        let PageCase { page, member, call, tariff, trip, room, story } = self;
+        let PageCase { page, association, member, call, tariff, trip, room, story } = self;
         let mut text = format!("made as: {}\npage of {} bytes:", story.join(", "), page.len());
         for (place, bytes) in page.chunks(PLACE_BYTES).enumerate() {
             text += &match bytes.len() {
@@ -50,7 +51,7 @@ impl PageCase {
                 more => format!("\n  and {more} bytes"),
             };
         }
-        text += &format!("\n{} member {member}", call.doing());
+        text += &format!("\n{} member {member} of association {association}", call.doing());
         if *call == Call::Settle {
             text += &format!(
                 ", with a statement of {room} bytes\ntariff of {} bytes:{}",

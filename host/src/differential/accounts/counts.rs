@@ -1,11 +1,11 @@
 //! What calls on pages came to: how many were accepted, by what they met, and how many refused, by number and cause.
 
 use super::calls::{Call, PageCase};
-use super::pages::{book_of, is_sound, member_in, place_of};
+use super::pages::{book_of, is_sound, member_in, place_of, places_of};
 use crate::answer::Refusal as Named;
 use crate::differential::books::{word, TRIPS};
 use crate::differential::counts::NUMBERS;
-use crate::model::page::{FREE, LARGEST_NUMBER, PAGE_BYTES, PLACES};
+use crate::model::page::{FREE, LARGEST_NUMBER, PAGE_BYTES, PLACES, PLACES_OF_EACH};
 use crate::model::{read_tariff, Refusal};
 use std::fmt;
 
@@ -24,64 +24,113 @@ const CAUSES: [(&str, fn(&PageCase) -> bool); 7] = [
 /// several.
 type Way = (Call, usize, &'static str, fn(&PageCase) -> bool);
 
-const WAYS: [Way; 29] = [
-    (Call::Add, 0, "in the first place", |case| place_of(&case.page, 0) == Some(0)),
+const WAYS: [Way; 52] = [
+    (Call::Add, 0, "in its first place", |case| free_place(case) == Some(0)),
     (Call::Add, 0, "between two members", |case| {
-        let free = place_of(&case.page, 0).expect("accepted, so there is one");
-        (0..free).any(|place| is_taken(case, place)) && (free..PLACES).any(|place| is_taken(case, place))
+        let free = free_place(case).expect("accepted, so there is one");
+        let is_taken = |place: usize| own(case, place) != FREE;
+        (0..free).any(is_taken) && (free..PLACES_OF_EACH).any(is_taken)
     }),
-    (Call::Add, 0, "in the last place", |case| place_of(&case.page, 0) == Some(PLACES - 1)),
+    (Call::Add, 0, "in its last place", |case| free_place(case) == Some(PLACES_OF_EACH - 1)),
     (Call::Add, 0, "where anything stood", |case| {
-        let free = place_of(&case.page, 0).expect("accepted, so there is one");
+        let free = place_of(&case.page, case.association, 0).expect("accepted, so there is one");
         case.page[book_of(free)].iter().any(|&byte| byte != 0)
     }),
     (Call::Add, 0, "member 1", |case| case.member == 1),
     (Call::Add, 0, "member 999,999,999", |case| u64::from(case.member) == LARGEST_NUMBER),
     (Call::Add, 0, "a member whose first byte is 0", |case| case.member.is_multiple_of(256)),
+    (Call::Add, 0, "association 0", |case| case.association == 0),
+    (Call::Add, 0, "association 1", |case| case.association == 1),
+    (Call::Add, 0, "18 would hold in the other half", other_half_is_wrong),
+    (Call::Add, 0, "the number stands in the other half", is_in_the_other_half),
+    (Call::Add, 0, "the other half is full", |case| numbers_of(case, 1).all(|number| number != FREE)),
     (Call::Add, 18, "another's number stored twice, of a member already there", |case| {
         is_doubled(case, |number| number != case.member) && is_there(case)
     }),
-    (Call::Add, 19, "a place is free", |case| place_of(&case.page, 0).is_some()),
-    (Call::Add, 19, "no place is free, so that 20 holds too", |case| place_of(&case.page, 0).is_none()),
-    (Call::Add, 20, "all twelve are taken", |case| numbers(case).all(|number| number != FREE)),
+    (Call::Add, 19, "a place is free", |case| free_place(case).is_some()),
+    (Call::Add, 19, "no place is free, so that 20 holds too", |case| free_place(case).is_none()),
+    (Call::Add, 20, "a place is free in the other half", |case| numbers_of(case, 1).any(|number| number == FREE)),
+    (Call::Add, 20, "all twelve are taken", |case| numbers_of(case, 1).all(|number| number != FREE)),
+    (Call::Add, 21, "18 holds too", eighteen_holds),
+    (Call::Add, 21, "18 does not hold", |case| !eighteen_holds(case)),
     (Call::Close, 0, "an open window", |case| word(own_book(case), TRIPS) != 0),
     (Call::Close, 0, "a book that is not sound", |case| !is_sound(own_book(case), 32)),
-    (Call::Close, 0, "the last place", |case| place_of(&case.page, case.member) == Some(PLACES - 1)),
+    (Call::Close, 0, "the last place", |case| own(case, PLACES_OF_EACH - 1) == case.member.into()),
+    (Call::Close, 0, "association 0", |case| case.association == 0),
+    (Call::Close, 0, "association 1", |case| case.association == 1),
+    (Call::Close, 0, "18 would hold in the other half", other_half_is_wrong),
+    (Call::Close, 0, "the number stands in the other half", is_in_the_other_half),
     (Call::Close, 18, "another's number stored twice, of a member who is not there", |case| {
         is_doubled(case, |number| number != case.member) && !is_there(case)
     }),
-    (Call::Close, 19, "an empty page", |case| numbers(case).all(|number| number == FREE)),
-    (Call::Close, 19, "a page with others", |case| numbers(case).any(|number| number != FREE)),
+    (Call::Close, 19, "an empty half", |case| numbers(case).all(|number| number == FREE)),
+    (Call::Close, 19, "a half with others", |case| numbers(case).any(|number| number != FREE)),
+    (Call::Close, 19, "the number stands in the other half", is_in_the_other_half),
+    (Call::Close, 21, "18 holds too", eighteen_holds),
+    (Call::Close, 21, "18 does not hold", |case| !eighteen_holds(case)),
     (Call::Settle, 0, "a fresh book", |case| word(own_book(case), TRIPS) == 0),
     (Call::Settle, 0, "an open window", |case| word(own_book(case), TRIPS) != 0),
     (Call::Settle, 0, "beside a book that is not sound", is_beside_unsound),
     (Call::Settle, 0, "anything in a free place", |case| {
-        (0..PLACES).any(|place| !is_taken(case, place) && case.page[book_of(place)].iter().any(|&byte| byte != 0))
+        let is_free = |place: &usize| u64::from(member_in(&case.page, *place)) == FREE;
+        (0..PLACES).filter(is_free).any(|place| case.page[book_of(place)].iter().any(|&byte| byte != 0))
     }),
-    (Call::Settle, 0, "the first place", |case| place_of(&case.page, case.member) == Some(0)),
-    (Call::Settle, 0, "the last place", |case| place_of(&case.page, case.member) == Some(PLACES - 1)),
-    (Call::Settle, 1, "18 holds too", eighteen_holds),
-    (Call::Settle, 2, "18 holds too", eighteen_holds),
-    (Call::Settle, 3, "18 holds too", eighteen_holds),
+    (Call::Settle, 0, "the first place", |case| own(case, 0) == case.member.into()),
+    (Call::Settle, 0, "the last place", |case| own(case, PLACES_OF_EACH - 1) == case.member.into()),
+    (Call::Settle, 0, "association 0", |case| case.association == 0),
+    (Call::Settle, 0, "association 1", |case| case.association == 1),
+    (Call::Settle, 0, "18 would hold in the other half", other_half_is_wrong),
+    (Call::Settle, 0, "the number stands in the other half", is_in_the_other_half),
+    (Call::Settle, 1, "21 or 18 holds too", |case| case.association > 1 || eighteen_holds(case)),
+    (Call::Settle, 2, "21 or 18 holds too", |case| case.association > 1 || eighteen_holds(case)),
+    (Call::Settle, 3, "21 or 18 holds too", |case| case.association > 1 || eighteen_holds(case)),
     (Call::Settle, 18, "another's number stored twice, of a member who is not there", |case| {
         is_doubled(case, |number| number != case.member) && !is_there(case)
     }),
     (Call::Settle, 19, "of others' books one is not sound", is_beside_unsound),
+    (Call::Settle, 19, "the number stands in the other half", is_in_the_other_half),
+    (Call::Settle, 21, "18 holds too", eighteen_holds),
+    (Call::Settle, 21, "18 does not hold", |case| !eighteen_holds(case)),
     (Call::Settle, 4, "the other books are sound", |case| !is_beside_unsound(case)),
+    (Call::Settle, 4, "18 would hold in the other half", other_half_is_wrong),
 ];
 
-/// The stored numbers; none where the page has another length.
-fn numbers(case: &PageCase) -> impl Iterator<Item = u64> + '_ {
-    let many = if case.page.len() == PAGE_BYTES { PLACES } else { 0 };
-    (0..many).map(|place| member_in(&case.page, place).into())
+/// What calls with two pages that agree in one half have to meet.
+const TWINS: [(Call, &[usize]); 3] =
+    [(Call::Add, &[0, 18, 19, 20]), (Call::Close, &[0, 18, 19]), (Call::Settle, &[0, 18, 19, 4])];
+
+/// The numbers stored in the association's half, with `other` 1 those in the other; none where the page has another length.
+fn numbers_of(case: &PageCase, other: u32) -> impl Iterator<Item = u64> + '_ {
+    let has_its_length = case.page.len() == PAGE_BYTES;
+    places_of(case.association ^ other).filter(move |_| has_its_length).map(|place| member_in(&case.page, place).into())
 }
 
-fn is_taken(case: &PageCase, place: usize) -> bool {
-    u64::from(member_in(&case.page, place)) != FREE
+fn numbers(case: &PageCase) -> impl Iterator<Item = u64> + '_ {
+    numbers_of(case, 0)
+}
+
+/// The number in one of the association's own places, counted from 0.
+fn own(case: &PageCase, place: usize) -> u64 {
+    numbers(case).nth(place).expect("the page has its length")
+}
+
+/// The first free one of them.
+fn free_place(case: &PageCase) -> Option<usize> {
+    numbers(case).position(|number| number == FREE)
 }
 
 fn is_there(case: &PageCase) -> bool {
     numbers(case).any(|number| number == case.member.into())
+}
+
+fn is_in_the_other_half(case: &PageCase) -> bool {
+    numbers_of(case, 1).any(|number| number == case.member.into())
+}
+
+/// Whether the other association would be refused with 18, whoever is asked for.
+fn other_half_is_wrong(case: &PageCase) -> bool {
+    let other = PageCase { association: case.association ^ 1, member: 1, ..case.clone() };
+    eighteen_holds(&other)
 }
 
 /// Whether a number of this kind is stored twice.
@@ -95,14 +144,15 @@ fn eighteen_holds(case: &PageCase) -> bool {
 }
 
 fn own_book(case: &PageCase) -> &[u8] {
-    &case.page[book_of(place_of(&case.page, case.member).expect("accepted, so there is one"))]
+    &case.page[book_of(place_of(&case.page, case.association, case.member).expect("accepted, so there is one"))]
 }
 
-/// Whether another member's book is not sound under the tariff.
+/// Whether another member's book, in either half, is not sound under the tariff.
 fn is_beside_unsound(case: &PageCase) -> bool {
     let areas = read_tariff(&case.tariff).map_or(0, |tariff| tariff.areas.len());
-    let others = (0..PLACES).filter(|&place| is_taken(case, place) && member_in(&case.page, place) != case.member);
-    others.into_iter().any(|place| !is_sound(&case.page[book_of(place)], areas))
+    let own = place_of(&case.page, case.association, case.member);
+    let is_anothers = |place: &usize| Some(*place) != own && u64::from(member_in(&case.page, *place)) != FREE;
+    (0..PLACES).filter(is_anothers).any(|place| !is_sound(&case.page[book_of(place)], areas))
 }
 
 #[derive(Default)]
@@ -111,13 +161,16 @@ pub struct Accounts {
     answers: [[u64; NUMBERS]; 3],
     /// By call: those that were refused by 18 for one cause alone.
     causes: [[u64; CAUSES.len()]; 3],
-    ways: [u64; WAYS.len()],
+    ways: Vec<u64>,
+    /// By call and answer: those made with two pages that agree in one half.
+    twins: [[u64; NUMBERS]; 3],
 }
 
 impl Accounts {
     pub fn count(&mut self, case: &PageCase, answer: Result<usize, Refusal>) {
         let given = answer.err().map_or(0, |refusal| refusal.number as usize);
         self.answers[case.call as usize][given] += 1;
+        self.ways.resize(WAYS.len(), 0);
         for (count, (call, number, _, is_so)) in self.ways.iter_mut().zip(WAYS) {
             *count += u64::from(call == case.call && number == given && is_so(case));
         }
@@ -127,6 +180,10 @@ impl Accounts {
                 self.causes[case.call as usize][cause] += 1;
             }
         }
+    }
+
+    pub fn count_twins(&mut self, case: &PageCase, answer: u64) {
+        self.twins[case.call as usize][(answer >> 32) as usize] += 1;
     }
 
     pub fn calls(&self) -> u64 {
@@ -143,8 +200,12 @@ impl Accounts {
             let causes = CAUSES.iter().zip(self.causes[call as usize]).filter(|(_, count)| *count == 0);
             all.extend(causes.map(|((cause, _), _)| told(call, 18, cause)));
         }
-        let ways = WAYS.iter().zip(self.ways).filter(|(_, count)| *count == 0);
+        let ways = WAYS.iter().zip(&self.ways).filter(|(_, &count)| count == 0);
         all.extend(ways.map(|((call, number, way, _), _)| told(*call, *number, way)));
+        for (call, due) in TWINS {
+            let missing = due.iter().filter(|&&number| self.twins[call as usize][number] == 0);
+            all.extend(missing.map(|&number| told(call, number, "with two pages that agree in one half")));
+        }
         all
     }
 }
@@ -152,9 +213,11 @@ impl Accounts {
 /// The answers that have to be met: 0 for acceptance, and the refusals that the call has.
 fn due(call: Call) -> Vec<usize> {
     match call {
-        Call::Add => vec![0, 18, 19, 20],
-        Call::Close => vec![0, 18, 19],
-        Call::Settle => [0, 18, 19].into_iter().chain(Named::of_settling().map(|refusal| refusal as usize)).collect(),
+        Call::Add => vec![0, 21, 18, 19, 20],
+        Call::Close => vec![0, 21, 18, 19],
+        Call::Settle => {
+            [0, 21, 18, 19].into_iter().chain(Named::of_settling().map(|refusal| refusal as usize)).collect()
+        }
     }
 }
 
@@ -170,11 +233,16 @@ impl fmt::Display for Accounts {
                 for ((cause, _), count) in causes {
                     writeln!(out, "  {count:>8}    {cause} alone")?;
                 }
-                let ways = WAYS.iter().zip(self.ways).filter(|(way, _)| way.0 == call && way.1 == given);
+                let ways = WAYS.iter().zip(&self.ways).filter(|(way, _)| way.0 == call && way.1 == given);
                 for ((_, _, way, _), count) in ways {
                     writeln!(out, "  {count:>8}    {way}")?;
                 }
             }
+        }
+        writeln!(out, "  of them made with two pages that agree in one half, accepted and refused by number:")?;
+        for (call, due) in TWINS {
+            let counts = due.iter().map(|&number| format!("{number}: {}", self.twins[call as usize][number]));
+            writeln!(out, "    {} a member {}", call.doing(), counts.collect::<Vec<String>>().join(", "))?;
         }
         Ok(())
     }

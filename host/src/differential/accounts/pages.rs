@@ -4,7 +4,7 @@ use crate::differential::books::{self, fresh, sound_at_the_edges, spoil};
 use crate::differential::random::Random;
 use crate::differential::report::book_in_words;
 use crate::model::book::Book;
-use crate::model::page::{FREE, NUMBER_BYTES, PAGE_BYTES, PLACES, PLACE_BYTES};
+use crate::model::page::{FREE, NUMBER_BYTES, PAGE_BYTES, PLACES_OF_EACH, PLACE_BYTES};
 use crate::numbers::number;
 use std::ops::Range;
 
@@ -29,17 +29,45 @@ pub fn pool(random: &mut Random) -> Vec<u32> {
     all
 }
 
-/// A page with these members in any places, each with some book. In the free places stands nothing, or anything.
-pub fn page_with(random: &mut Random, members: &[u32], areas: usize, now: u64) -> Vec<u8> {
+/// The places of an association.
+pub fn places_of(association: u32) -> Range<usize> {
+    let first = PLACES_OF_EACH * (association as usize % 2);
+    first..first + PLACES_OF_EACH
+}
+
+/// The bytes of these places.
+pub fn half_of(association: u32) -> Range<usize> {
+    let Range { start, end } = places_of(association);
+    PLACE_BYTES * start..PLACE_BYTES * end
+}
+
+/// A page with so many members of each association, in any of its places and the same ones of the pool as far as they go, each
+/// with some book. In the free places stands nothing, or anything.
+pub fn page_with(random: &mut Random, many: [usize; 2], pool: &[u32], areas: usize, now: u64) -> Vec<u8> {
     let mut page = vec![0; PAGE_BYTES];
-    let mut places: Vec<usize> = (0..PLACES).collect();
-    for &member in members {
-        let place = places.swap_remove(random.index(places.len()));
-        put_number(&mut page, place, member);
-        super::put_some_book(random, &mut page, place, areas, now);
+    for (association, many) in (0..).zip(many) {
+        let mut places: Vec<usize> = places_of(association).collect();
+        for &member in &pool[..many] {
+            let place = places.swap_remove(random.index(places.len()));
+            put_number(&mut page, place, member);
+            super::put_some_book(random, &mut page, place, areas, now);
+        }
+        for place in places {
+            if random.chance(50) {
+                fill_behind_the_number(random, &mut page, place);
+            }
+        }
     }
-    for place in places {
-        if random.chance(50) {
+    page
+}
+
+/// Another half for the other association: one that would be refused, or anything.
+pub fn other_half(random: &mut Random, page: &[u8], association: u32) -> Vec<u8> {
+    let mut page = page.to_vec();
+    for place in places_of(association ^ 1) {
+        let stored = random.pick(&[0, 1, 7, 7, 7, 999_999_999, 1_000_000_000, u32::MAX]);
+        put_number(&mut page, place, stored);
+        if random.chance(30) {
             fill_behind_the_number(random, &mut page, place);
         }
     }
@@ -83,23 +111,24 @@ pub fn put_number(page: &mut [u8], place: usize, member: u32) {
     }
 }
 
-/// The numbers of the places that are not free, in order.
-pub fn members_in(page: &[u8]) -> Vec<u32> {
-    (0..PLACES).map(|place| member_in(page, place)).filter(|&member| u64::from(member) != FREE).collect()
+/// The numbers of the association's places that are not free, in order.
+pub fn members_in(page: &[u8], association: u32) -> Vec<u32> {
+    let all = places_of(association).map(|place| member_in(page, place));
+    all.filter(|&member| u64::from(member) != FREE).collect()
 }
 
-/// The first place with this number.
-pub fn place_of(page: &[u8], member: u32) -> Option<usize> {
-    (0..PLACES).find(|&place| member_in(page, place) == member)
+/// The association's first place with this number.
+pub fn place_of(page: &[u8], association: u32, member: u32) -> Option<usize> {
+    places_of(association).find(|&place| member_in(page, place) == member)
 }
 
-pub fn is_taken(page: &[u8], member: u32) -> bool {
-    place_of(page, member).is_some()
+pub fn is_taken(page: &[u8], association: u32, member: u32) -> bool {
+    place_of(page, association, member).is_some()
 }
 
 /// The member's book, where it is sound; else a fresh one.
-pub fn book_to_plan_on(page: &[u8], member: u32, areas: usize) -> Vec<u8> {
-    let book = place_of(page, member).and_then(|place| page.get(book_of(place)));
+pub fn book_to_plan_on(page: &[u8], association: u32, member: u32, areas: usize) -> Vec<u8> {
+    let book = place_of(page, association, member).and_then(|place| page.get(book_of(place)));
     book.filter(|book| is_sound(book, areas)).map_or_else(fresh, <[u8]>::to_vec)
 }
 

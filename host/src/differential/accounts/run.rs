@@ -1,6 +1,7 @@
 //! Makes a call on a page on both sides, and compares.
 
 use super::calls::{Call, PageCase};
+use super::pages::half_of;
 use crate::differential::report::slices_differ;
 use crate::differential::run::{blank_statement, Difference, Run};
 use crate::model::page::PLACE_BYTES;
@@ -14,6 +15,37 @@ struct Outcome {
 }
 
 impl Run {
+    /// Makes the call on both sides with two pages that agree in the half of the association that is asked for: what it is told,
+    /// what it is charged and what is left in its half are the same.
+    pub fn check_twins(&mut self, case: &PageCase, other: &[u8]) -> Result<Vec<u8>, Difference> {
+        let twin = PageCase { page: other.to_vec(), ..case.clone() };
+        let own = half_of(case.association);
+        assert!(
+            case.page.len() == other.len() && case.page[own.clone()] == other[own.clone()],
+            "they agree in that half"
+        );
+        let left = self.check_page(case)?;
+        let (answer, statement) = (self.answer, self.fourth.bytes().to_vec());
+        let left_of_twin = self.check_page(&twin)?;
+        let mut faults = Vec::new();
+        if self.answer != answer {
+            faults.push("another answer than with another half of the page".to_string());
+        }
+        // The lent bytes of a statement differ from case to case; what was written to it does not.
+        let written = if answer >> 32 == 0 && case.call == Call::Settle { answer as usize } else { 0 };
+        if self.fourth.bytes()[..written] != statement[..written] {
+            faults.push("other charge records than with another half of the page".to_string());
+        }
+        if left[own.clone()] != left_of_twin[own] {
+            faults.push("something else is left in the half than with another half of the page".to_string());
+        }
+        if !faults.is_empty() {
+            return Err(self.told(&twin.in_words(), &faults));
+        }
+        self.counts.accounts.count_twins(case, answer);
+        Ok(left)
+    }
+
     /// Makes the call on both sides, and answers the page that it leaves.
     pub fn check_page(&mut self, case: &PageCase) -> Result<Vec<u8>, Difference> {
         self.next_case(|| case.in_words());
@@ -24,6 +56,7 @@ impl Run {
         if !faults.is_empty() {
             return Err(self.told(&case.in_words(), &faults));
         }
+        self.answer = number;
         self.counts.accounts.count(case, outcome.answer);
         Ok(outcome.page)
     }
@@ -38,10 +71,11 @@ impl Run {
         let Run { functions, tariff, accounts, trip, fourth, .. } = self;
         let page = accounts.bytes_mut();
         match case.call {
-            Call::Add => (functions.add)(page, case.member),
-            Call::Close => (functions.close)(page, case.member),
+            Call::Add => (functions.add)(page, case.association, case.member),
+            Call::Close => (functions.close)(page, case.association, case.member),
             Call::Settle => {
-                (functions.settle_member)(tariff.bytes(), page, case.member, trip.bytes(), fourth.bytes_mut())
+                let PageCase { association, member, .. } = *case;
+                (functions.settle_member)(tariff.bytes(), page, association, member, trip.bytes(), fourth.bytes_mut())
             }
         }
     }
@@ -75,9 +109,12 @@ impl Run {
 fn by_the_model(case: &PageCase, lent: &[u8]) -> Outcome {
     let (mut page, mut statement) = (case.page.clone(), lent.to_vec());
     let answer = match case.call {
-        Call::Add => model::add(&mut page, case.member),
-        Call::Close => model::close(&mut page, case.member),
-        Call::Settle => model::settle_member(&case.tariff, &mut page, case.member, &case.trip, &mut statement),
+        Call::Add => model::add(&mut page, case.association, case.member),
+        Call::Close => model::close(&mut page, case.association, case.member),
+        Call::Settle => {
+            let PageCase { association, member, .. } = *case;
+            model::settle_member(&case.tariff, &mut page, association, member, &case.trip, &mut statement)
+        }
     };
     Outcome { answer, page, statement }
 }
