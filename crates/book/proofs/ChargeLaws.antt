@@ -20,15 +20,15 @@ use Rattle.caps.proofs.Named.{amount-past, name-past}
 use Rattle.tariff.specs.declared.Counts.{Counts}
 use Rattle.tariff.specs.Rules.{mostMoney, flatOf}
 use Rattle.tariff.specs.Areas.{areaAt, Read, Smallest, isAachen, bicyclePriceOf, FaultlessTariff}
-use Rattle.tariff.specs.Contracts.{FlatOf}
 use Rattle.tariff.proofs.Faultless.{faultless}
-use Rattle.tariff.proofs.Within.{area-flat, common-kind, flat-within, smallest}
+use Rattle.tariff.proofs.Within.{within-refl, area-flat, common-kind, flat-within, smallest-own, smallest}
 use Rattle.fare.specs.declared.Ride.{Ride}
 use Rattle.fare.specs.Prices.{mostPrice}
 use Rattle.fare.specs.Contracts.{Priceable}
 use Rattle.fare.proofs.Steps.{price-most}
 use Rattle.book.specs.declared.Earlier.{Earlier}
 use Rattle.book.specs.declared.Riders.{Riders}
+use Rattle.book.specs.declared.terms.Terms.{Terms}
 use Rattle.book.specs.Words.{secondSum, allSum, firstChild, coverPlace, coverWord, paidPlace, paidWord}
 use Rattle.book.specs.Sound.{mostPaid}
 use Rattle.book.specs.Windows.{inWindow}
@@ -37,7 +37,7 @@ use Rattle.book.specs.Charging.{riderCharge, riderCharges, newCover, pay
 use Rattle.book.specs.Posting.{paidWith}
 use Rattle.book.specs.declared.Cut.{Cut}
 use Rattle.book.specs.Cuts.{riderCut, riderCuts, cutsOf}
-use Rattle.book.specs.Contracts.{Rideable, pendingIn, chainOf, restBy, nameOf, reductionsOf, namesOf, NewCover, Payment, PaidWith, BicycleCharge, PartyAmounts}
+use Rattle.book.specs.Contracts.{Rideable, pendingIn, chainOf, restBy, nameOf, reductionsOf, namesOf, NewCover, TermsOf, payBy, paidBy, PaidWith, BicycleCharge, PartyAmounts}
 use Rattle.book.proofs.Trees.{is-tree}
 use Rattle.book.proofs.Groups.{groupOf, afterGroups, storing}
 use Rattle.book.proofs.WordLaws.{word-fresh}
@@ -104,6 +104,10 @@ module _ (t : List ℕ) (counts : Counts) (a : ℕ) (read : Read t counts) (here
   unfolding newCover
   cover-more old r used s = record { value = rw (ne-eqb old 0 used, s .value); there = s .there }
 
+  -- a bicycle that the ride's own area covers stays with it
+  pub cover-own : (old : ℕ) → (old ≡ 0 → ⊥) → old - 1 ≡ a → NewCover t counts a old a
+  cover-own old used same = cover-more old a used (rw same (smallest-own (faultless t counts read) a a here (within-refl t counts a)))
+
   -- the new covering area contains the old one: so where both are of kind 1, its flat is at least the old one's
   pub flat-before-most :
       {old new : ℕ} → old ≤ counts .areas → NewCover t counts a old new → isAachen t counts new ≡ false → flatBefore t counts old ≤ flatOf t counts new
@@ -124,17 +128,24 @@ module _ (t : List ℕ) (counts : Counts) (a : ℕ) (read : Read t counts) (here
           (rw inside (smallest f a (old - 1) here there .other))
 
   -- the contract of `charge_bicycle`: by the payment in kind 8, by the flats elsewhere
-  pub bicycle-pays :
-      {old paid new r : ℕ} → NewCover t counts a old new → isAachen t counts new ≡ true → Payment t counts new paid r → BicycleCharge t counts a old paid r
-  unfolding bicycleCharge
-  bicycle-pays cover aachen pays = record { value = rw (← cover .value, aachen) (pays .value); range = pays .range }
+  module _ {old new : ℕ} {terms : Terms} (cover : NewCover t counts a old new) (asked : TermsOf t counts new terms) where
+    pub bicycle-pays : {paid r : ℕ} → terms .aachen ≡ true → r ≡ payBy terms paid → BicycleCharge t counts a old paid r
+    unfolding bicycleCharge payment
+    bicycle-pays aachen pays =
+        let kind : isAachen t counts new ≡ true = sym (asked .kind) ∙ aachen in
+        record {
+          value = pays ∙ rw (← cover .value, kind, asked .price kind, asked .flat);
+          range = omega (arith, asked .range);
+        }
 
-  pub bicycle-flat :
-      {old paid new r before : ℕ} → NewCover t counts a old new → isAachen t counts new ≡ false → FlatOf t counts new r → before ≡ flatBefore t counts old
-      → BicycleCharge t counts a old paid (r - before)
-  unfolding bicycleCharge
-  bicycle-flat cover common flat is =
-      record { value = rw (← cover .value, common, flat .value, is); range = omega (arith, flat .range) }
+    pub bicycle-flat : {paid before : ℕ} → terms .aachen ≡ false → before ≡ flatBefore t counts old → BicycleCharge t counts a old paid (terms .flat .0 - before)
+    unfolding bicycleCharge
+    bicycle-flat common is =
+        let kind : isAachen t counts new ≡ false = sym (asked .kind) ∙ common in
+        record { value = rw (← cover .value, kind, asked .flat, is); range = omega (arith, asked .range) }
+
+    pub bicycle-fits : {before : ℕ} → old ≤ counts .areas → terms .aachen ≡ false → before ≡ flatBefore t counts old → before ≤ terms .flat .0
+    bicycle-fits known common is = omega (arith, asked .flat, flat-before-most known cover (sym (asked .kind) ∙ common))
 
   pub bicycle-most : (old paid : ℕ) → old ≤ counts .areas → bicycleCharge t counts a old paid ≤ mostMoney
   unfolding bicycleCharge payment
@@ -164,15 +175,15 @@ module _ {t : List ℕ} {counts : Counts} (f : FaultlessTariff t counts) (cover 
       go true = payment-most paid small
       go false = small
 
-  pub paid-more :
-      {paid more : ℕ} → paid ≤ mostPaid → isAachen t counts cover ≡ true → Payment t counts cover paid more → PaidWith t counts cover paid (paid + more)
-  unfolding paidWith
-  paid-more {paid} small aachen pays =
-      record { value = rw (aachen, pays .value); range = rw (pays .value) (payment-most paid small) }
-
-  pub paid-same : {paid : ℕ} → paid ≤ mostPaid → isAachen t counts cover ≡ false → PaidWith t counts cover paid paid
-  unfolding paidWith
-  paid-same small common = record { value = rw common; range = small }
+  pub paid-terms : {terms : Terms} {paid r : ℕ} → TermsOf t counts cover terms → paid ≤ mostPaid → r ≡ paidBy terms paid → PaidWith t counts cover paid r
+  unfolding paidWith payment
+  paid-terms {terms} {paid} asked small e =
+      let same = e ∙ go (terms .aachen) (asked .kind) in
+      record { value = same; range = rw same (paid-with-most paid small) }
+    where
+      go : (kind : Bool) → kind ≡ isAachen t counts cover → cond kind (paid + payBy terms paid) paid ≡ paidWith t counts cover paid
+      go true is = rw (← is, asked .price (sym is), asked .flat)
+      go false is = rw (← is)
 
 -- A list made one value after another.
 unfoldable pub listed : {A : Type 0} → (ℕ → A) → ℕ → List A

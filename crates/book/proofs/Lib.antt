@@ -17,3 +17,5 @@ pub mod Paying
 pub mod BookWords
 pub mod EarlierLaws
 pub mod CutLaws
+pub mod ClearLaws
+pub mod GapLaws

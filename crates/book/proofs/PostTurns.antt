@@ -3,7 +3,8 @@
 use Prim.Native.Nat.{ℕ, zero, suc, _+_, _-_, _*_, _^_, _≤_, _<_}
 use native.Mathlib.Omega.{arith}
 use native.Mathlib.Numerals.{add-one}
-use mathlib.Core.Path.{_≡_, refl, sym, ap, subst, _∙_}
+use native.Mathlib.Decide.{ℕ-discrete}
+use mathlib.Core.Path.{_≡_, refl, sym, ap, _∙_}
 use mathlib.Core.Logic.{inr}
 use mathlib.Core.Bool.{Bool, true, false, cond, not, _&&_}
 use mathlib.Core.List.{List, _++_, append-nil}
@@ -11,8 +12,8 @@ use borrow.Author.Tests.{eq-eqb, ne-eqb, eqb-true, not-true, not-false}
 use lib.ListN.{length, getD, drop, replicate}
 use lib.Seq.{drop-length}
 use lib.Dec.{eqb}
-use Rattle.caps.specs.Tree.{IsTree, within}
-use Rattle.caps.proofs.Climb.{climb-top, climb-up, within-parent, within-there, not-within-child}
+use Rattle.caps.specs.Tree.{IsTree}
+use Rattle.caps.proofs.Climb.{climb-top, climb-up}
 use Rattle.tariff.specs.declared.Counts.{Counts}
 use Rattle.tariff.specs.Rules.{levelOf}
 use Rattle.tariff.specs.Areas.{parentOf, FaultlessTariff}
@@ -21,13 +22,14 @@ use Rattle.tariff.proofs.Within.{parent-there}
 use Rattle.fare.specs.declared.Ride.{Ride}
 use Rattle.fare.specs.Prices.{mostPrice}
 use Rattle.book.specs.declared.Window.{Window}
+use Rattle.book.specs.declared.posting.Way.{Way}
 use Rattle.book.specs.Words.{bookSize, freshBook, word, putWord, tripsOf, pairPlace, secondSum, allSum, coverPlace, coverWord, paidPlace, paidWord}
 use Rattle.book.specs.Sound.{mostPaid}
 use Rattle.book.specs.Windows.{inWindow}
 use Rattle.book.specs.Charging.{newCover}
 use Rattle.book.specs.Caps.{treeOf}
 use Rattle.book.specs.Posting.{addHere, addUp, addList, paidWith, coverBicycles, opened}
-use Rattle.book.specs.Contracts.{FreshOrUsed, RoomHere, Room}
+use Rattle.book.specs.Contracts.{FreshOrUsed, RoomHere, Room, wayOf, Apart, WayOf, addAlong}
 use Rattle.book.proofs.WordLaws.{fresh-size, size-put, word-put-other}
 use Rattle.book.proofs.Trees.{is-tree}
 use Rattle.book.proofs.SumLaws.{here-size, here-other, up-size, up-other}
@@ -118,102 +120,161 @@ pub room-same :
 room-same b b′ rider same room area h =
     room-here-same b b′ rider area (same _ (omega arith) (omega arith)) (same _ (omega arith) (omega arith)) (room area h)
 
--- While a charge goes up: what is still to be added from here on makes the whole, and the areas to come have room.
-pub record Climbing (t : List ℕ) (counts : Counts) (b₀ b : List ℕ) (rider class at amount up above : ℕ) : Type 0 where
-  pub size : length b ≡ bookSize
-  pub there : up < counts .areas
-  pub level : above ≡ levelOf t counts up
-  pub room : (area : ℕ) → within (treeOf t counts false) up area ≡ true → RoomHere b rider area
-  pub rest : addUp t counts b rider class up amount ≡ addUp t counts b₀ rider class at amount
+-- A charge that is added in one area leaves the room in another.
+pub room-after :
+    (b : List ℕ) (rider class at amount area : ℕ) → (at ≡ area → ⊥) → RoomHere b rider area → RoomHere (addHere b rider class at amount) rider area
+room-after b rider class at amount area other room =
+    room-here-same b (addHere b rider class at amount) rider area
+    (here-other b rider class at amount _ (λ e. other (omega arith)) (λ e. omega arith))
+    (here-other b rider class at amount _ (λ e. omega arith) (λ e. other (omega arith))) room
+
+-- A charge goes along a way: the areas to come have room, and after each area, where the level says no more, it has been added along the way.
+module _ (b : List ℕ) (rider class amount : ℕ) (way : Way) where
+  pub room-above :
+      {b₁ : List ℕ} → Apart way → Room b rider → (way .level ≡ 0 → ⊥) → b₁ ≡ addHere b rider class (way .own) amount
+      → RoomHere b₁ rider (way .above)
+  room-above apart room more e₁ =
+      rw e₁ (room-after b rider class (way .own) amount (way .above) (apart .above-own (omega arith)) (room (way .above) (apart .above)))
+
+  pub room-top :
+      {b₁ b₂ : List ℕ} → Apart way → Room b rider → (way .level ≡ 0 → ⊥) → (way .level ≡ 1 → ⊥)
+      → b₁ ≡ addHere b rider class (way .own) amount → b₂ ≡ addHere b₁ rider class (way .above) amount → RoomHere b₂ rider (way .top)
+  room-top {b₁} apart room more more′ e₁ e₂ =
+      let here : RoomHere b₁ rider (way .top) =
+      rw e₁ (room-after b rider class (way .own) amount (way .top) (apart .top-own (omega arith)) (room (way .top) (apart .top)))
+      in
+      rw e₂ (room-after b₁ rider class (way .above) amount (way .top) (apart .top-above (omega arith)) here)
+
+  pub along-own : {b₁ : List ℕ} → way .level ≡ 0 → b₁ ≡ addHere b rider class (way .own) amount → b₁ ≡ addAlong b rider class way amount
+  unfolding addAlong
+  along-own level e₁ = rw (eq-eqb (way .level) 0 level) e₁
+
+  pub along-above :
+      {b₁ b₂ : List ℕ} → (way .level ≡ 0 → ⊥) → way .level ≡ 1 → b₁ ≡ addHere b rider class (way .own) amount
+      → b₂ ≡ addHere b₁ rider class (way .above) amount → b₂ ≡ addAlong b rider class way amount
+  unfolding addAlong
+  along-above more level e₁ e₂ = rw (ne-eqb (way .level) 0 more, eq-eqb (way .level) 1 level, ← e₁) e₂
+
+  pub along-top :
+      {b₁ b₂ b₃ : List ℕ} → (way .level ≡ 0 → ⊥) → (way .level ≡ 1 → ⊥) → b₁ ≡ addHere b rider class (way .own) amount
+      → b₂ ≡ addHere b₁ rider class (way .above) amount → b₃ ≡ addHere b₂ rider class (way .top) amount → b₃ ≡ addAlong b rider class way amount
+  unfolding addAlong
+  along-top more more′ e₁ e₂ e₃ = rw (ne-eqb (way .level) 0 more, ne-eqb (way .level) 1 more′, ← e₁, ← e₂) e₃
 
 module _ {t : List ℕ} {counts : Counts} (f : FaultlessTariff t counts) where
   tree : IsTree (treeOf t counts false)
   tree = is-tree f false
 
-  pub climb-start :
-      {b : List ℕ} {rider class at amount above : ℕ} → length b ≡ bookSize → at < counts .areas → Room b rider → above ≡ levelOf t counts at
-      → Climbing t counts b b rider class at amount at above
-  climb-start {at = at} size there room level =
+  -- Levels differ by one from area to area, so the areas of a way are different ones.
+  pub way-apart : (at : ℕ) → at < counts .areas → Apart (wayOf t counts at)
+  way-apart at there =
+      let up = parentOf t counts at in
+      let there′ = parent-there f at there in
       record {
-        size = size;
-        there = there;
-        level = level;
-        room = λ area w. room area (omega (arith, f .few-areas, within-there tree at there area w));
-        rest = refl;
+        own = omega (arith, f .few-areas);
+        above = omega (arith, f .few-areas, there′);
+        top = omega (arith, f .few-areas, parent-there f up there′);
+        above-own = λ low e. omega (arith, tree .parent-level at there low, ap (levelOf t counts) e);
+        top-own = λ low e.
+            let step = tree .parent-level at there (omega arith) in
+            omega (arith, step, tree .parent-level up there′ (omega (arith, step)), ap (levelOf t counts) e);
+        top-above = λ low e.
+            let step = tree .parent-level at there (omega arith) in
+            omega (arith, tree .parent-level up there′ (omega (arith, step)), ap (levelOf t counts) e);
       }
 
-  pub climb-turn :
-      {b₀ b b′ : List ℕ} {rider class at amount up up′ above : ℕ} → Climbing t counts b₀ b rider class at amount up above
-      → 0 < above → b′ ≡ addHere b rider class up amount → up′ ≡ parentOf t counts up
-      → Climbing t counts b₀ b′ rider class at amount up′ (above - 1)
-  unfolding addUp
-  climb-turn {b = b} {rider = rider} {class} {at} {amount} {up} {above = above} s some added next =
-      let low : 0 < levelOf t counts up = omega (arith, s .level) in
-      rw (added, next)
-      (record {
-        size = here-size b rider class up amount ∙ s .size;
-        there = parent-there f up (s .there);
-        level = omega (arith, s .level, tree .parent-level up (s .there) low);
-        room = λ area w.
-            let other : up ≡ area → ⊥ =
-            λ e.
-            not-within-child tree up (s .there) low
-            (subst (λ (z : ℕ). within (treeOf t counts false) (parentOf t counts up) z ≡ true) (sym e) w)
-            in
-            room-here-same b (addHere b rider class up amount) rider area
-            (here-other b rider class up amount _ (λ e. other (omega arith)) (λ e. omega arith))
-            (here-other b rider class up amount _ (λ e. omega arith) (λ e. other (omega arith)))
-            (s .room area (within-parent tree up area (s .there) low w));
-        rest = sym (climb-up tree (λ a sums. addHere sums rider class a amount) up (s .there) low b) ∙ s .rest;
-      })
+  pub way-found :
+      {at above top level : ℕ} → at < counts .areas → above ≡ parentOf t counts at → top ≡ parentOf t counts above → level ≡ levelOf t counts at
+      → WayOf t counts at (record { own = at; above = above; top = top; level = level })
+  way-found {at} there e e′ e″ = rw (e′, e, e″) (record { value = refl; apart = way-apart at there })
 
-  pub climb-end :
-      {b₀ b b′ : List ℕ} {rider class at amount up above : ℕ} → Climbing t counts b₀ b rider class at amount up above → above ≤ 0
-      → b′ ≡ addHere b rider class up amount → b′ ≡ addUp t counts b₀ rider class at amount
-  unfolding addUp
-  climb-end {b = b} {rider = rider} {class} {amount = amount} {up} s none added =
-      added ∙ sym (climb-top tree (λ a sums. addHere sums rider class a amount) up (omega (arith, s .level)) b) ∙ s .rest
+  -- Along its way a charge is added in an area and in every area above it.
+  pub along-up :
+      (b : List ℕ) (rider class at amount : ℕ) → at < counts .areas
+      → addAlong b rider class (wayOf t counts at) amount ≡ addUp t counts b rider class at amount
+  unfolding addUp addAlong
+  along-up b rider class at amount there =
+      elim (ℕ-discrete (levelOf t counts at) 0) [
+        | yes e ↦ rw (eq-eqb (levelOf t counts at) 0 e) (sym (climb-top tree step at e b))
+        | no ne ↦
+            let low : 0 < levelOf t counts at = omega arith in
+            let next = tree .parent-level at there low in
+            elim (ℕ-discrete (levelOf t counts at) 1) [
+              | yes e ↦
+                  rw (ne-eqb (levelOf t counts at) 0 ne, eq-eqb (levelOf t counts at) 1 e)
+                  (sym (climb-up tree step at there low b ∙ climb-top tree step up (omega (arith, next)) (step at b)))
+              | no ne′ ↦
+                  let low′ : 0 < levelOf t counts up = omega (arith, next) in
+                  let last = tree .parent-level up (parent-there f at there) low′ in
+                  rw (ne-eqb (levelOf t counts at) 0 ne, ne-eqb (levelOf t counts at) 1 ne′)
+                  (sym (climb-up tree step at there low b ∙ climb-up tree step up (parent-there f at there) low′ (step at b)
+                  ∙ climb-top tree step (parentOf t counts up) (omega (arith, next, last, tree .few-levels at there)) (step up (step at b))))
+            ]
+      ]
+    where
+      up : ℕ
+      up = parentOf t counts at
 
--- After the first i riders: their charges are added, and the riders to come have room. A ride counts by its class and area alone.
-pub record RidersAdded (t : List ℕ) (counts : Counts) (b₀ b amounts : List ℕ) (first count from class at i : ℕ) : Type 0 where
+      step : ℕ → List ℕ → List ℕ
+      step a sums = addHere sums rider class a amount
+
+-- After the first i riders: their charges are added, and the riders to come have room. A ride counts by its class and its way alone.
+pub record RidersAdded (t b₀ b amounts : List ℕ) (first count from class at : ℕ) (way : Way) (i : ℕ) : Type 0 where
   pub size : length b ≡ bookSize
   pub within : i ≤ count
   pub room : (k : ℕ) → i ≤ k → k < count → Room b (first + k)
-  pub done : (ride : Ride) → ride .class ≡ class → ride .area ≡ at → b ≡ addList t counts ride first i amounts from b₀
+  pub done :
+      (counts : Counts) → FaultlessTariff t counts → at < counts .areas → way ≡ wayOf t counts at → (ride : Ride) → ride .class ≡ class
+      → ride .area ≡ at → b ≡ addList t counts ride first i amounts from b₀
 
 pub riders-start :
-    {t : List ℕ} {counts : Counts} {b amounts : List ℕ} {first count from class at : ℕ} → length b ≡ bookSize → ((k : ℕ) → k < count → Room b (first + k))
-    → RidersAdded t counts b b amounts first count from class at 0
+    {t b amounts : List ℕ} {first count from class at : ℕ} {way : Way} → length b ≡ bookSize → ((k : ℕ) → k < count → Room b (first + k))
+    → RidersAdded t b b amounts first count from class at way 0
 unfolding addList
 riders-start size room =
-    record { size = size; within = omega arith; room = λ k low high. room k high; done = λ ride e e′. refl }
+    record { size = size; within = omega arith; room = λ k low high. room k high; done = λ counts f there w ride e e′. refl }
 
 pub riders-turn :
-    {t : List ℕ} {counts : Counts} → FaultlessTariff t counts → {b₀ b b′ amounts : List ℕ} {first count from class at i : ℕ}
-    → RidersAdded t counts b₀ b amounts first count from class at i → i < count → at < counts .areas → first + count ≤ 21
-    → b′ ≡ addUp t counts b (first + i) class at (getD amounts (from + i) 0)
-    → RidersAdded t counts b₀ b′ amounts first count from class at (i + 1)
+    {t : List ℕ} {counts : Counts} → FaultlessTariff t counts → {b₀ b b′ amounts : List ℕ} {first count from class at i : ℕ} {way : Way}
+    → RidersAdded t b₀ b amounts first count from class at way i → i < count → at < counts .areas → way ≡ wayOf t counts at → first + count ≤ 21
+    → b′ ≡ addAlong b (first + i) class way (getD amounts (from + i) 0)
+    → RidersAdded t b₀ b′ amounts first count from class at way (i + 1)
 unfolding addList
-riders-turn {t} {counts} f {b = b} {amounts = amounts} {first} {count} {from} {class} {at} {i} s more there few added =
-    let amount = getD amounts (from + i) 0 in
+riders-turn {t} {counts} f {b = b} {b′ = b′} {amounts = amounts} {first} {count} {from} {class} {at} {i} {way} s more there found few added =
     record {
-      size = ap length added ∙ up-size f (first + i) class amount (omega arith) b at there ∙ s .size;
+      size = ap length (up counts f there found) ∙ up-size f (first + i) class amount (omega arith) b at there ∙ s .size;
       within = omega arith;
       room = λ k low high.
-          rw added
+          rw (up counts f there found)
           (room-same b _ (first + k)
           (λ j least most. up-other f (first + i) class amount (omega arith) b at there j (inr (omega arith)))
           (s .room k (omega arith) high));
-      done = λ ride e e′. added ∙ rw (add-one i, ← s .done ride e e′, e, e′);
+      done = λ counts f there w ride e e′. up counts f there w ∙ rw (add-one i, ← s .done counts f there w ride e e′, e, e′);
     }
+  where
+    amount : ℕ
+    amount = getD amounts (from + i) 0
+
+    up :
+        (counts : Counts) → FaultlessTariff t counts → at < counts .areas → way ≡ wayOf t counts at
+        → b′ ≡ addUp t counts b (first + i) class at amount
+    up counts f there w = added ∙ ap (λ (v : Way). addAlong b (first + i) class v amount) w ∙ along-up f b (first + i) class at amount there
 
 pub riders-end :
-    {t : List ℕ} {counts : Counts} {b₀ b amounts : List ℕ} (ride : Ride) {first count from i : ℕ}
-    → RidersAdded t counts b₀ b amounts first count from (ride .class) (ride .area) i → count ≤ i
+    {t : List ℕ} {counts : Counts} {b₀ b amounts : List ℕ} (ride : Ride) {first count from i : ℕ} {way : Way} → FaultlessTariff t counts
+    → ride .area < counts .areas → way ≡ wayOf t counts (ride .area)
+    → RidersAdded t b₀ b amounts first count from (ride .class) (ride .area) way i → count ≤ i
     → b ≡ addList t counts ride first count amounts from b₀
-riders-end {t} {counts} {b₀} {amounts = amounts} ride {first} {count} {from} {i} s last =
+riders-end {t} {counts} {b₀} {amounts = amounts} ride {first} {count} {from} {i} f there found s last =
     let e : i ≡ count = omega (arith, s .within) in
-    s .done ride refl refl ∙ ap (λ (n : ℕ). addList t counts ride first n amounts from b₀) e
+    s .done counts f there found ride refl refl ∙ ap (λ (n : ℕ). addList t counts ride first n amounts from b₀) e
+
+-- without riders nothing is added
+pub riders-none :
+    (t : List ℕ) (counts : Counts) (ride : Ride) (b amounts : List ℕ) (first count from : ℕ) → count ≡ 0
+    → b ≡ addList t counts ride first count amounts from b
+unfolding addList
+riders-none t counts ride b amounts first count from none = rw none
 
 -- After the first i bicycles: their covering areas and payments are written, and those to come are as they were.
 pub record BicyclesCovered (t : List ℕ) (counts : Counts) (b₀ b : List ℕ) (count at i : ℕ) : Type 0 where
@@ -266,3 +327,9 @@ pub bicycles-end :
 bicycles-end {t} {counts} {b₀} ride {count = count} {i} s last =
     let e : i ≡ count = omega (arith, s .within) in
     s .done ride refl ∙ ap (λ (n : ℕ). coverBicycles t counts ride n b₀) e
+
+-- without bicycles nothing is covered
+pub bicycles-none :
+    (t : List ℕ) (counts : Counts) (ride : Ride) (count : ℕ) (b : List ℕ) → count ≡ 0 → b ≡ coverBicycles t counts ride count b
+unfolding coverBicycles
+bicycles-none t counts ride count b none = rw none

@@ -1,16 +1,18 @@
 -- What the functions ask of their callers and promise them beside the definitions. A reader of the rules needs none of it.
-use Prim.Native.Nat.{ℕ, _+_, _-_, _*_, _^_, _≤_, _<_}
+use Prim.Native.Nat.{ℕ, _+_, _-_, _*_, _^_, _≤_, _<_, min}
 use mathlib.Core.Path.{_≡_}
 use mathlib.Core.List.{List, [], _∷_}
 use mathlib.Core.Bool.{Bool, true, false, cond}
 use lib.ListN.{length, getD, take}
 use lib.Seq.{sets}
+use lib.Dec.{eqb}
 use Rattle.units.specs.Day.{dayMinutes}
 use Rattle.caps.specs.declared.Rest.{Rest}
+use Rattle.caps.specs.Limits.{CapOrder}
 use Rattle.caps.specs.Contracts.{restHere, uncappedAt, nameOf as finalName}
 use Rattle.tariff.specs.declared.Counts.{Counts}
-use Rattle.tariff.specs.Rules.{mostMoney}
-use Rattle.tariff.specs.Areas.{Read, areaAt, parentOf, liesWithin}
+use Rattle.tariff.specs.Rules.{mostMoney, levelOf, flatOf}
+use Rattle.tariff.specs.Areas.{Read, areaAt, parentOf, liesWithin, isAachen, bicyclePriceOf}
 use Rattle.fare.specs.declared.Ride.{Ride}
 use Rattle.fare.specs.Distance.{mostKm}
 use Rattle.fare.specs.Prices.{mostPrice}
@@ -21,18 +23,24 @@ use Rattle.book.specs.declared.Earlier.the-variants.{Nothing, Part}
 use Rattle.book.specs.declared.Cut.{Cut}
 use Rattle.book.specs.declared.limits.Link.{Link}
 use Rattle.book.specs.declared.limits.Chain.{Chain}
+use Rattle.book.specs.declared.posting.Way.{Way}
+use Rattle.book.specs.declared.terms.Terms.{Terms}
 use Rattle.book.specs.Words.{bookSize, freshBook, word, tripsOf, secondSum, allSum, coverWord, paidWord}
-use Rattle.book.specs.Sound.{sound, mostPaid}
+use Rattle.book.specs.Sound.{pairsSound, sound, mostPaid}
 use Rattle.book.specs.Windows.{inWindow}
 use Rattle.book.specs.Caps.{capsHere}
-use Rattle.book.specs.Charging.{carries, placeOf, riderCharges, newCover, payment, bicycleCharge, bicycleCharges, chargesOf}
+use Rattle.book.specs.Charging.{carries, placeOf, riderCharges, newCover, bicycleCharge, bicycleCharges, chargesOf}
 use Rattle.book.specs.Cuts.{riderCuts, cutsOf}
-use Rattle.book.specs.Posting.{addList, paidWith}
+use Rattle.book.specs.Posting.{addHere, addList, paidWith}
 
 -- a word of the book
 pub record Word (book : List ℕ) (place r : ℕ) : Type 0 where
   pub value : r ≡ word book place
   pub range : r < 2 ^ 32
+
+-- a fast way over the pairs says only where all of them are sound
+pub record PairsClear (book : List ℕ) (most : ℕ) (r : Bool) : Type 0 where
+  pub all-sound : r ≡ true → pairsSound book most ≡ true
 
 -- ---- Charging.
 
@@ -118,9 +126,12 @@ pub record ChainOf (tariff : List ℕ) (counts : Counts) (area : ℕ) (child : B
 abbrev pub lackingAt : Link → ℕ → ℕ
 lackingAt link paid = cond (link .pending) paid 0
 
--- a rider's sums with what they lack fit their words, in an area of a chain and in all three
+-- a rider's sums with what they lack fit their words, in an area of a chain and in all three; and neither a second-class sum nor a second-class
+-- cap is larger than the all-classes one
 pub record FitsAt (link : Link) (w : List ℕ) (rider paid : ℕ) : Type 0 where
   pub place : link .area < 32
+  pub order : CapOrder (link .caps .second) (link .caps .all)
+  pub sums : secondSum w rider (link .area) ≤ allSum w rider (link .area)
   pub second : secondSum w rider (link .area) + lackingAt link paid < 2 ^ 32
   pub all : allSum w rider (link .area) + lackingAt link paid < 2 ^ 32
 
@@ -226,9 +237,19 @@ pub record NewCover (tariff : List ℕ) (counts : Counts) (area old r : ℕ) : T
   pub value : r ≡ newCover tariff counts area old
   pub there : r < counts .areas
 
-pub record Payment (tariff : List ℕ) (counts : Counts) (cover paid r : ℕ) : Type 0 where
-  pub value : r ≡ payment tariff counts cover paid
-  pub range : r ≤ mostMoney
+-- what an area asks of bicycles
+pub record TermsOf (tariff : List ℕ) (counts : Counts) (area : ℕ) (r : Terms) : Type 0 where
+  pub kind : r .aachen ≡ isAachen tariff counts area
+  pub flat : r .flat .0 ≡ flatOf tariff counts area
+  pub price : isAachen tariff counts area ≡ true → r .price .0 ≡ bicyclePriceOf tariff counts area
+  pub range : r .flat .0 ≤ mostMoney
+
+-- what a bicycle pays by an area's terms, and its payments with that
+abbrev pub payBy : Terms → ℕ → ℕ
+payBy terms paid = min (terms .price .0) (terms .flat .0 - paid)
+
+abbrev pub paidBy : Terms → ℕ → ℕ
+paidBy terms paid = cond (terms .aachen) (paid + payBy terms paid) paid
 
 pub record PaidWith (tariff : List ℕ) (counts : Counts) (cover paid r : ℕ) : Type 0 where
   pub value : r ≡ paidWith tariff counts cover paid
@@ -260,14 +281,43 @@ pub record AddingHere (book : List ℕ) (rider at amount : ℕ) : Type 0 where
   pub range : amount ≤ mostPrice
   pub room : RoomHere book rider at
 
--- what adding it in an area and in every area above asks
-pub record AddingUp (tariff : List ℕ) (counts : Counts) (book : List ℕ) (rider at amount : ℕ) : Type 0 where
+-- a ride's area, the one above it and the one above that
+abbrev pub wayOf : List ℕ → Counts → ℕ → Way
+wayOf tariff counts area =
+    record {
+      own = area;
+      above = parentOf tariff counts area;
+      top = parentOf tariff counts (parentOf tariff counts area);
+      level = levelOf tariff counts area;
+    }
+
+-- each has its words in the book, and as far as the level says they are different ones
+pub record Apart (way : Way) : Type 0 where
+  pub own : way .own < 32
+  pub above : way .above < 32
+  pub top : way .top < 32
+  pub above-own : 0 < way .level → way .own ≡ way .above → ⊥
+  pub top-own : 1 < way .level → way .own ≡ way .top → ⊥
+  pub top-above : 1 < way .level → way .above ≡ way .top → ⊥
+
+pub record WayOf (tariff : List ℕ) (counts : Counts) (area : ℕ) (r : Way) : Type 0 where
+  pub value : r ≡ wayOf tariff counts area
+  pub apart : Apart r
+
+-- what adding a charge along a way asks
+pub record AddingUp (book : List ℕ) (rider : ℕ) (way : Way) (amount : ℕ) : Type 0 where
   pub size : length book ≡ bookSize
   pub known : rider < 21
-  pub read : Read tariff counts
-  pub area : at < counts .areas
   pub range : amount ≤ mostPrice
   pub room : Room book rider
+  pub apart : Apart way
+
+-- a charge added in an area, and in as many above it as the level says. For the way of an area this is the tree's (PostTurns: along-up)
+unfoldable pub addAlong : List ℕ → ℕ → ℕ → Way → ℕ → List ℕ
+addAlong book rider class way amount =
+    let low = addHere book rider class (way .own) amount in
+    let middle = addHere low rider class (way .above) amount in
+    cond (eqb (way .level) 0) low (cond (eqb (way .level) 1) middle (addHere middle rider class (way .top) amount))
 
 -- what adding riders' charges asks: each rider has room, and each charge is in its range
 pub record Adding (tariff : List ℕ) (counts : Counts) (book : List ℕ) (ride : Ride) (riders : Riders) (amounts : List ℕ) : Type 0 where

@@ -5,9 +5,14 @@ use crate::Charge;
 use crate::Cut;
 use crate::Earlier;
 use crate::Riders;
+use crate::clear::quick_charge;
+use crate::clear::rooms_of;
 use crate::limits::Chain;
 use crate::limits::Link;
 use crate::limits::chain_of;
+use crate::terms::Terms;
+use crate::terms::terms_by;
+use crate::terms::terms_of;
 use crate::words::FIRST_CHILD;
 use crate::words::cover;
 use crate::words::get;
@@ -21,25 +26,22 @@ use fare::Ride;
 use fare::prices::price;
 use tariff::Counts;
 use tariff::areas::area;
-use tariff::areas::bicycle_price;
-use tariff::areas::flat;
-use tariff::areas::is_aachen;
 use tariff::areas::smallest_containing;
 use units::Cents;
 ghost use mathlib.Core.Path.{_≡_};
-ghost use mathlib.Core.Bool.{true};
 ghost use Prim.Native.Nat.{_+_, _≤_, _<_};
 ghost use lib.ListN.{length};
-ghost use Rattle.tariff.specs.Areas.{Read, isAachen};
+ghost use Rattle.tariff.specs.Areas.{Read};
+ghost use Rattle.tariff.specs.Rules.{mostMoney};
 ghost use Rattle.book.specs.Words.{bookSize, bookWords};
 ghost use Rattle.book.specs.Sound.{mostPaid};
 ghost use Rattle.book.specs.Windows.{inWindow};
 ghost use Rattle.book.specs.Charging.{flatBefore};
 ghost use Rattle.book.specs.Posting.{wordsAfter};
-ghost use Rattle.book.specs.Contracts.{Word, lackingAt, FitsAt, FitsAlong, restAtLink, ChargeBy, cutBy, nameOf, Ridden, Paid, Chargeable, RidersCharged, withBicycles, AllCharged, AllCut, EarlierThere, CoverAfter, PaidAfter, NewCover, Payment, PaidWith, BicycleCharge};
+ghost use Rattle.book.specs.Contracts.{Word, lackingAt, FitsAt, FitsAlong, restAtLink, ChargeBy, cutBy, nameOf, Ridden, Paid, Chargeable, RidersCharged, withBicycles, AllCharged, AllCut, EarlierThere, CoverAfter, PaidAfter, NewCover, TermsOf, payBy, paidBy, BicycleCharge};
 
 // A word of the book, which is 0 in a new window.
-fn get_in(book: &[u8], current: bool, place: usize) -> u32
+pub fn get_in(book: &[u8], current: bool, place: usize) -> u32
     requires { ⌜ (length (now book) ≡ bookSize) × (place < bookWords) ⌝ }
     ensures { λ r. ⌜ Word (inWindow current (now (book .entry))) place r ⌝ }
 {
@@ -148,9 +150,19 @@ fn charge_riders(
     let at = ride.area;
     let fare = price(area(tariff, counts, at), ride, child);
     let chain = chain_of(tariff, counts, at, child, earlier);
+    let rooms = rooms_of(chain, class, fare);
     for i in 0..count {
         let before = paid[from + i];
-        let rest = charge(book, current, first + i, chain, class, Cents(before), fare);
+        let rest = quick_charge(
+            book,
+            current,
+            first + i,
+            chain,
+            rooms,
+            class,
+            Cents(before),
+            fare,
+        );
         let cut = cut_of(fare, rest);
         let amount = rest.amount;
         let reduction = cut.reduction;
@@ -160,12 +172,14 @@ fn charge_riders(
     }
 }
 
-// A bicycle's new covering area: the smallest containing the ride's area and its old covering area, if any.
+// A bicycle's new covering area: the smallest containing the ride's area and its old covering area, if any. Where both are one, it is that.
 pub fn new_cover(tariff: &[u8], counts: Counts, at: usize, old: usize) -> usize
     requires { ⌜ Read (now tariff) counts × ((at < counts .areas) × (old ≤ counts .areas)) ⌝ }
     ensures { λ r. ⌜ NewCover (now (tariff .entry)) counts at old r ⌝ }
 {
     if old == 0 {
+        at
+    } else if old - 1 == at {
         at
     } else {
         smallest_containing(tariff, counts, at, old - 1)
@@ -173,12 +187,11 @@ pub fn new_cover(tariff: &[u8], counts: Counts, at: usize, old: usize) -> usize
 }
 
 // What a bicycle pays for a ride where its covering area is of kind 8: the smaller of the area's price per trip and what its cap has left.
-fn payment(tariff: &[u8], counts: Counts, cover: usize, paid: u32) -> Cents
-    requires { ⌜ Read (now tariff) counts × ((cover < counts .areas) × (isAachen (now tariff) counts cover ≡ true)) ⌝ }
-    ensures { λ r. ⌜ Payment (now (tariff .entry)) counts cover paid (r .0) ⌝ }
+fn payment(terms: Terms, paid: u32) -> Cents
+    ensures { λ r. ⌜ r .0 ≡ payBy terms paid ⌝ }
 {
-    let price = bicycle_price(tariff, counts, cover);
-    let cap = flat(tariff, counts, cover);
+    let price = terms.price;
+    let cap = terms.flat;
     if cap.0 <= paid {
         Cents(0)
     } else if price.0 <= cap.0 - paid {
@@ -189,13 +202,12 @@ fn payment(tariff: &[u8], counts: Counts, cover: usize, paid: u32) -> Cents
 }
 
 // A bicycle's payments after a ride, by its covering area then: in kind 8 what it pays is added.
-pub fn paid_with(tariff: &[u8], counts: Counts, cover: usize, paid: u32) -> u32
-    requires { ⌜ Read (now tariff) counts × ((cover < counts .areas) × (paid ≤ mostPaid)) ⌝ }
-    ensures { λ r. ⌜ PaidWith (now (tariff .entry)) counts cover paid r ⌝ }
+pub fn paid_with(terms: Terms, paid: u32) -> u32
+    requires { ⌜ (terms .flat .0 ≤ mostMoney) × (paid ≤ mostPaid) ⌝ }
+    ensures { λ r. ⌜ r ≡ paidBy terms paid ⌝ }
 {
-    let tariff = &*tariff;
-    if is_aachen(tariff, counts, cover) {
-        let more = payment(tariff, counts, cover, paid);
+    if terms.aachen {
+        let more = payment(terms, paid);
         paid + more.0
     } else {
         paid
@@ -203,34 +215,39 @@ pub fn paid_with(tariff: &[u8], counts: Counts, cover: usize, paid: u32) -> u32
 }
 
 // An old covering area's flat: none if the bicycle is unused, or the area of kind 8.
-fn flat_before(tariff: &[u8], counts: Counts, old: usize) -> Cents
-    requires { ⌜ Read (now tariff) counts × (old ≤ counts .areas) ⌝ }
+fn flat_before(tariff: &[u8], counts: Counts, own: Terms, at: usize, old: usize) -> Cents
+    requires { ⌜ Read (now tariff) counts × (TermsOf (now tariff) counts at own × (old ≤ counts .areas)) ⌝ }
     ensures { λ r. ⌜ r .0 ≡ flatBefore (now (tariff .entry)) counts old ⌝ }
 {
     if 0 < old {
-        if is_aachen(tariff, counts, old - 1) {
-            Cents(0)
-        } else {
-            flat(tariff, counts, old - 1)
-        }
+        let before = terms_by(tariff, counts, own, at, old - 1);
+        if before.aachen { Cents(0) } else { before.flat }
     } else {
         Cents(0)
     }
 }
 
 // A bicycle's charge by its new covering area: in kind 8 the payment per trip, else the area's flat less the old one's.
-pub fn charge_bicycle(tariff: &[u8], counts: Counts, at: usize, old: usize, paid: u32) -> Charge
-    requires { ⌜ Read (now tariff) counts × ((at < counts .areas) × (old ≤ counts .areas)) ⌝ }
+pub fn charge_bicycle(
+    tariff: &[u8],
+    counts: Counts,
+    own: Terms,
+    at: usize,
+    old: usize,
+    paid: u32,
+) -> Charge
+    requires { ⌜ Read (now tariff) counts × (TermsOf (now tariff) counts at own × ((at < counts .areas) × (old ≤ counts .areas))) ⌝ }
     ensures { λ r. ⌜ BicycleCharge (now (tariff .entry)) counts at old paid (r .amount .0) ⌝ }
 {
     let new = new_cover(tariff, counts, at, old);
-    if is_aachen(tariff, counts, new) {
+    let terms = terms_by(tariff, counts, own, at, new);
+    if terms.aachen {
         Charge {
-            amount: payment(tariff, counts, new, paid),
+            amount: payment(terms, paid),
         }
     } else {
-        let whole = flat(tariff, counts, new);
-        let before = flat_before(tariff, counts, old);
+        let whole = terms.flat;
+        let before = flat_before(tariff, counts, own, at, old);
         let credit = before.0;
         Charge {
             amount: Cents(whole.0 - credit),
@@ -258,7 +275,7 @@ fn paid_after(tariff: &[u8], counts: Counts, earlier: Earlier, old: usize, paid:
         Earlier::Nothing => paid,
         Earlier::Part(before) => {
             let new = new_cover(tariff, counts, before.area, old);
-            paid_with(tariff, counts, new, paid)
+            paid_with(terms_of(tariff, counts, new), paid)
         }
     }
 }
@@ -280,12 +297,16 @@ fn charge_bicycles(
     let at = ride.area;
     let party = ride.party;
     let count = party.bicycles as usize;
+    if count == 0 {
+        return;
+    }
+    let own = terms_of(tariff, counts, at);
     for i in 0..count {
         let found = get_in(book, current, cover(i)) as usize;
         let before = get_in(book, current, payments(i));
         let old = cover_after(tariff, counts, earlier, found);
         let paid = paid_after(tariff, counts, earlier, found, before);
-        let one = charge_bicycle(tariff, counts, at, old, paid);
+        let one = charge_bicycle(tariff, counts, own, at, old, paid);
         let amount = one.amount;
         amounts[from + i] = amount.0;
     }

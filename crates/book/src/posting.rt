@@ -3,6 +3,8 @@ use crate::Riders;
 use crate::Window;
 use crate::charging::new_cover;
 use crate::charging::paid_with;
+use crate::terms::terms_by;
+use crate::terms::terms_of;
 use crate::words::FIRST_CHILD;
 use crate::words::LAST_OUT;
 use crate::words::OPENING;
@@ -20,12 +22,13 @@ use tariff::areas::parent;
 use units::Cents;
 use units::Minutes;
 ghost use mathlib.Core.Path.{_≡_};
-ghost use Prim.Native.Nat.{_≤_};
+ghost use Prim.Native.Nat.{_≤_, _<_};
 ghost use lib.ListN.{length};
+ghost use Rattle.tariff.specs.Areas.{Read};
 ghost use Rattle.book.specs.Words.{bookSize, freshBook};
 ghost use Rattle.book.specs.Windows.{inWindow};
-ghost use Rattle.book.specs.Posting.{addHere, addUp, coverBicycles, opened, posted};
-ghost use Rattle.book.specs.Contracts.{FreshOrUsed, AddingHere, AddingUp, Adding, addRiders, Covering, Postable};
+ghost use Rattle.book.specs.Posting.{addHere, coverBicycles, opened, posted};
+ghost use Rattle.book.specs.Contracts.{FreshOrUsed, AddingHere, WayOf, AddingUp, addAlong, Adding, addRiders, Covering, Postable};
 
 // All sums and bicycles back to none.
 fn clear(book: &mut [u8])
@@ -67,27 +70,43 @@ fn add_here(book: &mut [u8], rider: usize, class: u8, at: usize, amount: Cents)
     put(book, place + 1, all);
 }
 
-// A charge added to a rider's sums in an area and in every area above it.
-fn add_up(
-    tariff: &[u8],
-    counts: Counts,
-    book: &mut [u8],
-    rider: usize,
-    class: u8,
-    at: usize,
-    amount: Cents,
-)
-    requires { ⌜ AddingUp (now tariff) counts (now book) rider at (amount .0) ⌝ }
-    ensures { λ _. ⌜ now (book .exit) ≡ addUp (now (tariff .entry)) counts (now (book .entry)) rider class at (amount .0) ⌝ }
+// The areas in whose sums a ride's charges count: its own and, as its level says, the one above it and the one above that. They are the same
+// for each rider, so they are read off the tariff once.
+pub struct Way {
+    pub own: usize,
+    pub above: usize,
+    pub top: usize,
+    pub level: u8,
+}
+
+fn way_of(tariff: &[u8], counts: Counts, at: usize) -> Way
+    requires { ⌜ Read (now tariff) counts × (at < counts .areas) ⌝ }
+    ensures { λ r. ⌜ WayOf (now (tariff .entry)) counts at r ⌝ }
 {
-    let mut up = at;
-    let mut above = level(tariff, counts, at);
-    while 0 < above {
-        add_here(book, rider, class, up, amount);
-        up = parent(tariff, counts, up);
-        above -= 1;
+    let above = parent(tariff, counts, at);
+    Way {
+        own: at,
+        above,
+        top: parent(tariff, counts, above),
+        level: level(tariff, counts, at),
     }
-    add_here(book, rider, class, up, amount);
+}
+
+// A charge added to a rider's sums in an area and in every area above it.
+fn add_up(book: &mut [u8], rider: usize, class: u8, way: Way, amount: Cents)
+    requires { ⌜ AddingUp (now book) rider way (amount .0) ⌝ }
+    ensures { λ _. ⌜ now (book .exit) ≡ addAlong (now (book .entry)) rider class way (amount .0) ⌝ }
+{
+    let level = way.level;
+    add_here(book, rider, class, way.own, amount);
+    if level == 0 {
+        return;
+    }
+    add_here(book, rider, class, way.above, amount);
+    if level == 1 {
+        return;
+    }
+    add_here(book, rider, class, way.top, amount);
 }
 
 // The charges of riders, which stand in the party's amounts.
@@ -103,13 +122,17 @@ fn add_riders(
     ensures { λ _. ⌜ now (book .exit) ≡ addRiders (now (tariff .entry)) counts ride riders (now (amounts .entry)) (now (book .entry)) ⌝ }
 {
     let count = riders.count;
+    if count == 0 {
+        return;
+    }
     let first = riders.first;
     let from = riders.from;
     let class = ride.class;
     let at = ride.area;
+    let way = way_of(tariff, counts, at);
     for i in 0..count {
         let amount = Cents(amounts[from + i]);
-        add_up(tariff, counts, book, first + i, class, at, amount);
+        add_up(book, first + i, class, way, amount);
     }
 }
 
@@ -118,14 +141,18 @@ fn cover_bicycles(tariff: &[u8], counts: Counts, book: &mut [u8], ride: Ride, co
     requires { ⌜ Covering (now tariff) counts (now book) ride count ⌝ }
     ensures { λ _. ⌜ now (book .exit) ≡ coverBicycles (now (tariff .entry)) counts ride count (now (book .entry)) ⌝ }
 {
+    if count == 0 {
+        return;
+    }
     let at = ride.area;
+    let own = terms_of(tariff, counts, at);
     for i in 0..count {
         let place = cover(i);
         let old = get(book, place) as usize;
         let paying = payments(i);
         let before = get(book, paying);
         let new = new_cover(tariff, counts, at, old);
-        let paid = paid_with(tariff, counts, new, before);
+        let paid = paid_with(terms_by(tariff, counts, own, at, new), before);
         put(book, place, 1 + new as u32);
         put(book, paying, paid);
     }

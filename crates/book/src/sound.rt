@@ -1,5 +1,6 @@
 // Whether any byte string is a sound book under a tariff with so many areas.
 // The loops have no early way out, so that the compiler can take many words at a time.
+use crate::gaps::pairs_clear;
 use crate::words::LAST_OUT;
 use crate::words::OPENING;
 use crate::words::PAIRS;
@@ -38,6 +39,9 @@ fn pairs_sound(book: &[u8], most: u32) -> bool
     requires { ⌜ length (now book) ≡ bookSize ⌝ }
     ensures { λ r. ⌜ r ≡ pairsSound (now (book .entry)) most ⌝ }
 {
+    if pairs_clear(book, most) {
+        return true;
+    }
     let mut right = true;
     for i in 0..PAIRS {
         let place = pair_at(i);

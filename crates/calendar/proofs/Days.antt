@@ -68,10 +68,13 @@ day-number-most y m d date =
     omega (arith, in-year y m d date, years-grow (suc (y - 2000)) 100 (omega arith), years-days 100 (le-refl 100))
 
 -- the contract of `day_number`, from the days before the month
-pub day-number : (year month day before : ℕ) → Date year month day → before ≡ daysOfMonths (leap year) (month - 1) → DayNumber year month day (365 * (year - 2000) + (year - 2000 + 3) / 4 + (before + (day - 1)))
+pub day-number : (year month day before : ℕ) → Date year month day → before ≡ daysOfMonths (eqb ((year - 2000) % 4) 0) (month - 1) → DayNumber year month day (365 * (year - 2000) + (year - 2000 + 3) / 4 + (before + (day - 1)))
 unfolding dayNumber
 day-number y m d before date e =
-    let value : 365 * (y - 2000) + (y - 2000 + 3) / 4 + (before + (d - 1)) ≡ dayNumber y m d = omega (arith, years-days (y - 2000) (omega arith)) in
+    let year : 2000 + (y - 2000) ≡ y = omega arith in
+    let leap-year : leap y ≡ eqb ((y - 2000) % 4) 0 = rw year at (every-fourth (y - 2000) (omega arith)) in
+    let value : 365 * (y - 2000) + (y - 2000 + 3) / 4 + (before + (d - 1)) ≡ dayNumber y m d =
+    rw leap-year (omega (arith, e, years-days (y - 2000) (omega arith))) in
     record { value = value; range = omega (arith, day-number-most y m d date) }
 
 -- in an earlier year, in an earlier month of one year, on an earlier day of one month: a smaller number

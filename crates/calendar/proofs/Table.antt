@@ -10,11 +10,7 @@ use borrow.Author.Tests.{eqb-true, leb-true}
 use lib.Dec.{eqb, leb}
 use lib.ListN.{length, getD}
 use Rattle.calendar.specs.Days.{daysOfMonths, monthDays, DaysBefore}
-
--- the row of a common year, and of a leap year
-abbrev pub row : Bool → List ℕ
-row false = 0 ∷ 31 ∷ 59 ∷ 90 ∷ 120 ∷ 151 ∷ 181 ∷ 212 ∷ 243 ∷ 273 ∷ 304 ∷ 334 ∷ []
-row true = 0 ∷ 31 ∷ 60 ∷ 91 ∷ 121 ∷ 152 ∷ 182 ∷ 213 ∷ 244 ∷ 274 ∷ 305 ∷ 335 ∷ []
+use Rattle.calendar.specs.Contracts.{row, entryAt}
 
 -- an entry is right at place k: it is the days of the year's first k months, and at most 335
 right : Bool → ℕ → ℕ → Bool
@@ -56,10 +52,25 @@ entry b (x ∷ xs) k e (suc i) h =
     (entry b xs (suc k) (and-eq-true-iff (right b k x) (each-right b (suc k) xs) .0 e .1) i (le-of-suc-le-suc h))
 
 -- the law at each entry: month m's stands at place m - 1, counted from 0
-pub at-month : (leapYear : Bool) (month : ℕ) → 1 ≤ month → month ≤ 12 → DaysBefore leapYear month (getD (row leapYear) (month - 1) 0)
+pub at-month : (leapYear : Bool) (month : ℕ) → 1 ≤ month → month ≤ 12 → DaysBefore leapYear month (entryAt (row leapYear) month)
 unfolding right
 at-month b m low high =
-    let days = getD (row b) (m - 1) 0 in
+    let days = entryAt (row b) m in
     let here = rw zero-add at (entry b (row b) 0 (row-right b) (m - 1) (omega (arith, row-length b))) in
     let parts = and-eq-true-iff (eqb days (daysOfMonths b (m - 1))) (leb days 335) .0 here in
     record { value = eqb-true days (daysOfMonths b (m - 1)) (parts .0); range = leb-true days 335 (parts .1) }
+
+-- a month that is none of the first k
+abbrev NoneOf : ℕ → ℕ → Type 0
+NoneOf zero month = Unit {0}
+NoneOf (suc k) month = NoneOf k month × (month ≡ suc k → ⊥)
+
+behind : (k month : ℕ) → 1 ≤ month → NoneOf k month → k < month
+behind zero month first none = first
+behind (suc k) month first none =
+    let here = none .1 in
+    omega (arith, behind k month first (none .0))
+
+-- one that is none of the first eleven is December
+pub december : (month : ℕ) → 1 ≤ month → month ≤ 12 → NoneOf 11 month → month ≡ 12
+december month first last none = omega (arith, behind 11 month first none)

@@ -5,18 +5,13 @@
 use units::DAY;
 use units::Minutes;
 ghost use mathlib.Core.Path.{_≡_};
-ghost use mathlib.Core.Bool.{true};
+ghost use mathlib.Core.Bool.{true, false};
 ghost use Prim.Native.Nat.{_≤_};
 ghost use Rattle.calendar.specs.Days.{leap, monthDays, DaysBefore, DayNumber};
-ghost use Rattle.calendar.specs.Contracts.{fromZero};
+ghost use Rattle.calendar.specs.Contracts.{row, entryAt, fromZero};
 ghost use Rattle.calendar.specs.Stamps.{isDate, isClock, isOffset, isStamp, stampOf, MinuteNumber};
 
 pub mod moments;
-
-// The days before each month: of a common year, and of a leap year.
-const COMMON: [u32; 12] = [0, 31, 59, 90, 120, 151, 181, 212, 243, 273, 304, 334];
-
-const LEAP: [u32; 12] = [0, 31, 60, 91, 121, 152, 182, 213, 244, 274, 305, 335];
 
 // The date and clock time are local; the offset is the hours that they are ahead of UTC.
 pub struct Stamp {
@@ -89,13 +84,59 @@ fn from_zero(year: u16, month: u8, day: u8, hour: u8, offset: u8) -> bool
     (offset <= hour) | (Stamp::FIRST_YEAR < year) | (1 < month) | (1 < day)
 }
 
+// The days before each month of a common year. A row is a choice by the month, since that becomes a table in the read-only data; a constant
+// array would be made anew on the stack at each use.
+fn common_row(month: u8) -> u32
+    requires { ⌜ (1 ≤ month) × (month ≤ 12) ⌝ }
+    ensures { λ r. ⌜ r ≡ entryAt (row false) month ⌝ }
+{
+    match month {
+        1 => 0,
+        2 => 31,
+        3 => 59,
+        4 => 90,
+        5 => 120,
+        6 => 151,
+        7 => 181,
+        8 => 212,
+        9 => 243,
+        10 => 273,
+        11 => 304,
+        _ => 334,
+    }
+}
+
+// The same of a leap year.
+fn leap_row(month: u8) -> u32
+    requires { ⌜ (1 ≤ month) × (month ≤ 12) ⌝ }
+    ensures { λ r. ⌜ r ≡ entryAt (row true) month ⌝ }
+{
+    match month {
+        1 => 0,
+        2 => 31,
+        3 => 60,
+        4 => 91,
+        5 => 121,
+        6 => 152,
+        7 => 182,
+        8 => 213,
+        9 => 244,
+        10 => 274,
+        11 => 305,
+        _ => 335,
+    }
+}
+
 // The days of the year that go before a month's first.
 fn days_before(leap_year: bool, month: u8) -> u32
     requires { ⌜ (1 ≤ month) × (month ≤ 12) ⌝ }
     ensures { λ r. ⌜ DaysBefore «leap_year» month r ⌝ }
 {
-    let at = (month - 1) as usize;
-    if leap_year { LEAP[at] } else { COMMON[at] }
+    if leap_year {
+        leap_row(month)
+    } else {
+        common_row(month)
+    }
 }
 
 // The days from 2000-01-01 to a date. Of the years 2000 to 2099 every fourth is a leap year, the first among them.
@@ -104,7 +145,7 @@ fn day_number(year: u16, month: u8, day: u8) -> u32
     ensures { λ r. ⌜ DayNumber year month day r ⌝ }
 {
     let years = (year - Stamp::FIRST_YEAR) as u32;
-    let in_year = days_before(is_leap(year), month) + (day - 1) as u32;
+    let in_year = days_before(years % 4 == 0, month) + (day - 1) as u32;
     365 * years + (years + 3) / 4 + in_year
 }
 

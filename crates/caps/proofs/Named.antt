@@ -1,7 +1,7 @@
 -- What the code's one walk up finds: the charge, and the cap that is named. A cap that left no more than the least so far takes the name; of
 -- the caps from the last that lowered the rest on, these are the ones that left exactly the charge.
 -- Assumes nothing.
-use Prim.Native.Nat.{ℕ, zero, suc, _≤_, _<_}
+use Prim.Native.Nat.{ℕ, zero, suc, _-_, _^_, _≤_, _<_}
 use native.Mathlib.Nat.{le-trans}
 use native.Mathlib.Omega.{arith}
 use native.Mathlib.Decide.{ℕ-discrete, decLt}
@@ -19,12 +19,26 @@ use Rattle.caps.specs.declared.Rest.{Rest}
 use Rattle.caps.specs.Limits.{leftOf, cappedHere, AtMost, Left}
 use Rattle.caps.specs.Tree.{foldUp, Tree, IsTree, climb, chargeIn}
 use Rattle.caps.specs.Named.{noName, leaves, namedHere, nameIn}
-use Rattle.caps.specs.Contracts.{restUnder, restHere, uncappedAt, nameOf}
+use Rattle.caps.specs.Contracts.{restUnder, limitOf, LeftBy, restWith, RestWith, restHere, uncappedAt, nameOf}
 use Rattle.caps.proofs.Cut.{fits-capped, less-left, here-most, here-left}
 use Rattle.caps.proofs.Climb.{fold-related, climb-past}
 use Rattle.caps.proofs.Charge.{charge-past, charge-class}
 
 -- ---- One cap.
+
+-- what it leaves as a plain number: where there is no cap, more than any rest
+under-plain :
+    (rest : Rest) (cap : Cap) (sum area class : ℕ) → sum < 2 ^ 32 → rest .amount .0 < 2 ^ 32
+    → restWith rest (limitOf cap - sum) area class ≡ restUnder rest (leftOf cap sum) area class
+unfolding restUnder leftOf
+under-plain rest NoCap sum area class low low′ = rw (lt-leb (8589934592 - sum) (rest .amount .0) (omega arith))
+under-plain rest (UpTo most) sum area class low low′ = refl
+
+pub under-left :
+    {cap : Cap} {sum left : ℕ} {rest r : Rest} {area class : ℕ} → LeftBy cap sum left → RestWith rest left area class r
+    → r ≡ restUnder rest (leftOf cap sum) area class
+under-left {cap} {sum} {left} {rest} {r} {area} {class} l u =
+    u .value ∙ ap (λ (n : ℕ). restWith rest n area class) (l .value) ∙ under-plain rest cap sum area class (l .sum-range) (u .rest-range)
 
 -- it leaves the smaller of the rest and what it has left
 under-amount : (rest : Rest) (cap : Cap) (area class : ℕ) → restUnder rest cap area class .amount .0 ≡ cappedBy cap (rest .amount .0)

@@ -1,5 +1,6 @@
 -- What the functions promise their callers beside the definitions. A reader of the rules needs none of it.
-use Prim.Native.Nat.{ℕ}
+use Prim.Native.Nat.{ℕ, _-_, _^_, _≤_, _<_}
+use mathlib.Core.Path.{_≡_}
 use mathlib.Core.Bool.{cond}
 use lib.Dec.{leb, eqb}
 use Rattle.units.specs.declared.Cap.{Cap}
@@ -15,6 +16,24 @@ unfoldable pub restUnder : Rest → Cap → ℕ → ℕ → Rest
 restUnder rest NoCap area class = rest
 restUnder rest (UpTo most) area class =
     cond (leb (most .0) (rest .amount .0)) (record { amount = most; name = record { area = area; class = class } }) rest
+
+-- the same with what a cap leaves as a plain number, larger than any amount where there is no cap (Named.antt: under-plain)
+abbrev pub limitOf : Cap → ℕ
+limitOf NoCap = 8589934592
+limitOf (UpTo most) = most .0
+
+pub record LeftBy (cap : Cap) (sum r : ℕ) : Type 0 where
+  pub value : r ≡ limitOf cap - sum
+  pub sum-range : sum < 2 ^ 32
+
+abbrev pub restWith : Rest → ℕ → ℕ → ℕ → Rest
+restWith rest left area class =
+    cond (leb left (rest .amount .0)) (record { amount = record { 0 = left }; name = record { area = area; class = class } }) rest
+
+pub record RestWith (rest : Rest) (left area class : ℕ) (r : Rest) : Type 0 where
+  pub value : r ≡ restWith rest left area class
+  pub less : r .amount .0 ≤ rest .amount .0
+  pub rest-range : rest .amount .0 < 2 ^ 32
 
 -- an area's all-classes cap, then in class 2 its second-class cap
 unfoldable pub restHere : Caps → ℕ → ℕ → ℕ → ℕ → Rest → Rest

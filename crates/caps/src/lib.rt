@@ -3,8 +3,7 @@ use units::Cap;
 use units::Cents;
 ghost use mathlib.Core.Path.{_≡_};
 ghost use Prim.Native.Nat.{_≤_};
-ghost use Rattle.caps.specs.Limits.{leftOf};
-ghost use Rattle.caps.specs.Contracts.{restUnder, restHere, uncappedAt, nameOf};
+ghost use Rattle.caps.specs.Contracts.{limitOf, LeftBy, RestWith, restHere, uncappedAt, nameOf};
 
 // An area's second-class cap and its all-classes cap, for an adult or a child.
 pub struct Caps {
@@ -27,42 +26,43 @@ pub struct Rest {
 // Area numbers end at 31.
 const NO_AREA: u8 = 255;
 
-// What a cap has left over a sum: 0 if passed already.
-fn left_of(cap: Cap, sum: Cents) -> Cap
-    ensures { λ r. ⌜ r ≡ leftOf cap (sum .0) ⌝ }
+// Larger than any amount and any sum together.
+const NO_LIMIT: u64 = 8_589_934_592;
+
+// A cap as a plain number, so that what it has left is a difference, and the least of it is found without a branch.
+fn limit_of(cap: Cap) -> u64
+    ensures { λ r. ⌜ r ≡ limitOf cap ⌝ }
 {
     match cap {
-        Cap::NoCap => Cap::NoCap,
-        Cap::UpTo(most) => {
-            if most.0 <= sum.0 {
-                Cap::UpTo(Cents(0))
-            } else {
-                Cap::UpTo(Cents(most.0 - sum.0))
-            }
-        }
+        Cap::NoCap => NO_LIMIT,
+        Cap::UpTo(most) => most.0 as u64,
     }
 }
 
+// What a cap has left over a sum: 0 if passed already.
+fn left_of(cap: Cap, sum: Cents) -> u64
+    ensures { λ r. ⌜ LeftBy cap (sum .0) r ⌝ }
+{
+    let most = limit_of(cap);
+    let spent = sum.0 as u64;
+    if most <= spent { 0 } else { most - spent }
+}
+
 // A cap that leaves no more than the least so far takes the name: so of caps that leave equally little the one that is looked at last keeps it.
-fn under(rest: Rest, left: Cap, area: u8, class: u8) -> Rest
-    ensures { λ r. ⌜ (r ≡ restUnder rest left area class) × (r .amount .0 ≤ rest .amount .0) ⌝ }
+fn under(rest: Rest, left: u64, area: u8, class: u8) -> Rest
+    ensures { λ r. ⌜ RestWith rest left area class r ⌝ }
 {
     let amount = rest.amount;
-    match left {
-        Cap::NoCap => rest,
-        Cap::UpTo(most) => {
-            if most.0 <= amount.0 {
-                Rest {
-                    amount: most,
-                    name: Name {
-                        area: area,
-                        class: class,
-                    },
-                }
-            } else {
-                rest
-            }
+    if left <= amount.0 as u64 {
+        Rest {
+            amount: Cents(left as u32),
+            name: Name {
+                area: area,
+                class: class,
+            },
         }
+    } else {
+        rest
     }
 }
 

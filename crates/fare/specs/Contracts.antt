@@ -39,9 +39,22 @@ pub record OnPlane (stop : Stop) : Type 0 where
   pub x : stop .x .0 ≤ mostMetres
   pub y : stop .y .0 ≤ mostMetres
 
+-- the most that dx² + dy² comes to
+abbrev pub farthest : ℕ
+farthest = 2 * square mostMetres
+
 pub record SquaredBetween (a b : Stop) (r : ℕ) : Type 0 where
   pub value : r ≡ apart a b
-  pub range : r ≤ 2 * square mostMetres
+  pub range : r ≤ farthest
+
+-- a guess of kilometres: whatever it is, the squares that follow fit 64 bits
+abbrev pub mostGuess : ℕ
+mostGuess = 2000
+
+-- so many kilometres are not enough
+pub record Short (d k : ℕ) : Type 0 where
+  pub short : square (1000 * k) < d
+  pub range : k ≤ mostGuess
 
 pub record StopOf (tariff : List ℕ) (counts : Counts) (trip : List ℕ) (i : ℕ) (r : Stop) : Type 0 where
   pub value : r ≡ stopOf tariff counts trip i

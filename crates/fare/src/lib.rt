@@ -1,13 +1,15 @@
 // From a trip's bytes to its ride, or the two rides that it is broken into, and from a ride to its price.
 //
-// rides.rt    the smallest area that contains some stops of a trip, the started kilometres between two, the ride from one to another
-// parts.rt    where a trip that comes back is broken, and the rides that its two parts are
-// prices.rt   the price by the area's kind: the four steps in their order, or the adult's and the child's of kind 8
-// towns.rt    whether first class is refused in a marked town
+// rides.rt       the smallest area that contains some stops of a trip, the started kilometres between two, the ride from one to another
+// kilometres.rt  the least kilometres that are enough, from a guess
+// parts.rt       where a trip that comes back is broken, and the rides that its two parts are
+// prices.rt      the price by the area's kind: the four steps in their order, or the adult's and the child's of kind 8
+// towns.rt       whether first class is refused in a marked town
 use trip::Party;
 use units::Km;
 use units::Minutes;
 
+mod kilometres;
 pub mod parts;
 pub mod prices;
 pub mod rides;

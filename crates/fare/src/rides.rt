@@ -1,6 +1,7 @@
 // The ride from one stop of a trip to another: its area contains the stops from the one to the other, its kilometres lie between these two.
 // The ride that a whole trip is goes from its first stop to its last.
 use crate::Ride;
+use crate::kilometres::least_km;
 use tariff::Counts;
 use tariff::Stop;
 use tariff::areas::smallest_containing;
@@ -13,8 +14,7 @@ use units::Minutes;
 ghost use mathlib.Core.Path.{_≡_};
 ghost use Prim.Native.Nat.{_+_, _≤_, _<_};
 ghost use Rattle.units.specs.Day.{dayMinutes};
-ghost use Rattle.tariff.specs.Rules.{mostMetres};
-ghost use Rattle.fare.specs.Distance.{square, gap, apart, LeastKm};
+ghost use Rattle.fare.specs.Distance.{gap, apart, LeastKm};
 ghost use Rattle.fare.specs.Rides.{AreaOfStops, rideBetween};
 ghost use Rattle.fare.specs.Contracts.{Riding, InOrder, OnPlane, SquaredBetween, StopOf, DurationOf, RideIs, RideOf};
 
@@ -26,27 +26,6 @@ fn gap_between(a: Metres, b: Metres) -> u64
     } else {
         (a.0 - b.0) as u64
     }
-}
-
-// The least k with longer² + shorter² ≤ (1,000 k)². The search starts near: k is not below the longer way alone, and the longer way with
-// half the shorter is far enough. What is left between too short and far enough is halved until they meet.
-fn least_km(longer: u64, shorter: u64) -> u32
-    requires { ⌜ (shorter ≤ longer) × (longer ≤ mostMetres) ⌝ }
-    ensures { λ r. ⌜ LeastKm (square longer + square shorter) r ⌝ }
-{
-    let d = longer * longer + shorter * shorter;
-    let mut low = (longer + 999) / 1_000;
-    let mut high = (longer + shorter / 2) / 1_000 + 1;
-    while low < high {
-        let middle = (low + high) / 2;
-        let reach = 1_000 * middle;
-        if d <= reach * reach {
-            high = middle;
-        } else {
-            low = middle + 1;
-        }
-    }
-    high as u32
 }
 
 // dx² + dy² between two stops.

@@ -2,8 +2,9 @@
 use Prim.Native.Nat.{ℕ, _+_, _*_, _≤_, _<_}
 use mathlib.Core.Path.{_≡_}
 use mathlib.Core.Bool.{Bool, true}
-use mathlib.Core.List.{List}
+use mathlib.Core.List.{List, _++_}
 use lib.ListN.{length, take}
+use Rattle.text.specs.Words.{bytes, decimal}
 use Rattle.text.specs.Contracts.{Behind}
 use Rattle.tariff.specs.declared.Counts.{Counts}
 use Rattle.roll.specs.declared.Line.{Line}
@@ -26,6 +27,13 @@ mostRecord = mostParts * mostLine
 
 abbrev pub mostTurn : ℕ
 mostTurn = mostRecord + mostLine
+
+-- what a part's line begins with, and its bytes at most: the trip's number, and the ride's area, kilometres and minutes
+abbrev pub rideText : ℕ → ℕ → ℕ → ℕ → List ℕ
+rideText number area km minutes = ((decimal number ++ (bytes " " ++ decimal area)) ++ (bytes " " ++ decimal km)) ++ (bytes " " ++ decimal minutes)
+
+abbrev pub mostRide : ℕ
+mostRide = 43
 
 -- each record has added what its parts can say at most
 abbrev pub CentsFit : Tally → Type 0

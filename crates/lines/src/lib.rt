@@ -1,7 +1,7 @@
 // What the program prints of a roll, put together in a buffer that the caller lends and writes when it is full: no call of the system for a
 // number or a line.
 //
-// spaced.rt  numbers behind a blank, in front of a place
+// spaced.rt  numbers behind a blank, behind a place
 // texts.rt   header, lines, tail, and a refused tariff's one line, behind a place
 // turns.rt   what stands at the start of the bytes that have come, settled, counted and put
 mod spaced;

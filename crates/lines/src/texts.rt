@@ -1,19 +1,20 @@
 // The texts of a roll, put behind what is there already: each function answers the place behind what it has put.
-use crate::spaced::put_long_spaced_before;
-use crate::spaced::put_spaced_before;
+use crate::spaced::put_long_spaced;
+use crate::spaced::put_spaced;
 use crate::turns::Tally;
 use roll::Entry;
 use roll::Line;
+use text::behind::put_byte;
 use text::behind::put_named;
 use text::behind::put_number;
 use text::behind::put_text;
-use text::digits::put_before;
+use text::fours::put_small;
 ghost use Prim.Native.Nat.{_+_, _≤_};
 ghost use lib.ListN.{length};
 ghost use Rattle.roll.specs.declared.Line.the-variants.{Refused};
 ghost use Rattle.text.specs.Contracts.{Behind};
 ghost use Rattle.lines.specs.Text.{header, entryText, lineText, tailText, faultText};
-ghost use Rattle.lines.specs.Contracts.{mostLine, mostRecord};
+ghost use Rattle.lines.specs.Contracts.{mostRide, mostLine, mostRecord, rideText};
 
 // The first line.
 pub fn put_header(out: &mut [u8]) -> usize
@@ -23,19 +24,33 @@ pub fn put_header(out: &mut [u8]) -> usize
     put_text(out, 0, b"trip area km min open cents\n")
 }
 
-// The line of a part, put together from its end on and then copied.
+// What a part's line begins with: the trip's number, and the ride's area, kilometres and minutes.
+fn put_ride(out: &mut [u8], place: usize, number: u32, area: u32, km: u32, minutes: u32) -> usize
+    requires { ⌜ place + mostRide ≤ length (now out) ⌝ }
+    ensures { λ r. ⌜ Behind (rideText number area km minutes) mostRide (now (out .entry)) place (now (out .exit)) r ⌝ }
+{
+    let after0 = put_small(out, place, number);
+    let after1 = put_spaced(out, after0, area);
+    let after2 = put_spaced(out, after1, km);
+    put_spaced(out, after2, minutes)
+}
+
+// The line of a part.
 fn put_charged(out: &mut [u8], place: usize, number: u32, entry: Entry) -> usize
     requires { ⌜ place + mostLine ≤ length (now out) ⌝ }
     ensures { λ r. ⌜ Behind (entryText number entry) mostLine (now (out .entry)) place (now (out .exit)) r ⌝ }
 {
-    let mut text = [b'\n'; 128];
-    let at5 = put_long_spaced_before(&mut text, 127, entry.cents);
-    let at4 = put_spaced_before(&mut text, at5, entry.opening);
-    let at3 = put_spaced_before(&mut text, at4, entry.minutes as u32);
-    let at2 = put_spaced_before(&mut text, at3, entry.km as u32);
-    let at1 = put_spaced_before(&mut text, at2, entry.area as u32);
-    let start = put_before(&mut text, at1, number);
-    put_text(out, place, &text[start..])
+    let ride = put_ride(
+        out,
+        place,
+        number,
+        entry.area as u32,
+        entry.km as u32,
+        entry.minutes as u32,
+    );
+    let opening = put_spaced(out, ride, entry.opening);
+    let cents = put_long_spaced(out, opening, entry.cents);
+    put_byte(out, cents, b'\n')
 }
 
 // The line of a refused record.

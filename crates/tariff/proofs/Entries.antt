@@ -109,7 +109,7 @@ area-kinds : (kind : ℕ) → isArea kind ≡ true → (kind ≡ commonKind) ⊎
 area-kinds kind e =
     one-of (eqb kind commonKind) (eqb kind aachenKind) e (λ is. inl (eqb-true kind commonKind is)) (λ is. inr (eqb-true kind aachenKind is))
 
-kinds-area : (kind : ℕ) → (kind ≡ commonKind) ⊎ (kind ≡ aachenKind) → isArea kind ≡ true
+pub kinds-area : (kind : ℕ) → (kind ≡ commonKind) ⊎ (kind ≡ aachenKind) → isArea kind ≡ true
 kinds-area kind (inl is) = rw (eq-eqb kind commonKind is)
 kinds-area kind (inr is) = rw (eq-eqb kind aachenKind is) (either-right (eqb kind commonKind))
 
@@ -237,7 +237,7 @@ module _ (b : List ℕ) (at : ℕ) (soFar : Counts) where
       let (long, no-factor, no-stop, few) = area-tests kind body soFar due in
       record { kinds = area-kinds kind is; frame = rw long at frame; no-factor = no-factor; no-stop = no-stop; few = few }
 
-  area-holds : (kind : ℕ) → AreaInPlace b at soFar kind → areaDue kind (areaBodyOf kind) soFar ≡ true
+  pub area-holds : (kind : ℕ) → AreaInPlace b at soFar kind → areaDue kind (areaBodyOf kind) soFar ≡ true
   area-holds kind here =
       rw (
         eq-eqb (areaBodyOf kind) (areaBodyOf kind) refl,

@@ -1,4 +1,5 @@
 pub mod Places
+pub mod PlaceLaws
 pub mod Wide
 pub mod WrongValues
 pub mod Entries
@@ -10,5 +11,10 @@ pub mod FactorLaws
 pub mod LevelCaps
 pub mod Passed
 pub mod Faults
-pub mod RowLaws
+pub mod Words
+pub mod Masks
+pub mod StopLaws
+pub mod BlockLaws
+pub mod PriceLaws
+pub mod AreaRunLaws
 pub mod Prefix

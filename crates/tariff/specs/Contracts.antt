@@ -1,9 +1,8 @@
--- What serves contracts alone: records that requires and ensures speak of, and stops in a row, which the reading of a tariff passes over
--- four at a time.
-use Prim.Native.Nat.{ℕ, zero, suc, _+_, _*_, _≤_, _<_}
+-- What serves contracts alone: records that requires and ensures speak of.
+use Prim.Native.Nat.{ℕ, _+_, _*_, _≤_, _<_}
 use mathlib.Core.Path.{_≡_}
 use mathlib.Core.List.{List}
-use mathlib.Core.Bool.{Bool, cond, _&&_}
+use mathlib.Core.Bool.{Bool, true, _&&_}
 use lib.ListN.{length}
 use lib.Dec.{eqb}
 use Rattle.wire.specs.Number.{getLe}
@@ -64,18 +63,6 @@ pub record FactorOf (b : List ℕ) (counts : Counts) (area : ℕ) (r : Factor) :
 unfoldable pub stopStands : List ℕ → ℕ → ℕ → Bool
 stopStands b at areas = (eqb (getLe 2 b at) (2 + stopBody) && eqb (getLe 2 b (at + 2)) 2) && stopRight (stopFields b at) areas
 
--- four of them, one after another
-abbrev pub rowStops : ℕ
-rowStops = 4
-
-abbrev pub rowSize : ℕ
-rowSize = rowStops * stopSize
-
-unfoldable pub rowStands : List ℕ → ℕ → ℕ → Bool
-rowStands b at areas =
-    stopStands b at areas && stopStands b (at + stopSize) areas && stopStands b (at + 2 * stopSize) areas && stopStands b (at + 3 * stopSize) areas
-
--- the rows that stand one after another from a place on, `most` at most
-unfoldable pub rowsStanding : ℕ → List ℕ → ℕ → ℕ → ℕ
-rowsStanding zero b at areas = 0
-rowsStanding (suc most) b at areas = cond (rowStands b at areas) (suc (rowsStanding most b (at + rowSize) areas)) 0
+-- so many of them, one after another from a place on
+pub record StopsStand (b : List ℕ) (from areas many : ℕ) : Type 0 where
+  pub each : (i : ℕ) → i < many → stopStands b (from + stopSize * i) areas ≡ true

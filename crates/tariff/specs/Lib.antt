@@ -7,3 +7,5 @@ pub mod Areas
 pub mod Factors
 pub mod Levels
 pub mod Contracts
+pub mod Blocks
+pub mod AreaRuns

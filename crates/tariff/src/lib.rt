@@ -2,7 +2,9 @@
 //
 // fields.rt  where a record's fields stand, and the fields of a record at a place
 // rules.rt   which values a record may have
-// rows.rt    stops in a row, four at a time
+// area_run.rt areas one after another, without a look at what else could stand there
+// prices.rt  an area's prices at once
+// blocks.rt  stops one after another, 27 with one test
 // scan.rt    the loop over the records: the first fault, or the finished counts
 // areas.rt   areas and stops by number, the areas above an area, the smallest area containing two
 // factors.rt the factor record that holds for an area
@@ -12,11 +14,13 @@ use units::Cents;
 use units::Metres;
 use units::Minutes;
 
+pub mod area_run;
 pub mod areas;
+pub mod blocks;
 pub mod factors;
 pub mod fields;
 pub mod levels;
-pub mod rows;
+pub mod prices;
 pub mod rules;
 pub mod scan;
 

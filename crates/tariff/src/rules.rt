@@ -3,6 +3,7 @@ use crate::Counts;
 use crate::Factor;
 use crate::areas::area_place;
 use crate::fields::AACHEN_KIND;
+use crate::fields::AREA_SIZE;
 use crate::fields::AreaFields;
 use crate::fields::COMMON_KIND;
 use crate::fields::LongFields;
@@ -18,7 +19,7 @@ ghost use Prim.Native.Nat.{_+_, _≤_};
 ghost use lib.ListN.{length};
 ghost use lib.Dec.{eqb};
 ghost use Rattle.wire.specs.Frame.{headSize};
-ghost use Rattle.tariff.specs.Layout.{aachenKind, areaBodyOf};
+ghost use Rattle.tariff.specs.Layout.{aachenKind, areaBodyOf, areaPlace, longAreas};
 ghost use Rattle.tariff.specs.Fields.{longFields};
 ghost use Rattle.tariff.specs.Rules.{
   pricesRight,
@@ -30,7 +31,7 @@ ghost use Rattle.tariff.specs.Rules.{
   factorRight,
   stopRight,
 };
-ghost use Rattle.tariff.specs.Contracts.{AreasThere};
+ghost use Rattle.tariff.specs.Contracts.{AreaThere, AreasThere};
 
 const MOST_BASE_PRICE: u16 = 10_000;
 
@@ -64,20 +65,19 @@ pub fn prices_right(f: AreaFields) -> bool
 pub fn trip_cap_right(f: AreaFields) -> bool
     ensures { λ r. ⌜ r ≡ tripCapRight f ⌝ }
 {
+    let sort = f.sort;
+    if sort == 2 {
+        return (f.cap1 <= MONEY)
+            & (f.cap2 <= MONEY)
+            & (f.cap3 <= MONEY)
+            & (f.cap4 <= MONEY)
+            & (f.cap5 <= MONEY);
+    }
     let unused = (f.cap3 == 0) & (f.cap4 == 0) & (f.cap5 == 0);
-    let none = (f.sort == 0) & (f.cap1 == 0) & (f.cap2 == 0) & unused;
-    let flat = (f.sort == 1)
-        & (f.cap1 <= MONEY)
-        & (LEAST_MINUTES <= f.cap2)
-        & (f.cap2 <= MOST_MINUTES)
-        & unused;
-    let by_level = (f.sort == 2)
-        & (f.cap1 <= MONEY)
-        & (f.cap2 <= MONEY)
-        & (f.cap3 <= MONEY)
-        & (f.cap4 <= MONEY)
-        & (f.cap5 <= MONEY);
-    none | flat | by_level
+    if sort == 1 {
+        return (f.cap1 <= MONEY) & (LEAST_MINUTES <= f.cap2) & (f.cap2 <= MOST_MINUTES) & unused;
+    }
+    (sort == 0) & (f.cap1 == 0) & (f.cap2 == 0) & unused
 }
 
 // The trip cap, the day cap and the bicycle flat.
@@ -93,16 +93,19 @@ pub fn caps_right(f: AreaFields) -> bool
 pub fn tickets_right(f: AreaFields, g: LongFields) -> bool
     ensures { λ r. ⌜ r ≡ ticketsRight f g ⌝ }
 {
+    let sort = f.sort;
+    if sort == 2 {
+        return (g.child1 <= MONEY)
+            & (g.child2 <= MONEY)
+            & (g.child3 <= MONEY)
+            & (g.child4 <= MONEY)
+            & (g.child5 <= MONEY);
+    }
     let unused = (g.child2 == 0) & (g.child3 == 0) & (g.child4 == 0) & (g.child5 == 0);
-    let none = (f.sort == 0) & (g.child1 == 0) & unused;
-    let flat = (f.sort == 1) & (g.child1 <= MONEY) & unused;
-    let by_level = (f.sort == 2)
-        & (g.child1 <= MONEY)
-        & (g.child2 <= MONEY)
-        & (g.child3 <= MONEY)
-        & (g.child4 <= MONEY)
-        & (g.child5 <= MONEY);
-    none | flat | by_level
+    if sort == 1 {
+        return (g.child1 <= MONEY) & unused;
+    }
+    (sort == 0) & (g.child1 == 0) & unused
 }
 
 // What kind 8 has besides: the child tickets, the bicycle price, and the town mark, which is 0 unless the area is a city.
@@ -126,10 +129,22 @@ pub fn rest_right(b: &[u8], at: usize, kind: u16, f: AreaFields) -> bool
     }
 }
 
+// Where the record of an earlier area begins. So many of the first areas are known to be of kind 1: up to there all records have one length.
+fn parent_place(b: &[u8], so_far: Counts, plain: u16, parent: u8) -> usize
+    requires { ⌜ AreaThere (now b) «so_far» parent × (longAreas (now b) plain ≡ 0) ⌝ }
+    ensures { λ r. ⌜ r ≡ areaPlace (now (b .entry)) parent ⌝ }
+{
+    if parent as u16 <= plain {
+        AREA_SIZE * parent as usize
+    } else {
+        area_place(b, so_far, parent as usize)
+    }
+}
+
 // The next area after those so far: area 0 alone has level 0, parent 0, and is of kind 1. A region's parent is 0; a city's is an earlier
 // region of its own kind. No flat exceeds the parent's, but that of a region of kind 8 may.
-pub fn place_right(b: &[u8], so_far: Counts, kind: u16, f: AreaFields) -> bool
-    requires { ⌜ AreasThere (now b) «so_far» ⌝ }
+pub fn place_right(b: &[u8], so_far: Counts, plain: u16, kind: u16, f: AreaFields) -> bool
+    requires { ⌜ AreasThere (now b) «so_far» × (longAreas (now b) plain ≡ 0) ⌝ }
     ensures { λ r. ⌜ r ≡ placeRight (now (b .entry)) «so_far» kind f ⌝ }
 {
     let number = so_far.areas;
@@ -137,14 +152,18 @@ pub fn place_right(b: &[u8], so_far: Counts, kind: u16, f: AreaFields) -> bool
         return (f.level == 0) & (f.parent == 0) & (kind == COMMON_KIND);
     }
     let parent = f.parent;
+    let level = f.level;
+    if level == 1 {
+        return (parent == 0) & ((kind == AACHEN_KIND) | (f.bicycle_flat <= flat_at(b, 0)));
+    }
+    if level != 2 {
+        return false;
+    }
     if number <= parent as u16 {
         return false;
     }
-    let at = area_place(b, so_far, parent as usize);
-    let region = (f.level == 1) & (f.parent == 0);
-    let city = (f.level == 2) & (level_at(b, at) == 1) & (kind_at(b, at) == kind);
-    let free = (f.level == 1) & (kind == AACHEN_KIND);
-    (region | city) & (free | (f.bicycle_flat <= flat_at(b, at)))
+    let at = parent_place(b, so_far, plain, parent);
+    (level_at(b, at) == 1) & (kind_at(b, at) == kind) & (f.bicycle_flat <= flat_at(b, at))
 }
 
 // The next factor record after so many: its factor, and its mark, which is 0 in the state's, the first.

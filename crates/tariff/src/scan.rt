@@ -1,7 +1,10 @@
 // The loop over a tariff's records: in a tariff the first faulty record decides.
 use crate::Counts;
 use crate::Reading;
-use crate::factors::wide_with;
+use crate::area_run::Run;
+use crate::area_run::after_area;
+use crate::area_run::areas_found;
+use crate::blocks::stops_standing;
 use crate::fields::AACHEN_KIND;
 use crate::fields::AREA_BODY;
 use crate::fields::COMMON_KIND;
@@ -14,15 +17,10 @@ use crate::fields::MOST_STOPS;
 use crate::fields::STOP_BODY;
 use crate::fields::STOP_KIND;
 use crate::fields::STOP_SIZE;
-use crate::fields::area_end;
 use crate::fields::area_fields;
 use crate::fields::factor_fields;
-use crate::fields::level_at;
 use crate::fields::long_of;
 use crate::fields::stop_fields;
-use crate::rows::ROW_SIZE;
-use crate::rows::ROW_STOPS;
-use crate::rows::rows_standing;
 use crate::rules::caps_right;
 use crate::rules::factor_right;
 use crate::rules::place_right;
@@ -34,9 +32,8 @@ use wire::frame_at;
 ghost use mathlib.Core.Path.{_≡_};
 ghost use Prim.Native.Nat.{_+_, _-_, _/_, _≤_, min};
 ghost use lib.ListN.{length};
-ghost use Rattle.tariff.specs.Layout.{mostStops};
+ghost use Rattle.tariff.specs.Layout.{stopSize, mostStops};
 ghost use Rattle.tariff.specs.Rules.{factorsDue};
-ghost use Rattle.tariff.specs.Contracts.{rowStops, rowSize};
 ghost use Rattle.tariff.specs.Scan.{Reached, areaEntry, factorEntry, stopEntry, entryAt, readTariff};
 
 // What stands at a place of the tariff: its end, a faultless area of some kind, factor record or stop, or a record with a fault (1, 2 or 3).
@@ -61,7 +58,7 @@ fn area_entry(b: &[u8], at: usize, so_far: Counts, kind: u16, body: usize) -> En
         let f = area_fields(b, at);
         if prices_right(f)
             & caps_right(f)
-            & place_right(b, so_far, kind, f)
+            & place_right(b, so_far, 0, kind, f)
             & rest_right(b, at, kind, f)
         {
             Entry::Area(kind)
@@ -136,13 +133,13 @@ pub fn entry_at(b: &[u8], at: usize, so_far: Counts, due: u16) -> Entry
     }
 }
 
-// How many rows of stops there is room for: in the bytes that are left, and up to the most stops.
-fn rows_due(left: usize, stops: u16) -> usize
+// How many stops more there is room for: in the bytes that are left, and up to the most stops.
+fn stops_due(left: usize, stops: u16) -> usize
     requires { ⌜ stops ≤ mostStops ⌝ }
-    ensures { λ r. ⌜ r ≡ min (left / rowSize) ((mostStops - stops) / rowStops) ⌝ }
+    ensures { λ r. ⌜ r ≡ min (left / stopSize) (mostStops - stops) ⌝ }
 {
-    let room = left / ROW_SIZE;
-    let due = (MOST_STOPS - stops) as usize / ROW_STOPS;
+    let room = left / STOP_SIZE;
+    let due = (MOST_STOPS - stops) as usize;
     if room <= due { room } else { due }
 }
 
@@ -167,10 +164,10 @@ pub fn read_tariff(tariff: &[u8]) -> Reading
                 break Reading::Fault { number, at };
             }
             Entry::Area(kind) => {
-                due = wide_with(level_at(tariff, at), due);
-                at = area_end(tariff, at);
-                so_far.areas += 1;
-                so_far.long += long_of(kind) as u16;
+                let run = areas_found(tariff, after_area(tariff, Run { at, so_far, due }, kind));
+                at = run.at;
+                so_far = run.so_far;
+                due = run.due;
             }
             Entry::Factor => {
                 at += FACTOR_SIZE;
@@ -179,14 +176,14 @@ pub fn read_tariff(tariff: &[u8]) -> Reading
             Entry::Stop => {
                 at += STOP_SIZE;
                 so_far.stops += 1;
-                let rows = rows_standing(
+                let stops = stops_standing(
                     tariff,
                     at,
                     so_far.areas,
-                    rows_due(tariff.len() - at, so_far.stops),
+                    stops_due(tariff.len() - at, so_far.stops),
                 );
-                at += ROW_SIZE * rows;
-                so_far.stops += (ROW_STOPS * rows) as u16;
+                at += STOP_SIZE * stops;
+                so_far.stops += stops as u16;
             }
         }
     }

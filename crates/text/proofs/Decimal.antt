@@ -44,12 +44,12 @@ more-digits (suc n) some =
     some-in n (suc n) some ∙ ap (_++ (digit (suc n) ∷ [])) (enough n (suc n / 10) (suc n / 10) (omega arith) (omega arith))
 more-digits zero some = absurd (omega arith)
 
-decimal-digits : (n : ℕ) → decimal n ≡ digits (n / 10) ++ (digit n ∷ [])
+pub decimal-digits : (n : ℕ) → decimal n ≡ digits (n / 10) ++ (digit n ∷ [])
 unfolding decimal
 decimal-digits n = ap (_++ (digit n ∷ [])) (enough n (n / 10) (n / 10) (omega arith) (omega arith))
 
 -- in decimal a number but 0 is its digits
-decimal-some : (n : ℕ) → 0 < n → decimal n ≡ digits n
+pub decimal-some : (n : ℕ) → 0 < n → decimal n ≡ digits n
 decimal-some n some = decimal-digits n ∙ sym (more-digits n some)
 
 -- ---- Digits in front of a place of a buffer.

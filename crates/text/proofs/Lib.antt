@@ -1,3 +1,4 @@
 pub mod Decimal
 pub mod Puts
 pub mod Values
+pub mod LastDigits

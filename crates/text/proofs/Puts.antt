@@ -1,4 +1,4 @@
--- Texts put one in front of another, and one behind another.
+-- Texts put one behind another.
 -- Assumes nothing.
 use Prim.Native.Nat.{ℕ, suc, _+_, _-_, _≤_, _<_}
 use native.Mathlib.Numerals.{add-one}
@@ -8,14 +8,6 @@ use mathlib.Core.List.{List, [], _∷_, _++_, append-nil, append-assoc}
 use lib.ListN.{length, getD, take, drop, set, length-drop, drop-of-length-le}
 use lib.Seq.{take-suc, take-suc-set, take-all, take-length}
 use Rattle.text.specs.Contracts.{Before, Behind}
-use Rattle.text.proofs.Decimal.{set-front}
-
--- a text in front of another
-pub before-join :
-    {first second : List ℕ} {m n : ℕ} {a b c : List ℕ} {end middle start : ℕ}
-    → Before second n a end b middle → Before first m b middle c start → Before (first ++ second) (m + n) a end c start
-before-join {first = first} x y =
-    record { put = y .put ∙ rw (x .put, append-assoc); order = omega arith; room = omega arith }
 
 -- a text behind another
 pub behind-join :
@@ -30,10 +22,11 @@ pub behind-same :
 behind-same {a = a} {place = place} x is wide =
     record { put = x .put ∙ ap (take place a ++_) is; order = x .order; room = omega arith }
 
--- one byte in front
-pub byte-before :
-    (text : List ℕ) (place value : ℕ) → 0 < place → place ≤ length text → Before (value ∷ []) 1 text place (set text (place - 1) value) (place - 1)
-byte-before text place value some within = record { put = set-front text place value some within; order = omega arith; room = omega arith }
+-- one byte behind what is there
+pub byte-behind : (out : List ℕ) (place value : ℕ) → place < length out → Behind (value ∷ []) 1 out place (set out place value) (place + 1)
+byte-behind out place value within =
+    let next : place + 1 ≡ suc place = omega arith in
+    record { put = rw (next, take-suc-set out place value within); order = omega arith; room = omega arith }
 
 -- ---- A text copied byte by byte.
 

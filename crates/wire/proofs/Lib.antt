@@ -1,5 +1,6 @@
 pub mod Tests
 pub mod Number
+pub mod Joined
 pub mod Starts
 pub mod Frames
 pub mod Each

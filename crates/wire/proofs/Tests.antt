@@ -22,6 +22,11 @@ pub one-of-three {ℓ} : {P : Type ℓ} (s t u : Bool) → s || t || u ≡ true 
 one-of-three true t u e one two three = one refl
 one-of-three false t u e one two three = one-of t u e two three
 
+-- A test beside one that fails decides alone.
+pub or-none : (t : Bool) → t || false ≡ t
+or-none true = refl
+or-none false = refl
+
 -- One of three tests that holds is enough.
 pub second-holds : (s t u : Bool) → t ≡ true → s || t || u ≡ true
 second-holds true t u e = refl

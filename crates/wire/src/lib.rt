@@ -1,4 +1,4 @@
-// Little-endian numbers of 1, 2 and 4 bytes at a place of a slice, and the frame that every record stands in.
+// Little-endian numbers of 1, 2, 4 and 8 bytes at a place of a slice, and the frame that every record stands in.
 ghost use mathlib.Core.Path.{_≡_};
 ghost use Prim.Native.Nat.{_+_, _≤_, _<_};
 ghost use lib.ListN.{length};
@@ -45,6 +45,27 @@ pub fn four_at(b: &[u8], at: usize) -> u32
     ensures { λ r. ⌜ Number 4 (now (b .entry)) at r ⌝ }
 {
     wide(b[at]) + 256 * (wide(b[at + 1]) + 256 * (wide(b[at + 2]) + 256 * wide(b[at + 3])))
+}
+
+fn word(x: u8) -> u64
+    ensures { λ r. ⌜ (r ≡ x) × (r < 256) ⌝ }
+{
+    x as u64
+}
+
+// The eight bytes are joined by "or", for of this form the compiler makes one load.
+pub fn eight_at(b: &[u8], at: usize) -> u64
+    requires { ⌜ at + 8 ≤ length (now b) ⌝ }
+    ensures { λ r. ⌜ Number 8 (now (b .entry)) at r ⌝ }
+{
+    word(b[at])
+        | (word(b[at + 1]) * 256)
+        | (word(b[at + 2]) * 65_536)
+        | (word(b[at + 3]) * 16_777_216)
+        | (word(b[at + 4]) * 4_294_967_296)
+        | (word(b[at + 5]) * 1_099_511_627_776)
+        | (word(b[at + 6]) * 281_474_976_710_656)
+        | (word(b[at + 7]) * 72_057_594_037_927_936)
 }
 
 pub fn put_one(b: &mut [u8], at: usize, v: u8)

@@ -16,19 +16,16 @@ sub-years c =
 cast-years : tie.Need-cast-years
 cast-years c = search needs
 
-is-leap-requires : tie.Need-is-leap-requires
-is-leap-requires c κs = search needs
-
 days-before-requires : tie.Need-days-before-requires
 days-before-requires c κs =
-    let given = c .before .args in
-    let date = date-fields (given .year) (given .month) (given .day) (c .before .pre) in
+    let given = c .args in
+    let date = date-fields (given .year) (given .month) (given .day) (c .pre) in
     (date .first-month, date .last-month)
 
 sub-in-year : tie.Need-sub-in-year
 sub-in-year c =
-    let given = c .before .before .args in
-    let date = date-fields (given .year) (given .month) (given .day) (c .before .before .pre) in
+    let given = c .before .args in
+    let date = date-fields (given .year) (given .month) (given .day) (c .before .pre) in
     omega arith
 
 cast-in-year : tie.Need-cast-in-year
@@ -51,10 +48,10 @@ add-result-3 c = search needs
 
 returns : tie.Need-returns
 returns c =
-    let given = c .before .before .args in
+    let given = c .before .args in
     day-number (given .year) (given .month) (given .day) (c .days-before .result)
-    (date-fields (given .year) (given .month) (given .day) (c .before .before .pre))
-    (rw (← c .before .is-leap .ensures) (c .days-before .ensures .value))
+    (date-fields (given .year) (given .month) (given .day) (c .before .pre))
+    (c .days-before .ensures .value)
 
 pub day-number-spec : {M : Type 1} → statement M
 day-number-spec =
@@ -62,7 +59,6 @@ day-number-spec =
     (tie.spec
     sub-years
     cast-years
-    is-leap-requires
     days-before-requires
     sub-in-year
     cast-in-year

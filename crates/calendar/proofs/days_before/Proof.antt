@@ -6,39 +6,21 @@ use Rattle.calendar.proofs.Table.{at-month}
 use Rattle.calendar.proofs.days_before.Statement.{statement}
 use Rattle.calendar.proofs.days_before.Tie as tie
 
-sub-at : tie.Need-sub-at
-sub-at c = search needs
+leap-row-requires : tie.Need-leap-row-requires
+leap-row-requires c κs = search needs
 
-cast-at : tie.Need-cast-at
-cast-at c = search needs
-
-mul-result : tie.Need-mul-result
-mul-result c = search needs
-
-array-read-result : tie.Need-array-read-result
-array-read-result c = search needs
-
-mul-result-2 : tie.Need-mul-result-2
-mul-result-2 c = search needs
-
-array-read-result-2 : tie.Need-array-read-result-2
-array-read-result-2 c = search needs
+common-row-requires : tie.Need-common-row-requires
+common-row-requires c κs = search needs
 
 returns : tie.Need-returns
-returns c = rw (c .if1 .taken) (at-month true _ (c .before .pre .0) (c .before .pre .1))
+returns c =
+    let start = c .before .before in
+    rw (c .before .if1 .taken, c .leap-row .ensures) (at-month true _ (start .pre .0) (start .pre .1))
 
 returns-2 : tie.Need-returns-2
-returns-2 c = rw (c .if1 .left) (at-month false _ (c .before .pre .0) (c .before .pre .1))
+returns-2 c =
+    let start = c .before .before in
+    rw (c .before .if1 .left, c .common-row .ensures) (at-month false _ (start .pre .0) (start .pre .1))
 
 pub days-before-spec : {M : Type 1} → statement M
-days-before-spec =
-    tie.close
-    (tie.spec
-    sub-at
-    cast-at
-    mul-result
-    array-read-result
-    mul-result-2
-    array-read-result-2
-    returns
-    returns-2)
+days-before-spec = tie.close (tie.spec leap-row-requires common-row-requires returns returns-2)

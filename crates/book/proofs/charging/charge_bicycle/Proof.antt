@@ -4,62 +4,52 @@
 use native.Mathlib.Omega.{arith}
 use mathlib.Core.Path.{sym, _∙_}
 use borrow.Author.Needs.{needs}
-use Rattle.book.proofs.ChargeLaws.{flat-before-most, bicycle-pays, bicycle-flat}
+use Rattle.book.proofs.ChargeLaws.{bicycle-pays, bicycle-flat, bicycle-fits}
 use Rattle.book.proofs.charging.charge_bicycle.Statement.{statement}
 use Rattle.book.proofs.charging.charge_bicycle.Tie as tie
 
 new-cover-requires : tie.Need-new-cover-requires
-new-cover-requires c κs = search needs
+new-cover-requires c κs = let p = c .before .pre in (p .0, p .1 .1)
 
-is-aachen-requires : tie.Need-is-aachen-requires
-is-aachen-requires c κs = search needs
+terms-by-requires : tie.Need-terms-by-requires
+terms-by-requires c κs = let p = c .before .before .pre in (p .0, (p .1 .0, c .new-cover .ensures .there))
 
 payment-requires : tie.Need-payment-requires
-payment-requires c κs =
-    let p = c .before .before .before .before .pre in
-    (p .0, (c .before .before .new-cover .ensures .there, sym (c .before .is-aachen .ensures) ∙ c .if1 .taken))
-
-flat-requires : tie.Need-flat-requires
-flat-requires c κs = (c .before .before .before .before .pre .0, c .before .before .new-cover .ensures .there)
+payment-requires c κs = search needs
 
 flat-before-requires : tie.Need-flat-before-requires
-flat-before-requires c κs = let p = c .before .before .before .before .before .pre in (p .0, p .1 .1)
+flat-before-requires c κs = let p = c .before .before .before .before .before .pre in (p .0, (p .1 .0, p .1 .1 .1))
 
-sub-t13 : tie.Need-sub-t13
-sub-t13 c =
+sub-t15 : tie.Need-sub-t15
+sub-t15 c =
     let s = c .before .before .before in
-    let p = s .before .before .before .before .pre in
-    let common = sym (s .before .is-aachen .ensures) ∙ s .if1 .left in
+    let p = c .before .before .before .before .before .before .before .pre in
     omega (
       arith,
-      c .before .flat-before .ensures,
-      c .before .before .flat .ensures .value,
-      flat-before-most _ _ _ (p .0) (p .1 .0) (p .1 .1) (s .before .before .new-cover .ensures) common,
+      bicycle-fits _ _ _ (p .0) (p .1 .1 .0) (s .before .before .new-cover .ensures) (s .before .terms-by .ensures) (p .1 .1 .1) (s .if1 .left)
+          (c .before .flat-before .ensures),
     )
 
 returns : tie.Need-returns
 returns c =
-    let s = c .before in
-    let p = s .before .before .before .before .pre in
-    bicycle-pays _ _ _ (p .0) (p .1 .0) (s .before .before .new-cover .ensures) (sym (s .before .is-aachen .ensures) ∙ s .if1 .taken)
-    (c .payment .ensures)
+    let p = c .before .before .before .before .before .pre in
+    bicycle-pays _ _ _ (p .0) (p .1 .1 .0) (c .before .before .before .new-cover .ensures) (c .before .before .terms-by .ensures) (c .before .if1 .taken) (c .payment .ensures)
 
 returns-2 : tie.Need-returns-2
 returns-2 c =
     let s = c .before .before .before in
-    let p = s .before .before .before .before .pre in
-    bicycle-flat _ _ _ (p .0) (p .1 .0) (s .before .before .new-cover .ensures) (sym (s .before .is-aachen .ensures) ∙ s .if1 .left)
-    (c .before .before .flat .ensures) (c .before .flat-before .ensures)
+    let p = c .before .before .before .before .before .before .before .pre in
+    bicycle-flat _ _ _ (p .0) (p .1 .1 .0) (s .before .before .new-cover .ensures) (s .before .terms-by .ensures) (s .if1 .left)
+    (c .before .flat-before .ensures)
 
 pub charge-bicycle-spec : {M : Type 1} → statement M
 charge-bicycle-spec =
     tie.close
     (tie.spec
     new-cover-requires
-    is-aachen-requires
+    terms-by-requires
     payment-requires
-    flat-requires
     flat-before-requires
-    sub-t13
+    sub-t15
     returns
     returns-2)

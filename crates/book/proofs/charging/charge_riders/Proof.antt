@@ -16,7 +16,7 @@ use Rattle.book.proofs.charging.charge_riders.Statement.{statement}
 use Rattle.book.proofs.charging.charge_riders.Tie as tie
 
 abbrev Inv-loop : tie.InvT-loop
-Inv-loop tariff book current paid amounts₀ reductions₀ names₀ count child first from class at fare chain i₀ amounts reductions names i =
+Inv-loop tariff book current paid amounts₀ reductions₀ names₀ count child first from class at fare chain rooms i₀ amounts reductions names i =
     Filled (λ k. restBy chain (inWindow current book) (first + k) class (getD paid (from + k) 0) (fare .0) .amount .0) amounts₀ amounts from count i
     × Filled (λ k. cutBy (fare .0) (restBy chain (inWindow current book) (first + k) class (getD paid (from + k) 0) (fare .0)) .reduction .0)
     reductions₀ reductions from count i
@@ -24,7 +24,7 @@ Inv-loop tariff book current paid amounts₀ reductions₀ names₀ count child 
     names₀ names from count i
 
 abbrev μ-loop : tie.MeasureT-loop
-μ-loop tariff book current paid amounts₀ reductions₀ names₀ count child first from class at fare chain i₀ amounts reductions names i = count - i
+μ-loop tariff book current paid amounts₀ reductions₀ names₀ count child first from class at fare chain rooms i₀ amounts reductions names i = count - i
 
 returns : tie.Need-returns Inv-loop μ-loop
 unfolding riderCharges riderCuts reductionsOf namesOf
@@ -39,6 +39,9 @@ price-requires c κs = rw (c .area .ensures) (priceable (c .before .before .befo
 chain-of-requires : tie.Need-chain-of-requires Inv-loop μ-loop
 chain-of-requires c κs = let r = c .before .before .before .before .before .before .before .before .before .pre .ridden in (r .rideable .read, (r .rideable .area, earlier-there r))
 
+rooms-of-requires : tie.Need-rooms-of-requires Inv-loop μ-loop
+rooms-of-requires c κs = tt
+
 loop-holds : tie.Need-loop-holds Inv-loop μ-loop
 loop-holds c = (filled-none _ _ _ _, filled-none _ _ _ _, filled-none _ _ _ _)
 
@@ -47,58 +50,58 @@ room : (s : tie.After-slice-known3 Inv-loop μ-loop) → let a = s .before .befo
 room s = s .before .before .before .before .before .before .pre .few
 
 add-before : tie.Need-add-before Inv-loop μ-loop
-add-before c = omega (arith, room (c .before .before .before .before .before .before))
+add-before c = omega (arith, room (c .before .before .before .before .before .before .before))
 
 mul-before : tie.Need-mul-before Inv-loop μ-loop
-mul-before c = omega (arith, room (c .before .before .before .before .before .before))
+mul-before c = omega (arith, room (c .before .before .before .before .before .before .before))
 
 shared-slice-read-before : tie.Need-shared-slice-read-before Inv-loop μ-loop
-shared-slice-read-before c = omega (arith, room (c .before .before .before .before .before .before .before), c .before .before .before .before .before .before .before .before .before .before .before .before .before .pre .paid-before .size)
+shared-slice-read-before c = omega (arith, room (c .before .before .before .before .before .before .before .before), c .before .before .before .before .before .before .before .before .before .before .before .before .before .before .pre .paid-before .size)
 
-add-charge : tie.Need-add-charge Inv-loop μ-loop
-add-charge c = omega (arith, c .before .before .before .before .before .before .before .before .before .before .before .before .before .pre .known)
+add-quick-charge : tie.Need-add-quick-charge Inv-loop μ-loop
+add-quick-charge c = omega (arith, c .before .before .before .before .before .before .before .before .before .before .before .before .before .before .pre .known)
 
-charge-requires : tie.Need-charge-requires Inv-loop μ-loop
-charge-requires c κs =
+quick-charge-requires : tie.Need-quick-charge-requires Inv-loop μ-loop
+quick-charge-requires c κs =
     let s = c .before in
-    let p = s .before .before .before .before .before .before .before .before .before .before .before .before .pre in
-    (sound-has _ _ (p .ridden .rideable .sound-book) .size, (omega (arith, p .known), riders-fit p _ (s .loop-test .taken) (s .before .before .chain-of .ensures)))
+    let p = s .before .before .before .before .before .before .before .before .before .before .before .before .before .pre in
+    (sound-has _ _ (p .ridden .rideable .sound-book) .size, (omega (arith, p .known), (riders-fit p _ (s .loop-test .taken) (s .before .before .before .chain-of .ensures), s .before .before .rooms-of .ensures)))
 
 cut-of-requires : tie.Need-cut-of-requires Inv-loop μ-loop
-cut-of-requires c κs = c .charge .ensures .range
+cut-of-requires c κs = c .quick-charge .ensures .range
 
 add-amounts : tie.Need-add-amounts Inv-loop μ-loop
-add-amounts c = omega (arith, room (c .before .before .before .before .before .before .before .before .before .before .before))
+add-amounts c = omega (arith, room (c .before .before .before .before .before .before .before .before .before .before .before .before))
 
 mul-amounts : tie.Need-mul-amounts Inv-loop μ-loop
-mul-amounts c = omega (arith, room (c .before .before .before .before .before .before .before .before .before .before .before))
+mul-amounts c = omega (arith, room (c .before .before .before .before .before .before .before .before .before .before .before .before))
 
 slice-write-amounts : tie.Need-slice-write-amounts Inv-loop μ-loop
-slice-write-amounts c = omega (arith, filled-size (c .before .before .before .before .before .before .loop .inv .0), c .before .before .before .before .before .before .before .before .before .before .before .before .before .before .before .before .before .pre .places)
+slice-write-amounts c = omega (arith, filled-size (c .before .before .before .before .before .before .loop .inv .0), c .before .before .before .before .before .before .before .before .before .before .before .before .before .before .before .before .before .before .pre .places)
 
 add-reductions : tie.Need-add-reductions Inv-loop μ-loop
-add-reductions c = omega (arith, room (c .before .before .before .before .before .before .before .before .before .before .before))
+add-reductions c = omega (arith, room (c .before .before .before .before .before .before .before .before .before .before .before .before))
 
 mul-reductions : tie.Need-mul-reductions Inv-loop μ-loop
-mul-reductions c = omega (arith, room (c .before .before .before .before .before .before .before .before .before .before .before))
+mul-reductions c = omega (arith, room (c .before .before .before .before .before .before .before .before .before .before .before .before))
 
 slice-write-reductions : tie.Need-slice-write-reductions Inv-loop μ-loop
-slice-write-reductions c = omega (arith, filled-size (c .before .before .before .before .before .before .loop .inv .1), c .before .before .before .before .before .before .before .before .before .before .before .before .before .before .before .before .before .pre .reduction-places)
+slice-write-reductions c = omega (arith, filled-size (c .before .before .before .before .before .before .loop .inv .1), c .before .before .before .before .before .before .before .before .before .before .before .before .before .before .before .before .before .before .pre .reduction-places)
 
 number-of-requires : tie.Need-number-of-requires Inv-loop μ-loop
 number-of-requires c κs = tt
 
 add-names : tie.Need-add-names Inv-loop μ-loop
-add-names c = omega (arith, room (c .before .before .before .before .before .before .before .before .before .before .before .before))
+add-names c = omega (arith, room (c .before .before .before .before .before .before .before .before .before .before .before .before .before))
 
 mul-names : tie.Need-mul-names Inv-loop μ-loop
-mul-names c = omega (arith, room (c .before .before .before .before .before .before .before .before .before .before .before .before))
+mul-names c = omega (arith, room (c .before .before .before .before .before .before .before .before .before .before .before .before .before))
 
 slice-write-names : tie.Need-slice-write-names Inv-loop μ-loop
-slice-write-names c = omega (arith, filled-size (c .before .before .before .before .before .before .before .loop .inv .2), c .before .before .before .before .before .before .before .before .before .before .before .before .before .before .before .before .before .before .pre .name-places)
+slice-write-names c = omega (arith, filled-size (c .before .before .before .before .before .before .before .loop .inv .2), c .before .before .before .before .before .before .before .before .before .before .before .before .before .before .before .before .before .before .before .pre .name-places)
 
 add-i : tie.Need-add-i Inv-loop μ-loop
-add-i c = omega (arith, room (c .before .before .before .before .before .before .before .before .before .before .before .before))
+add-i c = omega (arith, room (c .before .before .before .before .before .before .before .before .before .before .before .before .before))
 
 loop-less : tie.Need-loop-less Inv-loop μ-loop
 loop-less c = omega arith
@@ -109,9 +112,9 @@ loop-again c =
     let l = c .before .before .before .before .before .before in
     let inv = l .before .loop .inv in
     let cut = c .before .before .before .cut-of .ensures in (
-      filled-more (inv .0) _ (l .loop-test .taken) (rw (s .charge .ensures .value)),
-      filled-more (inv .1) _ (l .loop-test .taken) (rw (cut, s .charge .ensures .value)),
-      filled-more (inv .2) _ (l .loop-test .taken) (rw (c .number-of .ensures, cut, s .charge .ensures .value)),
+      filled-more (inv .0) _ (l .loop-test .taken) (rw (s .quick-charge .ensures .value)),
+      filled-more (inv .1) _ (l .loop-test .taken) (rw (cut, s .quick-charge .ensures .value)),
+      filled-more (inv .2) _ (l .loop-test .taken) (rw (c .number-of .ensures, cut, s .quick-charge .ensures .value)),
     )
 
 same-length : tie.Need-same-length Inv-loop μ-loop
@@ -125,7 +128,7 @@ same-length-3 c = filled-size (c .before .loop .inv .2)
 
 returns-2 : tie.Need-returns-2 Inv-loop μ-loop
 returns-2 c =
-    let s = c .before .before in
+    let s = c .before .before .before in
     let p = s .before .before .before .before .before .before .before .before .before .before .pre in
     let area = s .before .before .area .ensures in
     let chain = s .chain-of .ensures .value in
@@ -147,12 +150,13 @@ charge-riders-spec =
     area-requires
     price-requires
     chain-of-requires
+    rooms-of-requires
     loop-holds
     add-before
     mul-before
     shared-slice-read-before
-    add-charge
-    charge-requires
+    add-quick-charge
+    quick-charge-requires
     cut-of-requires
     add-amounts
     mul-amounts

@@ -8,34 +8,27 @@ use Rattle.book.proofs.ChargeLaws.{before-none, before-paid, before-fla
 use Rattle.book.proofs.charging.flat_before.Statement.{statement}
 use Rattle.book.proofs.charging.flat_before.Tie as tie
 
-sub-is-aachen : tie.Need-sub-is-aachen
-sub-is-aachen c = search needs
+sub-terms-by : tie.Need-sub-terms-by
+sub-terms-by c = search needs
 
-is-aachen-requires : tie.Need-is-aachen-requires
-is-aachen-requires c κs = search needs
-
-sub-flat : tie.Need-sub-flat
-sub-flat c = search needs
-
-flat-requires : tie.Need-flat-requires
-flat-requires c κs = search needs
+terms-by-requires : tie.Need-terms-by-requires
+terms-by-requires c κs = let p = c .before .before .pre in (p .0, (p .1 .0, omega (arith, p .1 .1, c .if1 .taken)))
 
 returns : tie.Need-returns
 returns c =
     let old = c .before .before .before .before .args .old in
     let is : old ≡ 1 + (old - 1) = omega arith in
-    sym (before-paid _ _ old (old - 1) is (sym (c .before .is-aachen .ensures) ∙ c .if2 .taken))
+    sym (before-paid _ _ old (old - 1) is (sym (c .before .terms-by .ensures .kind) ∙ c .if2 .taken))
 
 returns-2 : tie.Need-returns-2
 returns-2 c =
     let old = c .before .before .before .before .before .args .old in
+    let before = c .before .before .terms-by .ensures in
     let is : old ≡ 1 + (old - 1) = omega arith in
-    c .flat .ensures .value ∙ sym (before-flat _ _ old (old - 1) is (sym (c .before .before .is-aachen .ensures) ∙ c .before .if2 .left))
+    before .flat ∙ sym (before-flat _ _ old (old - 1) is (sym (before .kind) ∙ c .before .if2 .left))
 
 returns-3 : tie.Need-returns-3
 returns-3 c = sym (before-none _ _ (c .before .before .args .old) (omega arith))
 
 pub flat-before-spec : {M : Type 1} → statement M
-flat-before-spec =
-    tie.close
-    (tie.spec sub-is-aachen is-aachen-requires sub-flat flat-requires returns returns-2 returns-3)
+flat-before-spec = tie.close (tie.spec sub-terms-by terms-by-requires returns returns-2 returns-3)

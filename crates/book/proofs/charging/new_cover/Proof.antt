@@ -2,9 +2,12 @@
 -- that contains that and the old covering area.
 -- Assumes nothing.
 use borrow.Author.Needs.{needs}
-use Rattle.book.proofs.ChargeLaws.{cover-first, cover-more}
+use Rattle.book.proofs.ChargeLaws.{cover-first, cover-own, cover-more}
 use Rattle.book.proofs.charging.new_cover.Statement.{statement}
 use Rattle.book.proofs.charging.new_cover.Tie as tie
+
+sub-if2 : tie.Need-sub-if2
+sub-if2 c = search needs
 
 sub-smallest-containing : tie.Need-sub-smallest-containing
 sub-smallest-containing c = search needs
@@ -13,13 +16,13 @@ smallest-containing-requires : tie.Need-smallest-containing-requires
 smallest-containing-requires c κs = search needs
 
 returns : tie.Need-returns
-returns c = cover-first _ _ _ (c .before .before .pre .0) (c .before .before .pre .1 .0) _ (c .if1 .taken)
+returns c = let p = c .before .before .pre in cover-first _ _ _ (p .0) (p .1 .0) _ (c .if1 .taken)
 
 returns-2 : tie.Need-returns-2
-returns-2 c =
-    let s = c .before .before .before in
-    cover-more _ _ _ (s .pre .0) (s .pre .1 .0) _ _ (c .before .if1 .left) (c .smallest-containing .ensures)
+returns-2 c = let p = c .before .before .before .pre in cover-own _ _ _ (p .0) (p .1 .0) _ (c .before .if1 .left) (c .if2 .taken)
+
+returns-3 : tie.Need-returns-3
+returns-3 c = let p = c .before .before .before .before .pre in cover-more _ _ _ (p .0) (p .1 .0) _ _ (c .before .before .if1 .left) (c .smallest-containing .ensures)
 
 pub new-cover-spec : {M : Type 1} → statement M
-new-cover-spec =
-    tie.close (tie.spec sub-smallest-containing smallest-containing-requires returns returns-2)
+new-cover-spec = tie.close (tie.spec sub-if2 sub-smallest-containing smallest-containing-requires returns returns-2 returns-3)

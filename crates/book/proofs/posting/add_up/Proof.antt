@@ -1,97 +1,80 @@
--- At each turn what is still to be added, from the area that the walk has reached, makes the whole. A parent lies within none of its
--- children, so the sums of the areas above are as they were and have room.
+-- The charge is added area by area, as far as the level says. The areas are different ones, so those to come are as they were and have room.
 -- Assumes nothing.
-use native.Mathlib.Omega.{arith}
-use mathlib.Core.Path.{sym, _∙_}
-use mathlib.Core.Bool.{false}
-use Rattle.caps.proofs.Climb.{within-self}
-use Rattle.tariff.specs.Areas.{FaultlessTariff}
-use Rattle.tariff.proofs.Faultless.{faultless}
-use Rattle.book.proofs.Trees.{is-tree}
-use Rattle.book.proofs.PostTurns.{Climbing, climb-start, climb-turn, climb-end}
+use mathlib.Core.Path.{_∙_}
+use borrow.Author.Needs.{needs}
+use Rattle.book.proofs.PostTurns.{room-above, room-top, along-own, along-above, along-top}
 use Rattle.book.proofs.posting.add_up.Statement.{statement}
 use Rattle.book.proofs.posting.add_up.Tie as tie
 
-abbrev Inv-loop : tie.InvT-loop
-Inv-loop tariff counts book₀ rider class at amount up₀ above₀ book up above =
-    Climbing tariff counts book₀ book rider class at (amount .0) up above
-
-abbrev μ-loop : tie.MeasureT-loop
-μ-loop tariff counts book₀ rider class at amount up₀ above₀ book up above = above
-
-right :
-    (s : tie.Start Inv-loop μ-loop)
-    → FaultlessTariff (s .args .tariff .now) (s .args .counts)
-right s = faultless (s .args .tariff .now) (s .args .counts) (s .pre .read)
-
-level-requires : tie.Need-level-requires Inv-loop μ-loop
-level-requires c κs = let p = c .before .before .pre in (p .read, p .area)
-
-loop-holds : tie.Need-loop-holds Inv-loop μ-loop
-loop-holds c =
-    let s = c .before .before .before in
-    climb-start (right s) (s .pre .size) (s .pre .area) (s .pre .room) (c .level .ensures)
-
-add-here-requires : tie.Need-add-here-requires Inv-loop μ-loop
+add-here-requires : tie.Need-add-here-requires
 add-here-requires c κs =
-    let s = c .before .before .before .before .before .before in
-    let inv = c .before .before .loop .inv in
-    record {
-      size = inv .size;
-      known = s .pre .known;
-      area = omega (arith, right s .few-areas, inv .there);
-      range = s .pre .range;
-      room = inv .room _ (within-self (is-tree (right s) false) _ (inv .there));
-    }
+    let p = c .before .before .pre in
+    record { size = p .size; known = p .known; area = p .apart .own; range = p .range; room = p .room _ (p .apart .own) }
 
-parent-requires : tie.Need-parent-requires Inv-loop μ-loop
-parent-requires c κs = (c .before .before .before .before .before .before .before .before .before .pre .read, c .before .before .before .before .before .loop .inv .there)
+same-length : tie.Need-same-length
+same-length c = search needs
 
-sub-above : tie.Need-sub-above Inv-loop μ-loop
-sub-above c = omega (arith, c .before .before .before .before .before .loop-test .taken)
-
-loop-less : tie.Need-loop-less Inv-loop μ-loop
-loop-less c = omega (arith, c .before .before .before .before .before .loop-test .taken)
-
-loop-again : tie.Need-loop-again Inv-loop μ-loop
-loop-again c =
-    let some = c .before .before .before .before .before .loop-test .taken in
-    climb-turn (right (c .before .before .before .before .before .before .before .before .before .before)) (c .before .before .before .before .before .before .loop .inv) (omega arith) (c .before .before .before .add-here .ensures) (c .parent .ensures .value)
-
-add-here-requires-2 : tie.Need-add-here-requires-2 Inv-loop μ-loop
-add-here-requires-2 c κs =
-    let s = c .before .before .before .before .before .before in
-    let inv = c .before .before .loop .inv in
-    record {
-      size = inv .size;
-      known = s .pre .known;
-      area = omega (arith, right s .few-areas, inv .there);
-      range = s .pre .range;
-      room = inv .room _ (within-self (is-tree (right s) false) _ (inv .there));
-    }
-
-same-length : tie.Need-same-length Inv-loop μ-loop
-same-length c =
-    c .before .before .add-here2 .kept .0 ∙ c .before .before .before .before .before .loop .inv .size ∙ sym (c .before .before .before .before .before .before .before .before .before .pre .size)
-
-returns : tie.Need-returns Inv-loop μ-loop
+returns : tie.Need-returns
 returns c =
-    let none = c .before .before .before .before .loop-test .left in
-    climb-end (right (c .before .before .before .before .before .before .before .before .before)) (c .before .before .before .before .before .loop .inv) (omega arith) (c .before .before .add-here2 .ensures)
+    let a = c .before .before .before .before .before .before .args in
+    along-own (a .book .now) (a .rider) (a .class) (a .amount .0) (a .way) (c .if1 .taken) (c .before .before .before .add-here .ensures)
+
+add-here-requires-2 : tie.Need-add-here-requires-2
+add-here-requires-2 c κs =
+    let s = c .before .before .before .before .before .before .before in
+    let a = s .args in
+    let p = s .pre in
+    let first = c .before .before .before .before .add-here in
+    record {
+      size = first .kept .0 ∙ p .size;
+      known = p .known;
+      area = p .apart .above;
+      range = p .range;
+      room = room-above (a .book .now) (a .rider) (a .class) (a .amount .0) (a .way) (p .apart) (p .room) (c .before .if1 .left) (first .ensures);
+    }
+
+same-length-2 : tie.Need-same-length-2
+same-length-2 c = search needs
+
+returns-2 : tie.Need-returns-2
+returns-2 c =
+    let a = c .before .before .before .before .before .before .before .before .before .before .before .args in
+    along-above (a .book .now) (a .rider) (a .class) (a .amount .0) (a .way) (c .before .before .before .before .before .if1 .left) (c .if2 .taken) (c .before .before .before .before .before .before .before .before .add-here .ensures) (c .before .before .before .add-here2 .ensures)
+
+add-here-requires-3 : tie.Need-add-here-requires-3
+add-here-requires-3 c κs =
+    let s = c .before .before .before .before .before .before .before .before .before .before .before .before in
+    let a = s .args in
+    let p = s .pre in
+    let first = c .before .before .before .before .before .before .before .before .before .add-here in
+    let second = c .before .before .before .before .add-here2 in
+    record {
+      size = second .kept .0 ∙ first .kept .0 ∙ p .size;
+      known = p .known;
+      area = p .apart .top;
+      range = p .range;
+      room =
+          room-top (a .book .now) (a .rider) (a .class) (a .amount .0) (a .way) (p .apart) (p .room) (c .before .before .before .before .before .before .if1 .left) (c .before .if2 .left) (first .ensures) (second .ensures);
+    }
+
+same-length-3 : tie.Need-same-length-3
+same-length-3 c = search needs
+
+returns-3 : tie.Need-returns-3
+returns-3 c =
+    let a = c .before .before .before .before .before .before .before .before .before .before .before .before .before .before .before .args in
+    along-top (a .book .now) (a .rider) (a .class) (a .amount .0) (a .way) (c .before .before .before .before .before .before .before .before .before .if1 .left) (c .before .before .before .before .if2 .left) (c .before .before .before .before .before .before .before .before .before .before .before .before .add-here .ensures) (c .before .before .before .before .before .before .before .add-here2 .ensures) (c .before .before .add-here3 .ensures)
 
 pub add-up-spec : {M : Type 1} → statement M
 add-up-spec =
     tie.close
     (tie.spec
-    Inv-loop
-    μ-loop
-    level-requires
-    loop-holds
     add-here-requires
-    parent-requires
-    sub-above
-    loop-less
-    loop-again
-    add-here-requires-2
     same-length
-    returns)
+    returns
+    add-here-requires-2
+    same-length-2
+    returns-2
+    add-here-requires-3
+    same-length-3
+    returns-3)

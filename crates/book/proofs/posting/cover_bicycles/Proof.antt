@@ -6,22 +6,32 @@ use mathlib.Core.Path.{sym, ap, _∙_}
 use lib.ListN.{length}
 use Rattle.tariff.proofs.Faultless.{faultless}
 use Rattle.book.specs.Words.{word}
+use Rattle.book.specs.Sound.{mostPaid}
+use Rattle.book.proofs.ChargeLaws.{paid-terms}
 use Rattle.book.proofs.WordLaws.{size-put}
-use Rattle.book.proofs.PostTurns.{BicyclesCovered, bicycles-start, bicycles-turn, bicycles-end}
+use Rattle.book.proofs.PostTurns.{BicyclesCovered, bicycles-start, bicycles-turn, bicycles-end, bicycles-none}
 use Rattle.book.proofs.posting.cover_bicycles.Statement.{statement}
 use Rattle.book.proofs.posting.cover_bicycles.Tie as tie
 
 abbrev Inv-loop : tie.InvT-loop
-Inv-loop tariff counts book₀ count at i₀ book i = BicyclesCovered tariff counts book₀ book count at i
+Inv-loop tariff counts book₀ count at own i₀ book i = BicyclesCovered tariff counts book₀ book count at i
 
 abbrev μ-loop : tie.MeasureT-loop
-μ-loop tariff counts book₀ count at i₀ book i = count - i
+μ-loop tariff counts book₀ count at own i₀ book i = count - i
+
+returns : tie.Need-returns Inv-loop μ-loop
+returns c =
+    let a = c .before .before .before .args in
+    bicycles-none (a .tariff .now) (a .counts) (a .ride) (a .count) (a .book .now) (c .if1 .taken)
+
+terms-of-requires : tie.Need-terms-of-requires Inv-loop μ-loop
+terms-of-requires c κs = let p = c .before .before .before .pre in (p .read, p .area)
 
 loop-holds : tie.Need-loop-holds Inv-loop μ-loop
-loop-holds c = let p = c .before .before .pre in bicycles-start (p .size) (p .few) (p .covers) (p .payments)
+loop-holds c = let p = c .before .before .before .before .pre in bicycles-start (p .size) (p .few) (p .covers) (p .payments)
 
 cover-requires : tie.Need-cover-requires Inv-loop μ-loop
-cover-requires c κs = omega (arith, c .before .before .before .before .pre .few)
+cover-requires c κs = omega (arith, c .before .before .before .before .before .before .pre .few)
 
 get-requires : tie.Need-get-requires Inv-loop μ-loop
 get-requires c κs = (c .before .before .before .loop .inv .size, c .before .cover .ensures .1)
@@ -30,54 +40,54 @@ cast-old : tie.Need-cast-old Inv-loop μ-loop
 cast-old c = omega (arith, c .get .ensures .range)
 
 payments-requires : tie.Need-payments-requires Inv-loop μ-loop
-payments-requires c κs = omega (arith, c .before .before .before .before .before .before .before .pre .few)
+payments-requires c κs = omega (arith, c .before .before .before .before .before .before .before .before .before .pre .few)
 
 get-requires-2 : tie.Need-get-requires-2 Inv-loop μ-loop
 get-requires-2 c κs = (c .before .before .before .before .before .before .loop .inv .size, c .before .payments .ensures .1)
 
 new-cover-requires : tie.Need-new-cover-requires Inv-loop μ-loop
 new-cover-requires c κs =
-    let p = c .before .before .before .before .before .before .before .before .before .before .pre in
+    let p = c .before .before .before .before .before .before .before .before .before .before .before .before .pre in
     let l = c .before .before .before .before .before .before .before .loop in
     let old = c .before .before .before .get .ensures .value ∙ ap (word (l .book)) (c .before .before .before .before .before .cover .ensures .0) in
     (p .read, (p .area, omega (arith, old, l .inv .covers (l .i) (omega arith) (c .before .before .before .before .before .before .loop-test .taken))))
 
-paid-with-requires : tie.Need-paid-with-requires Inv-loop μ-loop
-paid-with-requires c κs =
-    let p = c .before .before .before .before .before .before .before .before .before .before .before .pre in
-    let l = c .before .before .before .before .before .before .before .before .loop in
-    let paid = c .before .get2 .ensures .value ∙ ap (word (l .book)) (c .before .before .before .payments .ensures .0) in
-    (p .read, (c .new-cover .ensures .there, omega (arith, paid, l .inv .payments (l .i) (omega arith) (c .before .before .before .before .before .before .before .loop-test .taken))))
+terms-by-requires : tie.Need-terms-by-requires Inv-loop μ-loop
+terms-by-requires c κs = (c .before .before .before .before .before .before .before .before .before .before .before .before .before .pre .read, (c .before .before .before .before .before .before .before .before .before .terms-of .ensures, c .new-cover .ensures .there))
 
-few-areas :
-    (c : tie.After-put-arg Inv-loop μ-loop)
-    → c .before .before .before .before .before .before .before .before .before .before .before .before .before .args .counts .areas ≤ 32
-few-areas c =
-    let first = c .before .before .before .before .before .before .before .before .before .before .before .before .before in
-    faultless _ _ (first .pre .read) .few-areas
+-- the bicycle's payments are in their range
+before-most : (c : tie.After-terms-by Inv-loop μ-loop) → c .before .before .get2 .result ≤ mostPaid
+before-most c =
+    let l = c .before .before .before .before .before .before .before .before .before .loop in
+    let paid = c .before .before .get2 .ensures .value ∙ ap (word (l .book)) (c .before .before .before .before .payments .ensures .0) in
+    omega (arith, paid, l .inv .payments (l .i) (omega arith) (c .before .before .before .before .before .before .before .before .loop-test .taken))
+
+paid-with-requires : tie.Need-paid-with-requires Inv-loop μ-loop
+paid-with-requires c κs = (c .terms-by .ensures .range, before-most c)
+
+few-areas : (c : tie.After-put-arg Inv-loop μ-loop) → c .before .before .before .before .before .before .before .before .before .before .before .before .before .before .before .before .args .counts .areas ≤ 32
+few-areas c = faultless _ _ (c .before .before .before .before .before .before .before .before .before .before .before .before .before .before .before .before .pre .read) .few-areas
 
 cast-put : tie.Need-cast-put Inv-loop μ-loop
-cast-put c = omega (arith, c .before .before .new-cover .ensures .there, few-areas c)
+cast-put c = omega (arith, c .before .before .before .new-cover .ensures .there, few-areas c)
 
 add-put : tie.Need-add-put Inv-loop μ-loop
-add-put c = omega (arith, c .before .before .new-cover .ensures .there, few-areas c)
+add-put c = omega (arith, c .before .before .before .new-cover .ensures .there, few-areas c)
 
 put-requires : tie.Need-put-requires Inv-loop μ-loop
-put-requires c κs =
-    let s = c .before .before .before .before .before .before .before .before in
-    (s .before .before .loop .inv .size, s .cover .ensures .1)
+put-requires c κs = let s = c .before .before .before .before .before .before .before .before .before in (s .before .before .loop .inv .size, s .cover .ensures .1)
 
 put-requires-2 : tie.Need-put-requires-2 Inv-loop μ-loop
 put-requires-2 c κs =
-    let s = c .before .before .before .before .before .before .before .before .before in
+    let s = c .before .before .before .before .before .before .before .before .before .before in
     (ap length (c .before .before .before .put .ensures) ∙ size-put _ _ _ ∙ s .before .before .before .before .before .loop .inv .size, s .payments .ensures .1)
 
 -- a turn, from its end
 abbrev turn : tie.After-slice-known3 Inv-loop μ-loop → tie.In-loop Inv-loop μ-loop
-turn c = c .before .before .before .before .before .before .before .before .before .before .before .before .before .before .before .before
+turn c = c .before .before .before .before .before .before .before .before .before .before .before .before .before .before .before .before .before
 
 add-i : tie.Need-add-i Inv-loop μ-loop
-add-i c = omega (arith, turn c .loop-test .taken, turn c .before .before .before .before .pre .few)
+add-i c = omega (arith, turn c .loop-test .taken, turn c .before .before .before .before .before .before .pre .few)
 
 loop-less : tie.Need-loop-less Inv-loop μ-loop
 loop-less c = omega (arith, turn c .loop-test .taken)
@@ -85,17 +95,22 @@ loop-less c = omega (arith, turn c .loop-test .taken)
 loop-again : tie.Need-loop-again Inv-loop μ-loop
 loop-again c =
     let put = c .before .before .before .before .before .before in
-    let s = put .before .before .before .before in
+    let s = put .before .before .before .before .before in
+    let cover = put .before .before .before .before .new-cover .ensures in
+    let asked = put .before .before .before in
+    let paid =
+    paid-terms (faultless _ _ (turn c .before .before .before .before .before .before .pre .read)) _ (cover .there) (asked .terms-by .ensures)
+    (before-most asked) (put .before .before .paid-with .ensures)
+    in
     bicycles-turn (turn c .before .loop .inv) (turn c .loop-test .taken) (s .before .before .before .before .before .cover .ensures .0)
-    (s .before .before .before .get .ensures .value) (s .before .before .payments .ensures .0) (s .get2 .ensures .value)
-    (put .before .before .before .new-cover .ensures .value) (put .before .before .paid-with .ensures .value) (put .put .ensures)
-    (c .before .before .put2 .ensures)
+    (s .before .before .before .get .ensures .value) (s .before .before .payments .ensures .0) (s .get2 .ensures .value) (cover .value)
+    (paid .value) (put .put .ensures) (c .before .before .put2 .ensures)
 
 same-length : tie.Need-same-length Inv-loop μ-loop
-same-length c = c .before .loop .inv .size ∙ sym (c .before .before .before .before .pre .size)
+same-length c = c .before .loop .inv .size ∙ sym (c .before .before .before .before .before .before .pre .size)
 
-returns : tie.Need-returns Inv-loop μ-loop
-returns c = bicycles-end _ (c .before .loop .inv) (c .loop-test .left)
+returns-2 : tie.Need-returns-2 Inv-loop μ-loop
+returns-2 c = bicycles-end _ (c .before .loop .inv) (c .loop-test .left)
 
 pub cover-bicycles-spec : {M : Type 1} → statement M
 cover-bicycles-spec =
@@ -103,6 +118,8 @@ cover-bicycles-spec =
     (tie.spec
     Inv-loop
     μ-loop
+    returns
+    terms-of-requires
     loop-holds
     cover-requires
     get-requires
@@ -110,6 +127,7 @@ cover-bicycles-spec =
     payments-requires
     get-requires-2
     new-cover-requires
+    terms-by-requires
     paid-with-requires
     cast-put
     add-put
@@ -119,4 +137,4 @@ cover-bicycles-spec =
     loop-less
     loop-again
     same-length
-    returns)
+    returns-2)

@@ -1,4 +1,4 @@
--- `book::sound::pairs_sound` meets its contract: after i turns the flag says whether the first i pairs are right, and each turn is one pair more.
+-- `book::sound::pairs_sound` meets its contract: where the fast way says so, all pairs are right; else after i turns the flag says whether the first i pairs are right, and each turn is one pair more.
 -- Assumes nothing.
 use Prim.Native.Nat.{_-_, _≤_}
 use native.Mathlib.Omega.{arith}
@@ -18,8 +18,14 @@ Inv-loop book most right₀ i₀ right i = (i ≤ pairs) × (right ≡ each i (p
 abbrev μ-loop : tie.MeasureT-loop
 μ-loop book most right₀ i₀ right i = pairs - i
 
+pairs-clear-requires : tie.Need-pairs-clear-requires Inv-loop μ-loop
+pairs-clear-requires c κs = search needs
+
+returns : tie.Need-returns Inv-loop μ-loop
+returns c = sym (c .before .pairs-clear .ensures .all-sound (c .if1 .taken))
+
 loop-holds : tie.Need-loop-holds Inv-loop μ-loop
-loop-holds c = (omega arith, sym (each-none (pairRight (c .before .args .book .now) (c .before .args .most))))
+loop-holds c = (omega arith, sym (each-none (pairRight (c .before .before .before .args .book .now) (c .before .before .before .args .most))))
 
 pair-at-requires : tie.Need-pair-at-requires Inv-loop μ-loop
 pair-at-requires c κs = omega arith
@@ -42,16 +48,16 @@ loop-less c = omega arith
 loop-again : tie.Need-loop-again Inv-loop μ-loop
 loop-again c = (
   omega arith,
-  one-pair-more (c .before .before .before .before .before .before .args .book .now) _ _ _ _ _ _ (c .before .before .before .before .loop .inv .1)
+  one-pair-more (c .before .before .before .before .before .before .before .before .args .book .now) _ _ _ _ _ _ (c .before .before .before .before .loop .inv .1)
       (c .before .before .pair-at .ensures .0)
       (c .before .get .ensures .value)
       (c .get2 .ensures .value),
 )
 
-returns : tie.Need-returns Inv-loop μ-loop
+returns-2 : tie.Need-returns-2 Inv-loop μ-loop
 unfolding pairsSound
-returns c =
-    all-done pairs _ (pairRight (c .before .before .before .args .book .now) (c .before .before .before .args .most)) _
+returns-2 c =
+    all-done pairs _ (pairRight (c .before .before .before .before .before .args .book .now) (c .before .before .before .before .before .args .most)) _
     (c .before .loop .inv .0)
     (c .loop-test .left)
     (c .before .loop .inv .1)
@@ -62,6 +68,8 @@ pairs-sound-spec =
     (tie.spec
     Inv-loop
     μ-loop
+    pairs-clear-requires
+    returns
     loop-holds
     pair-at-requires
     get-requires
@@ -70,4 +78,4 @@ pairs-sound-spec =
     add-i
     loop-less
     loop-again
-    returns)
+    returns-2)

@@ -1,13 +1,16 @@
 -- `tariff::rules::place_right` meets its contract: each return is a case of the definition, with the parent's level, kind and flat as its
--- record has them: it is there, since it is earlier.
+-- record has them: it is there, since it is earlier, and a region's is the state's, which is the first.
 -- Assumes nothing.
-use Prim.Native.Nat.{_<_}
+use Prim.Native.Nat.{_+_, _≤_, _<_}
 use native.Mathlib.Omega.{arith}
 use borrow.Author.Needs.{needs}
 use borrow.Author.Tests.{eq-eqb, ne-eqb, lt-ltb, le-ltb}
+use lib.ListN.{length}
+use Rattle.tariff.specs.Layout.{areaSize}
 use Rattle.tariff.specs.Rules.{placeRight}
 use Rattle.tariff.specs.Contracts.{AreaThere}
-use Rattle.tariff.proofs.Places.{long-up, place-before}
+use Rattle.tariff.proofs.Places.{place-none, long-up, place-before}
+use Rattle.tariff.proofs.PlaceLaws.{place-of-region, place-of-none}
 use Rattle.tariff.proofs.rules.place_right.Statement.{statement}
 use Rattle.tariff.proofs.rules.place_right.Tie as tie
 
@@ -15,62 +18,82 @@ returns : tie.Need-returns
 unfolding placeRight
 returns c = rw (eq-eqb _ 0 (c .before .before .if1 .taken))
 
-cast-if2 : tie.Need-cast-if2
-cast-if2 c = search needs
+-- the state's record is there
+flat-at-requires : tie.Need-flat-at-requires
+flat-at-requires c κs =
+    let start = c .before .before .before in
+    let b = start .args .b .now in
+    omega (arith, start .pre .0 .inside, place-before b 0 (start .args .so-far .areas) (omega arith), place-none b)
 
 returns-2 : tie.Need-returns-2
-unfolding placeRight
 returns-2 c =
-    let a = c .before .before .before .args in
+    let start = c .before .before .before .before .before in
+    let a = start .args in
+    rw (c .before .flat-at .ensures) (place-of-region (a .b .now) (a .so-far) (a .kind) (a .f) (omega arith) (c .before .before .if2 .taken))
+
+returns-3 : tie.Need-returns-3
+returns-3 c =
+    let a = c .before .before .before .before .args in
+    place-of-none (a .b .now) (a .so-far) (a .kind) (a .f) (omega arith) (c .before .if2 .left) (c .if3 .taken)
+
+cast-if4 : tie.Need-cast-if4
+cast-if4 c = search needs
+
+returns-4 : tie.Need-returns-4
+unfolding placeRight
+returns-4 c =
+    let a = c .before .before .before .before .before .args in
     rw (ne-eqb (a .so-far .areas) 0 (omega arith), le-ltb (a .f .parent) (a .so-far .areas) (omega arith))
 
 -- the parent's record is there
 there :
-    (c : tie.Else2)
-    → AreaThere (c .before .before .before .args .b .now) (c .before .before .before .args .so-far) (c .before .before .before .args .f .parent)
+    (c : tie.Else4)
+    → AreaThere (c .before .before .before .before .before .args .b .now) (c .before .before .before .before .before .args .so-far)
+    (c .before .before .before .before .before .args .f .parent)
 there c =
-    let start = c .before .before .before in
+    let start = c .before .before .before .before .before in
     let parent = start .args .f .parent in
     let areas = start .args .so-far .areas in
     let earlier : parent < areas = omega arith in
     record {
       few = omega arith;
-      inside = omega (arith, start .pre .inside, place-before (start .args .b .now) parent areas earlier);
-      long = omega (arith, start .pre .long, long-up (start .args .b .now) parent areas (omega arith));
+      inside = omega (arith, start .pre .0 .inside, place-before (start .args .b .now) parent areas earlier);
+      long = omega (arith, start .pre .0 .long, long-up (start .args .b .now) parent areas (omega arith));
     }
 
-cast-area-place : tie.Need-cast-area-place
-cast-area-place c = search needs
+parent-place-requires : tie.Need-parent-place-requires
+parent-place-requires c κs = (there c, c .before .before .before .before .before .pre .1)
 
-area-place-requires : tie.Need-area-place-requires
-area-place-requires c κs = there c
+-- and its level, kind and flat are
+parent-fits :
+    (c : tie.After-parent-place)
+    → c .parent-place .result + areaSize ≤ length (c .before .before .before .before .before .before .args .b .now)
+parent-fits c = omega (arith, c .parent-place .ensures, there (c .before) .inside)
 
 level-at-requires : tie.Need-level-at-requires
-level-at-requires c κs = omega (arith, c .before .before .before .area-place .ensures, there (c .before .before .before .before) .inside)
+level-at-requires c κs = parent-fits c
 
 kind-at-requires : tie.Need-kind-at-requires
-kind-at-requires c κs = omega (arith, c .before .before .before .before .area-place .ensures, there (c .before .before .before .before .before) .inside)
+kind-at-requires c κs = omega (arith, parent-fits (c .before))
 
-flat-at-requires : tie.Need-flat-at-requires
-flat-at-requires c κs =
-    omega (
-      arith,
-      c .before .before .before .before .before .before .area-place .ensures,
-      there (c .before .before .before .before .before .before .before) .inside,
-    )
+flat-at-requires-2 : tie.Need-flat-at-requires-2
+flat-at-requires-2 c κs = parent-fits (c .before .before)
 
-returns-3 : tie.Need-returns-3
+returns-5 : tie.Need-returns-5
 unfolding placeRight
-returns-3 c =
-    let placed = c .before .before .before .before .before .before .before .before in
-    let a = placed .before .before .before .before .args in
+returns-5 c =
+    let placed = c .before .before .before .before in
+    let tests = placed .before in
+    let a = tests .before .before .before .before .before .args in
     rw (
       ne-eqb (a .so-far .areas) 0 (omega arith),
       lt-ltb (a .f .parent) (a .so-far .areas) (omega arith),
-      c .before .before .before .before .level-at .ensures,
-      c .before .before .before .kind-at .ensures,
-      c .before .flat-at .ensures,
-      placed .area-place .ensures,
+      ne-eqb (a .f .level) 1 (tests .before .before .if2 .left),
+      eq-eqb (a .f .level) 2 (omega arith),
+      c .before .before .before .level-at .ensures,
+      c .before .before .kind-at .ensures,
+      c .before .flat-at2 .ensures,
+      placed .parent-place .ensures,
     )
 
 pub place-right-spec : {M : Type 1} → statement M
@@ -78,11 +101,13 @@ place-right-spec =
     tie.close
     (tie.spec
     returns
-    cast-if2
+    flat-at-requires
     returns-2
-    cast-area-place
-    area-place-requires
+    returns-3
+    cast-if4
+    returns-4
+    parent-place-requires
     level-at-requires
     kind-at-requires
-    flat-at-requires
-    returns-3)
+    flat-at-requires-2
+    returns-5)

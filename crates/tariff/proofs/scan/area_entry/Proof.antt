@@ -7,7 +7,8 @@ use mathlib.Core.Bool.{true, _&&_}
 use borrow.Author.Needs.{needs}
 use Rattle.tariff.specs.Fields.{areaFields, longFields}
 use Rattle.tariff.specs.Rules.{areaRight}
-use Rattle.tariff.proofs.Places.{place-is}
+use Rattle.tariff.proofs.Places.{long-none}
+use Rattle.tariff.proofs.AreaRunLaws.{areas-there}
 use Rattle.tariff.proofs.Entries.{areaDue, area-tests, area-is-due, area-not-due}
 use Rattle.tariff.proofs.scan.area_entry.Statement.{statement}
 use Rattle.tariff.proofs.scan.area_entry.Tie as tie
@@ -44,8 +45,7 @@ caps-right-requires c κs = search needs
 place-right-requires : tie.Need-place-right-requires
 place-right-requires c κs =
     let start = c .before .before .before .before .before .before .before .before .before in
-    let reached = start .pre .0 in
-    record { few = reached .few; inside = omega (arith, reached, place-is (start .args .b .now) (start .args .so-far .areas)); long = reached .long }
+    (areas-there (start .args .b .now) (start .args .at) (start .args .so-far) (start .pre .0), long-none (start .args .b .now))
 
 rest-right-requires : tie.Need-rest-right-requires
 rest-right-requires c κs =

@@ -1,21 +1,20 @@
 -- `tariff::scan::read_tariff` meets its contract. The loop's invariant: every record before the place is faultless, so many areas, factor
 -- records and stops reach it, and so many factor records are due; so a fault met there is the first, and at the end the counts are finished.
--- A stop is passed with the rows that stand after it. The measure is the bytes left.
+-- An area and a stop are passed with those that are found to stand after them. The measure is the bytes left.
 -- Assumes nothing.
 use Prim.Native.Nat.{_-_}
 use native.Mathlib.Omega.{arith}
 use mathlib.Core.Path.{_≡_, sym, _∙_}
 use borrow.Author.Needs.{needs}
 use lib.ListN.{length}
-use Rattle.tariff.specs.Layout.{areaPlace, longAreas}
+use Rattle.tariff.specs.Layout.{longAreas}
 use Rattle.tariff.specs.Rules.{levelOf, factorsDue}
 use Rattle.tariff.specs.Scan.{entryAt, Passed}
 use Rattle.tariff.specs.declared.scan.Entry.the-variants.{Area, Factor, Stop}
-use Rattle.tariff.proofs.Entries.{area-entry, factor-entry, stop-entry}
-use Rattle.tariff.proofs.Places.{long-few}
-use Rattle.tariff.proofs.Passed.{passed-none, at-area, passed-area, passed-factor, passed-stop, at-end, at-fault}
-use Rattle.tariff.proofs.RowLaws.{passed-rows}
-use Rattle.tariff.proofs.Wide.{wide-none, wide-next, wide-most}
+use Rattle.tariff.proofs.Entries.{factor-entry, stop-entry}
+use Rattle.tariff.proofs.Passed.{passed-none, passed-factor, passed-stop, at-end, at-fault}
+use Rattle.tariff.proofs.StopLaws.{passed-stops}
+use Rattle.tariff.proofs.Wide.{wide-none, wide-most}
 use Rattle.tariff.proofs.scan.read_tariff.Statement.{statement}
 use Rattle.tariff.proofs.scan.read_tariff.Tie as tie
 
@@ -48,51 +47,21 @@ area-there :
     ≡ Area (c .kind .given .0 .0)
 area-there c = sym (c .before .before .entry-at .ensures) ∙ c .kind .given .1
 
-level-at-requires : tie.Need-level-at-requires Inv-loop μ-loop
-level-at-requires c κs = omega (arith, area-entry _ _ _ _ (area-there (c .before)))
+after-area-requires : tie.Need-after-area-requires Inv-loop μ-loop
+after-area-requires c κs =
+    let loop = c .before .before .before .before .loop in
+    record { passed = loop .inv .0; due = loop .inv .1; here = area-there (c .before) }
 
-wide-with-requires : tie.Need-wide-with-requires Inv-loop μ-loop
-wide-with-requires c κs =
-    let start = c .before .before .before .before .before .before .before in
-    let loop = c .before .before .before .before .before .loop in
-    omega (arith, loop .inv .1, wide-most (levelOf (start .args .tariff .now) (loop .so-far)) (loop .so-far .areas), loop .inv .0 .reached .few)
-
-area-end-requires : tie.Need-area-end-requires Inv-loop μ-loop
-area-end-requires c κs = area-entry _ _ _ _ (area-there (c .before .before .before)) .fits
-
-add-so-far : tie.Need-add-so-far Inv-loop μ-loop
-add-so-far c = omega (arith, area-entry _ _ _ _ (area-there (c .before .before .before .before .before)) .here .few)
-
-long-of-requires : tie.Need-long-of-requires Inv-loop μ-loop
-long-of-requires c κs = search needs
-
-cast-so-far : tie.Need-cast-so-far Inv-loop μ-loop
-cast-so-far c = omega (arith, c .long-of .ensures .1)
-
-add-so-far-2 : tie.Need-add-so-far-2 Inv-loop μ-loop
-add-so-far-2 c =
-    let start = c .before .before .before .before .before .before .before .before .before .before .before .before in
-    let loop = c .before .before .before .before .before .before .before .before .before .before .loop in
-    let reached = loop .inv .0 .reached in
-    omega (arith, c .before .long-of .ensures .1, reached .few, reached .long, long-few (start .args .tariff .now) (loop .so-far .areas))
+areas-found-requires : tie.Need-areas-found-requires Inv-loop μ-loop
+areas-found-requires c κs = c .after-area .ensures .0
 
 loop-less : tie.Need-loop-less Inv-loop μ-loop
 loop-less c =
-    let facts = area-entry _ _ _ _ (area-there (c .before .before .before .before .before .before .before)) in
-    omega (arith, c .before .before .before .area-end .ensures, facts .fits)
+    let found = c .before .areas-found in
+    omega (arith, found .ensures .1, found .ensures .0 .passed .reached .inside, c .before .before .after-area .ensures .1)
 
 loop-again : tie.Need-loop-again Inv-loop μ-loop
-loop-again c =
-    let start = c .before .before .before .before .before .before .before .before .before .before .before .before in
-    let loop = c .before .before .before .before .before .before .before .before .before .before .loop in
-    let there = area-there (c .before .before .before .before .before .before .before) in
-    let here : loop .at ≡ areaPlace (start .args .tariff .now) (loop .so-far .areas) =
-    at-area (start .args .tariff .now) (loop .at) (loop .so-far) (loop .inv .0) _ there
-    in (
-      rw (c .before .before .before .area-end .ensures, c .before .long-of .ensures .0) (passed-area _ _ _ (loop .inv .0) _ there),
-      rw (c .before .before .before .before .wide-with .ensures, c .before .before .before .before .before .level-at .ensures, loop .inv .1, here)
-          (sym (wide-next (levelOf (start .args .tariff .now) (loop .so-far)) (loop .so-far .areas))),
-    )
+loop-again c = (c .before .areas-found .ensures .0 .passed, c .before .areas-found .ensures .0 .due)
 
 -- a factor record stands at the loop's place
 factor-there :
@@ -107,8 +76,8 @@ enum-told-2 c = search needs
 add-at : tie.Need-add-at Inv-loop μ-loop
 add-at c = omega (arith, factor-entry _ _ _ (factor-there c))
 
-add-so-far-3 : tie.Need-add-so-far-3 Inv-loop μ-loop
-add-so-far-3 c =
+add-so-far : tie.Need-add-so-far Inv-loop μ-loop
+add-so-far c =
     let start = c .before .before .before .before .before .before in
     let loop = c .before .before .before .before .loop in
     let most = wide-most (levelOf (start .args .tariff .now) (loop .so-far)) (loop .so-far .areas) in
@@ -135,17 +104,17 @@ enum-told-3 c = search needs
 add-at-2 : tie.Need-add-at-2 Inv-loop μ-loop
 add-at-2 c = omega (arith, stop-entry _ _ _ (stop-there c))
 
-add-so-far-4 : tie.Need-add-so-far-4 Inv-loop μ-loop
-add-so-far-4 c = omega (arith, stop-entry _ _ _ (stop-there (c .before)))
+add-so-far-2 : tie.Need-add-so-far-2 Inv-loop μ-loop
+add-so-far-2 c = omega (arith, stop-entry _ _ _ (stop-there (c .before)))
 
-sub-rows-due : tie.Need-sub-rows-due Inv-loop μ-loop
-sub-rows-due c = omega (arith, stop-entry _ _ _ (stop-there (c .before)))
+sub-stops-due : tie.Need-sub-stops-due Inv-loop μ-loop
+sub-stops-due c = omega (arith, stop-entry _ _ _ (stop-there (c .before)))
 
-rows-due-requires : tie.Need-rows-due-requires Inv-loop μ-loop
-rows-due-requires c κs = omega (arith, stop-entry _ _ _ (stop-there (c .before)))
+stops-due-requires : tie.Need-stops-due-requires Inv-loop μ-loop
+stops-due-requires c κs = omega (arith, stop-entry _ _ _ (stop-there (c .before)))
 
-rows-standing-requires : tie.Need-rows-standing-requires Inv-loop μ-loop
-rows-standing-requires c κs = omega (arith, stop-entry _ _ _ (stop-there (c .before .before)))
+stops-standing-requires : tie.Need-stops-standing-requires Inv-loop μ-loop
+stops-standing-requires c κs = omega (arith, stop-entry _ _ _ (stop-there (c .before .before)))
 
 mul-at : tie.Need-mul-at Inv-loop μ-loop
 mul-at c = omega (arith, stop-entry _ _ _ (stop-there (c .before .before .before)))
@@ -153,14 +122,11 @@ mul-at c = omega (arith, stop-entry _ _ _ (stop-there (c .before .before .before
 add-at-3 : tie.Need-add-at-3 Inv-loop μ-loop
 add-at-3 c = omega (arith, stop-entry _ _ _ (stop-there (c .before .before .before)))
 
-mul-so-far : tie.Need-mul-so-far Inv-loop μ-loop
-mul-so-far c = omega (arith, stop-entry _ _ _ (stop-there (c .before .before .before)))
+cast-so-far : tie.Need-cast-so-far Inv-loop μ-loop
+cast-so-far c = omega (arith, stop-entry _ _ _ (stop-there (c .before .before .before)))
 
-cast-so-far-2 : tie.Need-cast-so-far-2 Inv-loop μ-loop
-cast-so-far-2 c = omega (arith, stop-entry _ _ _ (stop-there (c .before .before .before)))
-
-add-so-far-5 : tie.Need-add-so-far-5 Inv-loop μ-loop
-add-so-far-5 c = omega (arith, stop-entry _ _ _ (stop-there (c .before .before .before .before)))
+add-so-far-3 : tie.Need-add-so-far-3 Inv-loop μ-loop
+add-so-far-3 c = omega (arith, stop-entry _ _ _ (stop-there (c .before .before .before .before)))
 
 loop-less-3 : tie.Need-loop-less-3 Inv-loop μ-loop
 loop-less-3 c = omega (arith, stop-entry _ _ _ (stop-there (c .before .before .before .before)))
@@ -170,8 +136,8 @@ loop-again-3 c =
     let (p, due) = c .before .before .before .before .before .before .before .loop .inv in
     let here = stop-there (c .before .before .before .before) in
     let facts = stop-entry _ _ _ here in (
-      rw (c .before .rows-standing .ensures .0)
-          (passed-rows _ (c .before .before .rows-due .result) _ _ (facts .some) (facts .all) (omega arith) (omega arith) (passed-stop _ _ _ p here)),
+      passed-stops _ (c .before .stops-standing .result) _ _ (facts .some) (facts .all) (omega arith) (omega arith) (c .before .stops-standing .ensures .0)
+          (passed-stop _ _ _ p here),
       due,
     )
 
@@ -195,31 +161,25 @@ read-tariff-spec =
     enum-told
     enum-known-number
     enum-known-kind
-    level-at-requires
-    wide-with-requires
-    area-end-requires
-    add-so-far
-    long-of-requires
-    cast-so-far
-    add-so-far-2
+    after-area-requires
+    areas-found-requires
     loop-less
     loop-again
     enum-told-2
     add-at
-    add-so-far-3
+    add-so-far
     loop-less-2
     loop-again-2
     enum-told-3
     add-at-2
-    add-so-far-4
-    sub-rows-due
-    rows-due-requires
-    rows-standing-requires
+    add-so-far-2
+    sub-stops-due
+    stops-due-requires
+    stops-standing-requires
     mul-at
     add-at-3
-    mul-so-far
-    cast-so-far-2
-    add-so-far-5
+    cast-so-far
+    add-so-far-3
     loop-less-3
     loop-again-3
     returns

@@ -1,0 +1,22 @@
+-- `behind::put_byte` meets its contract: the byte stands behind what was there.
+-- Assumes nothing.
+use native.Mathlib.Omega.{arith}
+use borrow.Author.Needs.{needs}
+use Rattle.text.proofs.Puts.{byte-behind}
+use Rattle.text.proofs.behind.put_byte.Statement.{statement}
+use Rattle.text.proofs.behind.put_byte.Tie as tie
+
+slice-write-out : tie.Need-slice-write-out
+slice-write-out c = search needs
+
+add-result : tie.Need-add-result
+add-result c = search needs
+
+same-length : tie.Need-same-length
+same-length c = search needs
+
+returns : tie.Need-returns
+returns c = byte-behind _ _ _ (omega arith)
+
+pub put-byte-spec : {M : Type 1} → statement M
+put-byte-spec = tie.close (tie.spec slice-write-out add-result same-length returns)
