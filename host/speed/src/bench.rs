@@ -39,7 +39,9 @@ use tables::{with_commas, Verdicts};
 pub const USAGE: &str = "usage: bench [--quick | --check] [--without-tuned]
   --quick           fewer samples
   --check           nothing is measured: every case once on all sides, which have to agree
-  --without-tuned   the tuned side is left out";
+  --without-tuned   the tuned side is left out
+or: bench --cases           prints the calls for x86_64/calls.c
+or: bench --counted FILE    prints the tables of what was counted there";
 
 const WITHOUT_TUNED: &str = "--without-tuned";
 
@@ -53,6 +55,11 @@ pub fn run(arguments: impl Iterator<Item = String>) -> Result<(), String> {
         [] => measure(&cases, &effort::FULL, with_tuned),
         ["--quick"] => measure(&cases, &effort::QUICK, with_tuned),
         ["--check"] => check(&cases, with_tuned),
+        ["--cases"] => {
+            print!("{}", cases::in_c(&cases));
+            Ok(())
+        }
+        ["--counted", file] => report_counted(&cases, file),
         [counting::SWITCH] => {
             counting::make_calls(&cases, sides(with_tuned));
             Ok(())
@@ -101,6 +108,34 @@ fn measure(cases: &[Case], effort: &Effort, with_tuned: bool) -> Result<(), Stri
     Ok(())
 }
 
+/// The tables of the instructions that were counted for x86-64 on another processor (x86-64).
+fn report_counted(cases: &[Case], file: &str) -> Result<(), String> {
+    let counts = counting::read_counts(file, cases)?;
+    println!("# Counted for x86_64\n\n`host/benchmark --x86-64` wrote this page, on {}.\n", env::consts::ARCH);
+    println!("- CPU: none; the toolchain's emulator shows each instruction, and no time is taken");
+    println!("- The library: the archive as it is shipped");
+    println!(
+        "- The tuned side: {}'s LLVM module, compiled by the toolchain's compiler for baseline x86-64",
+        version("rustc")
+    );
+    println!("- Copying and filling count as a loop of moves of 16 bytes (`host/speed/x86_64/calls.c`)");
+    let verdicts = &mut Verdicts::default();
+    let measured: Vec<Measured> = cases
+        .iter()
+        .zip(counts)
+        .map(|(case, counts)| Measured { case, times: None, instructions: Some(counts) })
+        .collect();
+    report::report(&measured, sides(true), verdicts);
+    verdicts.leave_out("times, and the programs");
+    print!("\n## The aims\n\n{verdicts}");
+    Ok(())
+}
+
+/// What a command says of its version.
+fn version(command: &str) -> String {
+    printed_by(command, &["--version"]).unwrap_or("unknown".to_string()).trim().to_string()
+}
+
 /// The most stack that a call of the library takes.
 fn report_stack(cases: &[Case], verdicts: &mut Verdicts) {
     println!("\n## The stack of a call\n");
@@ -111,9 +146,9 @@ fn report_stack(cases: &[Case], verdicts: &mut Verdicts) {
     }
     let depth = |case: &Case| {
         let slices = [&case.tariff[..], &case.book, &case.trip, &vec![0; case.room]];
-        stack::depth_of(stack::SETTLE, &stack::Call { slices, at: 0 })
+        stack::depth_of(stack::SETTLE, &stack::Call { slices, numbers: [0; 2] })
     };
-    let most = cases.iter().map(depth).max().unwrap_or(0);
+    let most = cases.iter().filter(|case| case.group != Group::Tariff).map(depth).max().unwrap_or(0);
     let allowed = stack::FUNCTIONS[stack::SETTLE].limit;
     let limit = with_commas(allowed as u64);
     let aim = format!("the stack of a call in bytes: at most {limit}");
@@ -123,10 +158,9 @@ fn report_stack(cases: &[Case], verdicts: &mut Verdicts) {
 
 /// On what it was measured, and how. `uncounted` says why no instructions were counted, if so.
 fn head(effort: &Effort, uncounted: Option<&String>) {
-    let version = |command: &str| printed_by(command, &["--version"]).unwrap_or("unknown".to_string());
     println!("# Measured on {}\n\n`host/benchmark` wrote this page.\n", env::consts::ARCH);
     println!("- CPU: {} ({})", cpu().unwrap_or("unknown".to_string()), env::consts::ARCH);
-    println!("- Rust: {}, release with link-time optimisation", version("rustc").trim());
+    println!("- Rust: {}, release with link-time optimisation", version("rustc"));
     println!(
         "- Times: medians of {} samples a side, the sides alternating; a sample is some {} µs of calls, each on one of \
          {} books in turn; of the programs, medians of the processor's time of {} alternating runs",
@@ -138,7 +172,7 @@ fn head(effort: &Effort, uncounted: Option<&String>) {
     let load = fs::read_to_string("/proc/loadavg").unwrap_or_default();
     println!("- Load average when it began: {}", load.split(' ').next().unwrap_or("unknown"));
     match uncounted {
-        None => println!("- Instructions: by callgrind, {}", version("valgrind").trim()),
+        None => println!("- Instructions: by callgrind, {}", version("valgrind")),
         Some(why) => {
             eprintln!("NO INSTRUCTIONS ARE COUNTED: {why}");
             println!("- Instructions: NOT counted: {}", why.lines().next().unwrap_or(""));

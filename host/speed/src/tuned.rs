@@ -1,8 +1,8 @@
 //! Settling tuned for speed, without `unsafe`: what the proved library is measured against.
 //!
 //! - [`numbers`]: little-endian numbers, and the ranges of several at once;
-//! - [`tariff`]: the tariff as it lies in its bytes, its areas, its first fault; [`factors`]: factor records; [`stops`]:
-//!   many stops at once;
+//! - [`tariff`]: the tariff as it lies in its bytes, its first fault; [`areas`], [`factors`], [`stops`]: its records, many
+//!   at once;
 //! - [`book`]: the book as it lies in its bytes, when it is sound, its window;
 //! - [`calendar`]: stamps and minute numbers; [`trip`]: the trip record; [`parts`]: its way, broken or not;
 //! - [`fare`]: kilometres and the price; [`charge`]: caps, charges, bicycles; [`record`]: the charge record;
@@ -13,6 +13,7 @@
 //! broken, most account holders travel alone, most of a book is 0: that comes first, and all else stands out of its way.
 #![forbid(unsafe_code)]
 
+mod areas;
 mod book;
 mod calendar;
 mod charge;
@@ -37,7 +38,7 @@ use charge::charge_party;
 use fare::Ride;
 use parts::Part;
 use record::{head_of, record_bytes};
-use tariff::Tariff;
+use tariff::{Tariff, MOST_AREAS};
 use trip::Trip;
 
 /// Whole cents.
@@ -72,6 +73,14 @@ impl Refusal {
     }
 }
 
+/// Checks a tariff alone; the answer is the library's number.
+pub fn check_tariff(tariff: &[u8]) -> u64 {
+    match Tariff::read(tariff, &mut [0; MOST_AREAS]) {
+        Ok(_) => tariff.len() as u64,
+        Err(refusal) => refusal.0,
+    }
+}
+
 /// Settles one trip; the answer is the library's number.
 pub fn settle(tariff: &[u8], book: &mut [u8], trip: &[u8], statement: &mut [u8]) -> u64 {
     match try_to_settle(tariff, book, trip, statement) {
@@ -81,8 +90,9 @@ pub fn settle(tariff: &[u8], book: &mut [u8], trip: &[u8], statement: &mut [u8])
 }
 
 fn try_to_settle(tariff: &[u8], book: &mut [u8], trip: &[u8], statement: &mut [u8]) -> Result<usize, Refusal> {
-    let tariff = Tariff::read(tariff)?;
-    let mut book = Book::read(book, tariff.areas.len())?;
+    let mut places = [0; MOST_AREAS];
+    let tariff = Tariff::read(tariff, &mut places)?;
+    let mut book = Book::read(book, tariff.areas)?;
     settle_next(&tariff, &mut book, trip, statement)
 }
 
@@ -110,8 +120,8 @@ fn charge_part(tariff: &Tariff, trip: &Trip, part: &Part, opening: Minutes, book
     let ride = Ride::of(tariff, trip, part);
     let bytes = record.len();
     let (head, slots) = record.split_first_chunk_mut().expect("a record has a head");
-    *head = head_of(bytes, opening, &ride);
-    charge_party(tariff, trip, &ride, book, slots.as_chunks_mut().0);
+    *head = head_of(bytes, opening, trip, &ride);
+    charge_party(tariff, trip, &ride, book, slots);
 }
 
 /// Few trips have one: it stands out of the way.

@@ -14,21 +14,52 @@ const PAPER_ROLL: &[u8] = include_bytes!("../../../samples/paper-roll.bin");
 
 #[test]
 fn it_settles_as_the_model_does() {
-    let options = Options { seeds: vec![5], longer: 1, part: None, names: Vec::new() };
-    let functions = Functions { settle: tuned::settle, ..MODEL };
+    let options = Options { seeds: vec![5, 6], longer: 1, part: None, names: Vec::new() };
+    let functions = Functions { check: tuned::check_tariff, settle: tuned::settle, ..MODEL };
     if let Err(difference) = compare("the tuned implementation", functions, &options) {
         panic!("{difference}");
     }
 }
 
-/// Stops are looked at in groups.
+/// Stops are looked at in groups: as many as are tested at once, and some more.
 #[test]
 fn faults_among_many_stops() {
     let mut tariff = TARIFF.to_vec();
-    for stop in 28..64 {
-        tariff.extend(made(&format!("stop {} {} {}\n", stop % 7, 15_625 * stop, 1_000_000 - stop % 2)));
+    for stop in 35..411 {
+        tariff.extend(made(&format!("stop {} {} {}\n", stop % 7, 2_000 * stop, 1_000_000 - stop % 2)));
     }
     faults_are_the_same(tariff);
+}
+
+/// Any number of them, up to one too many.
+#[test]
+fn any_number_of_stops() {
+    let stop = made("stop 6 1000000 0\n");
+    let mut tariff = TARIFF.to_vec();
+    for _ in 35..=1_001 {
+        tariff.extend(&stop);
+        answers_the_same(&tariff);
+        answers_the_same(&[&tariff[..], &[11, 0, 2]].concat());
+    }
+}
+
+/// Areas of both kinds and all sorts of caps, in any order that there may be: cities stand behind regions, and others between.
+#[test]
+fn faults_among_areas_of_both_kinds() {
+    let common = "base 10000 km 1000 valid 1440 first 100 child 100";
+    let aachen = "base 0 km 0 valid 30 first 0 child 0";
+    let text = format!(
+        "area state parent 0 {common} cap levels 60000 1 2 3 60000 day 60000 bike 60000\n\
+         aachen region parent 0 {aachen} cap flat 60000 30 day none bike 60000 tickets flat 60000 trip 60000 town none\n\
+         area region parent 0 {common} cap flat 0 1440 day 0 bike 60000\n\
+         aachen city parent 1 {aachen} cap none day 60000 bike 60000 tickets none trip 0 town km\n\
+         area city parent 2 {common} cap none day none bike 60000\n\
+         aachen region parent 0 {common} cap levels 1 2 3 4 5 day 1 bike 7 tickets levels 1 60000 3 4 5 trip 9 town none\n\
+         aachen city parent 5 {common} cap none day none bike 7 tickets none trip 9 town base\n\
+         area city parent 2 {common} cap levels 0 0 0 0 0 day 60000 bike 1\n"
+    );
+    let factors = "factor 1 mark 0\n".to_string() + &"factor 9 mark 1\n".repeat(3);
+    faults_are_the_same(made(&(text + &factors + "stop 7 0 0\nstop 3 1 1\n")));
 }
 
 /// As many factor records as there may be.
@@ -57,6 +88,30 @@ fn answers_the_same(tariff: &[u8]) {
     let trip = &PAPER_ROLL[..26];
     let expected = number_of(model::settle(tariff, &mut vec![0; BOOK_BYTES], trip, &mut [0; 17]));
     assert_eq!(tuned::settle(tariff, &mut vec![0; BOOK_BYTES], trip, &mut [0; 17]), expected, "{tariff:?}");
+    assert_eq!(tuned::check_tariff(tariff), number_of(model::check_tariff(tariff)), "{tariff:?}");
+}
+
+/// Each number of each word of a book, beside those that it may have.
+#[test]
+fn books_that_are_not_sound() {
+    let trip = &PAPER_ROLL[..28];
+    let mut used = vec![0; BOOK_BYTES];
+    model::settle(TARIFF, &mut used, trip, &mut [0; 26]).expect("a trip that is accepted");
+    for word in 0..BOOK_BYTES / 4 {
+        for (book, change) in
+            [&vec![0; BOOK_BYTES], &used].into_iter().flat_map(|book| (0..32).map(move |bit| (book, 1 << bit)))
+        {
+            let mut book = book.clone();
+            let bytes: &mut [u8; 4] = book[4 * word..].first_chunk_mut().expect("a word");
+            *bytes = (u32::from_le_bytes(*bytes) ^ change).to_le_bytes();
+            let (mut one, mut other) = (book.clone(), book);
+            let (mut statement, mut other_statement) = ([0; 26], [0; 26]);
+            let expected = number_of(model::settle(TARIFF, &mut one, trip, &mut statement));
+            let found = tuned::settle(TARIFF, &mut other, trip, &mut other_statement);
+            assert_eq!(found, expected, "word {word} changed by {change}");
+            assert!(one == other && statement == other_statement, "word {word} changed by {change}");
+        }
+    }
 }
 
 #[test]

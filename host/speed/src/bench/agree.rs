@@ -41,7 +41,7 @@ fn agree(case: &Case, sides: &[Side]) -> Result<(), String> {
 
 fn outcome(side: &Side, case: &Case) -> Outcome {
     let (mut book, mut statement) = (case.book.clone(), vec![0x5b; case.room]);
-    let number = (side.settle)(&case.tariff, &mut book, &case.trip, &mut statement);
+    let number = side.function(case)(&case.tariff, &mut book, &case.trip, &mut statement);
     Outcome { number, book, statement }
 }
 

@@ -1,6 +1,6 @@
 //! The calls that are measured.
 
-use super::inputs::{grown, largest, sample, Network, Reach, SEED, SUMMER_TIME};
+use super::inputs::{grown, largest, longest, sample, three_areas, Network, Reach, SEED, SUMMER_TIME};
 use milecopper_host::differential::books::{fresh, set_word, BICYCLES, TRIPS};
 use milecopper_host::differential::random::Random;
 use milecopper_host::differential::trips::Plan;
@@ -14,6 +14,8 @@ pub enum Group {
     Settled,
     /// Tariff, book and trip are read through, and nothing is written.
     Checked,
+    /// A tariff is checked alone.
+    Tariff,
     /// A refusal, of which only the instructions are counted.
     Refused,
     /// How the cost grows with areas, stops and the party.
@@ -36,7 +38,13 @@ pub struct Case {
     pub room: usize,
     /// The number of the refusal that is due; 0 where the trip is to be accepted.
     pub refusal: u64,
+    /// What the library's ratio to the tuned side is to be at most, if something was aimed at.
+    pub aim: Option<f64>,
 }
+
+/// The aims: on the largest tariffs, and on the sample with a fresh book; with a used book and a party of 31.
+const AIM: f64 = 1.05;
+const AIM_USED: f64 = 1.15;
 
 /// The charge record of a party of 31.
 const LARGEST_RECORD: usize = 266;
@@ -47,20 +55,45 @@ const OPENING: u64 = 13_853_220;
 const LATER: u64 = OPENING + 600;
 const NEXT_WINDOW: u64 = OPENING + 2_000;
 
+/// Two stops of a town with a mark, of the sample.
+const MARKED_TOWN: [usize; 2] = [31, 32];
+
 const ALONE: [u64; 3] = [0, 0, 0];
 /// 31 with the account holder.
 const FULL: [u64; 3] = [10, 10, 10];
 
 /// All cases, always in the same order.
 pub fn all() -> Vec<Case> {
-    let networks = [largest(), sample()];
+    let networks = [largest(), longest(), sample()];
     let mut cases: Vec<Case> = networks.iter().flat_map(settled).collect();
     cases.extend(networks.iter().flat_map(checked));
+    cases.extend(networks.iter().chain([&three_areas()]).map(checked_alone));
     cases.extend(refused(&networks[0]));
+    cases.push(first_class_in_a_marked_town());
     cases.extend([1, 8, 16, 32].map(|areas| Case { size: areas, ..growing(Group::Areas, grown(areas, 2)) }));
     cases.extend([2, 250, 500, 1_000].map(|stops| Case { size: stops, ..growing(Group::Stops, grown(32, stops)) }));
     cases.extend(parties(&networks[0]));
     cases
+}
+
+/// The cases as x86_64/calls.c has them.
+pub fn in_c(cases: &[Case]) -> String {
+    let array = |name: &str, at: usize, bytes: &[u8]| {
+        let bytes: Vec<String> = bytes.iter().chain([&0]).map(u8::to_string).collect();
+        format!("static const byte {name}_{at}[] = {{{}}};\n", bytes.join(","))
+    };
+    let (mut arrays, mut calls) = (String::new(), String::new());
+    for (at, Case { group, tariff, book, trip, room, .. }) in cases.iter().enumerate() {
+        arrays += &(array("tariff", at, tariff) + &array("book", at, book) + &array("trip", at, trip));
+        calls += &format!(
+            "{{tariff_{at}, book_{at}, trip_{at}, {}, {}, {}, {room}, {}}},\n",
+            tariff.len(),
+            book.len(),
+            trip.len(),
+            u8::from(*group == Group::Tariff)
+        );
+    }
+    format!("{arrays}static const struct call calls[] = {{\n{calls}}};\n")
 }
 
 /// A trip of 25 minutes from one stop to another.
@@ -86,16 +119,17 @@ fn used(network: &Network) -> Vec<u8> {
 
 fn case(group: Group, name: String, network: &Network, book: &[u8], plan: &Plan) -> Case {
     let (tariff, book, trip) = (network.tariff.clone(), book.to_vec(), plan.bytes());
-    Case { group, name, size: 0, tariff, book, trip, room: LARGEST_STATEMENT, refusal: 0 }
+    Case { group, name, size: 0, tariff, book, trip, room: LARGEST_STATEMENT, refusal: 0, aim: None }
 }
 
 fn settled(network: &Network) -> Vec<Case> {
+    let near = if network.name == "longest" { "in a region" } else { "in a city" };
     let ways = [
-        ("fresh book", "in a city", fresh(), LATER, Reach::City, 2),
-        ("used book", "in a city", used(network), LATER, Reach::City, 2),
+        ("fresh book", near, fresh(), LATER, Reach::City, 2),
+        ("used book", near, used(network), LATER, Reach::City, 2),
         ("used book", "across regions", used(network), LATER, Reach::State, 2),
         ("used book", "across regions and back", used(network), LATER, Reach::State, 3),
-        ("next window", "in a city", used(network), NEXT_WINDOW, Reach::City, 2),
+        ("next window", near, used(network), NEXT_WINDOW, Reach::City, 2),
     ];
     let mut cases = Vec::new();
     for (state, where_to, book, check_in, reach, many) in ways {
@@ -103,10 +137,20 @@ fn settled(network: &Network) -> Vec<Case> {
             let riders = 1 + party.iter().sum::<u64>();
             let name = format!("{}, {state}, {where_to}, party of {riders}", network.name);
             let plan = Plan { stops: stops(network, reach, many), ..plan(network, reach, check_in, party) };
-            cases.push(case(Group::Settled, name, network, &book, &plan));
+            let aim = match (state, party) {
+                ("fresh book", _) => Some(AIM),
+                (_, FULL) => Some(AIM_USED),
+                _ => (network.name != "sample").then_some(AIM),
+            };
+            cases.push(Case { aim, ..case(Group::Settled, name, network, &book, &plan) });
         }
     }
     cases
+}
+
+/// Nothing but the tariff is looked at.
+fn checked_alone(network: &Network) -> Case {
+    case(Group::Tariff, network.name.to_string(), network, &[], &plan(network, Reach::City, LATER, ALONE))
 }
 
 fn checked(network: &Network) -> Vec<Case> {
@@ -127,24 +171,25 @@ type Spoil = fn(&mut Case);
 
 /// Each refusal, with its fault as late in the bytes as it can stand.
 fn refused(network: &Network) -> Vec<Case> {
-    let spoils: [(&str, Spoil); 12] = [
-        ("the last record cut", |case| case.tariff.truncate(case.tariff.len() - 1)),
-        ("the last record of another kind", |case| set_from_end(&mut case.tariff, 11, 9)),
-        ("the last stop in no area", |case| set_from_end(&mut case.tariff, 9, 32)),
-        ("the last bicycle in no area", |case| set_word(&mut case.book, BICYCLES + 9, 33)),
-        ("a byte behind the record", trip_too_long),
-        ("11 bicycles", |case| case.trip[22] = 11),
-        ("the last stop unknown", |case| set_from_end(&mut case.trip, 1, 255)),
-        ("check-out at minute 60", |case| case.trip[16] = 60),
-        ("check-out before check-in", |case| case.trip[15] -= 1),
-        ("check-in before the last check-out", |case| case.trip[8] = 8),
-        ("a window of 256 trips", |case| set_word(&mut case.book, TRIPS, 256)),
-        ("a statement too short", no_room),
+    let spoils: [(u64, &str, Spoil); 13] = [
+        (1, "the last record cut", |case| case.tariff.truncate(case.tariff.len() - 1)),
+        (2, "the last record of another kind", |case| set_from_end(&mut case.tariff, 11, 9)),
+        (3, "the last stop in no area", |case| set_from_end(&mut case.tariff, 9, 32)),
+        (4, "the last bicycle in no area", |case| set_word(&mut case.book, BICYCLES + 9, 33)),
+        (5, "a byte behind the record", trip_too_long),
+        (6, "11 bicycles", |case| case.trip[22] = 11),
+        (7, "the last stop unknown", |case| set_from_end(&mut case.trip, 1, 255)),
+        (8, "check-out at minute 60", |case| case.trip[16] = 60),
+        (9, "check-out before check-in", |case| case.trip[15] -= 1),
+        (17, "tapped in and out at one stop", mistap),
+        (10, "check-in before the last check-out", |case| case.trip[8] = 8),
+        (11, "a window of 256 trips", |case| set_word(&mut case.book, TRIPS, 256)),
+        (12, "a statement too short", no_room),
     ];
     let book = used(network);
     let good = plan(network, Reach::City, LATER, FULL);
     let mut cases = Vec::new();
-    for (refusal, (fault, spoil)) in (1..).zip(spoils) {
+    for (refusal, fault, spoil) in spoils {
         let mut case = case(Group::Refused, format!("{refusal}: {fault}"), network, &book, &good);
         spoil(&mut case);
         cases.push(Case { refusal, ..case });
@@ -152,10 +197,24 @@ fn refused(network: &Network) -> Vec<Case> {
     cases
 }
 
+/// The second row of 6: between two stops of town 8 of the sample, which has a mark, in class 1.
+fn first_class_in_a_marked_town() -> Case {
+    let network = sample();
+    let plan = Plan { class: 1, stops: MARKED_TOWN.to_vec(), ..plan(&network, Reach::City, LATER, FULL) };
+    let name = "6: first class in a marked town of the sample".to_string();
+    Case { refusal: 6, ..case(Group::Refused, name, &network, &used(&network), &plan) }
+}
+
 /// Sets the byte that stands so many bytes before the end.
 fn set_from_end(bytes: &mut [u8], before_end: usize, value: u8) {
     let place = bytes.len() - before_end;
     bytes[place] = value;
+}
+
+/// The last stop is the first, and the check-out the check-in.
+fn mistap(case: &mut Case) {
+    case.trip.copy_within(24..26, 26);
+    case.trip.copy_within(4..11, 11);
 }
 
 fn trip_too_long(case: &mut Case) {
@@ -190,7 +249,11 @@ mod tests {
 
     #[test]
     fn each_is_answered_as_it_is_meant() {
-        for Case { group, name, size, tariff, mut book, trip, room, refusal } in all() {
+        for Case { group, name, size, tariff, mut book, trip, room, refusal, .. } in all() {
+            if group == Group::Tariff {
+                assert_eq!(model::check_tariff(&tariff), Ok(tariff.len()), "{name}");
+                continue;
+            }
             let mut statement = vec![0; room];
             match model::settle(&tariff, &mut book, &trip, &mut statement) {
                 Ok(written) => {
@@ -206,7 +269,7 @@ mod tests {
 
     #[test]
     fn a_used_book_has_sums_of_all() {
-        for network in [largest(), sample()] {
+        for network in [largest(), longest(), sample()] {
             let book = model::book::Book::read(&used(&network)).expect("a book");
             assert_eq!(book.trips(), 4);
             assert!((0..21).all(|rider| book.all_classes_sum(rider, 0) > 0));

@@ -25,7 +25,7 @@ const SETTINGS: &str = "glibc.cpu.x86_rep_movsb_threshold=1000000000:glibc.cpu.x
 /// Makes the calls to be counted: for each case one of each side, and one that does nothing.
 pub fn make_calls(cases: &[Case], sides: &[Side]) {
     for case in cases {
-        for settle in sides.iter().map(|side| side.settle).chain([nothing as Settle]) {
+        for settle in sides.iter().map(|side| side.function(case)).chain([nothing as Settle]) {
             let mut statement = vec![0; case.room];
             // Once before, so that what a first call costs is not counted.
             black_box(settle)(&case.tariff, &mut case.book.clone(), &case.trip, &mut statement);
@@ -56,6 +56,17 @@ pub fn count(cases: &[Case], sides: &[Side], arguments: &[&str]) -> Result<Vec<P
     let counts = (1..=calls * cases.len()).map(|call| total_in(&out.with_extension(call.to_string())));
     let counts = counts.collect::<Result<Vec<u64>, String>>()?;
     counts.chunks(calls).map(own_counts).collect()
+}
+
+/// The counts that x86-64 found, a line a call: of each case the library's, the tuned side's, and that of a call which does
+/// nothing. The plain side has none.
+pub fn read_counts(file: &str, cases: &[Case]) -> Result<Vec<PerSide<u64>>, String> {
+    let text = fs::read_to_string(file).map_err(|error| format!("{file}: {error}"))?;
+    let counts: Option<Vec<u64>> = text.lines().map(|line| line.parse().ok()).collect();
+    let counts =
+        counts.filter(|counts| counts.len() == 3 * cases.len()).ok_or(format!("{file} has no counts of all cases"))?;
+    let of_sides = |of_case: &[u64]| Ok(vec![of_case[0] - of_case[2], 0, of_case[1] - of_case[2]]);
+    counts.chunks(3).map(of_sides).collect()
 }
 
 /// The counts of the sides less that of the one which does nothing, the last.

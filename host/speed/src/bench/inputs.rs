@@ -25,12 +25,19 @@ pub struct Network {
     pub stops: fn(&mut Random, Reach, usize) -> Vec<usize>,
 }
 
-/// 32 areas, 1,000 stops.
+/// 32 areas of kind 1, 1,000 stops.
 pub fn largest() -> Network {
     Network { name: "largest", tariff: made(&(areas(MOST_AREAS) + &spread_stops(MOST_STOPS))), stops: largest_stops }
 }
 
-/// samples/tariff.bin: 10 areas, 35 stops. Trips are those of its first areas.
+/// The longest in bytes: the state, 31 regions of kind 8, 1,000 stops. There is no city, and a trip that would lie in one
+/// lies in a region.
+pub fn longest() -> Network {
+    let areas = area_line(0) + &(1..MOST_AREAS).map(aachen_line).collect::<String>() + &factors(MOST_AREAS);
+    Network { name: "longest", tariff: made(&(areas + &spread_stops(MOST_STOPS))), stops: longest_stops }
+}
+
+/// samples/tariff.bin: 10 areas of both kinds, 35 stops. Trips are those of its first areas.
 pub fn sample() -> Network {
     Network { name: "sample", tariff: include_bytes!("../../../../samples/tariff.bin").to_vec(), stops: sample_stops }
 }
@@ -57,8 +64,6 @@ const MOST_AREAS: usize = 32;
 const MOST_STOPS: usize = 1_000;
 /// Areas 1 to 4; the areas behind them are their cities.
 const REGIONS: usize = 4;
-/// It and its cities are of kind 8.
-const AACHEN: usize = REGIONS;
 
 fn made(text: &str) -> Vec<u8> {
     bytes_of(text).unwrap_or_else(|fault| panic!("{fault} in\n{text}"))
@@ -86,11 +91,8 @@ fn area_line(area: usize) -> String {
         0 => format!("area state parent 0 base {base} km {km} valid {valid} {} day 3000 bike 500\n", shares(random, 0)),
         1..=REGIONS => {
             let (day, bike) = (random.within(2_400, 2_900), random.within(350, 450));
-            let (kind, behind) = kind_of(area, area);
-            format!(
-                "{kind} region parent 0 base {base} km {km} valid {valid} {} day {day} bike {bike}{behind}\n",
-                shares(random, area)
-            )
+            let shares = shares(random, area);
+            format!("area region parent 0 base {base} km {km} valid {valid} {shares} day {day} bike {bike}\n")
         }
         _ => city_line(area, region_of(area)),
     }
@@ -101,21 +103,21 @@ fn city_line(area: usize, region: usize) -> String {
     let random = &mut Random::of(SEED, area as u64);
     let (base, km, bike) = (random.within(120, 170), random.within(22, 30), random.within(200, 300));
     let day = if area % 8 == 7 { "none".to_string() } else { random.within(400, 900).to_string() };
-    let (kind, behind) = kind_of(area, region);
-    format!(
-        "{kind} city parent {region} base {base} km {km} valid 90 {} day {day} bike {bike}{behind}\n",
-        shares(random, area)
-    )
+    let shares = shares(random, area);
+    format!("area city parent {region} base {base} km {km} valid 90 {shares} day {day} bike {bike}\n")
 }
 
-/// The first word of an area of this region, or of the region itself, and what stands behind its fields: of kind 8 tickets of
-/// its own sort of trip cap, the price per trip and no mark.
-fn kind_of(area: usize, region: usize) -> (&'static str, String) {
-    if region != AACHEN {
-        return ("area", String::new());
-    }
+/// A region of kind 8, with tickets of its own sort of trip cap.
+fn aachen_line(area: usize) -> String {
+    let random = &mut Random::of(SEED, area as u64);
+    let (base, km, valid) = (random.within(130, 190), random.within(24, 32), random.pick(&[240, 360]));
+    let (day, bike) = (random.within(2_400, 2_900), random.within(350, 450));
     let tickets = ["none", "levels 100 170 370 620 840", "flat 110"][area % 3];
-    ("aachen", format!(" tickets {tickets} trip 150 town none"))
+    let shares = shares(random, area);
+    format!(
+        "aachen region parent 0 base {base} km {km} valid {valid} {shares} day {day} bike {bike} \
+         tickets {tickets} trip 150 town none\n"
+    )
 }
 
 /// The percentages and the trip cap, of which all three sorts come in turn.
@@ -180,6 +182,18 @@ fn largest_stops(random: &mut Random, reach: Reach, many: usize) -> Vec<usize> {
     to_and_fro(ends, many)
 }
 
+/// In one region, or in two.
+fn longest_stops(random: &mut Random, reach: Reach, many: usize) -> Vec<usize> {
+    let region = 1 + random.index(MOST_AREAS - 1);
+    let other = if reach == Reach::State { 1 + region % (MOST_AREAS - 1) } else { region };
+    let first = stop_in(random, region);
+    let mut second = stop_in(random, other);
+    if second == first {
+        second = (second + MOST_AREAS) % (MOST_AREAS * (MOST_STOPS / MOST_AREAS));
+    }
+    to_and_fro([first, second], many)
+}
+
 fn sample_stops(random: &mut Random, reach: Reach, many: usize) -> Vec<usize> {
     let first = random.index(7);
     let second = match reach {
@@ -217,9 +231,13 @@ mod tests {
 
     #[test]
     fn tariffs_are_faultless_and_as_large_as_they_are_called() {
-        for (network, areas, stops) in
-            [(largest(), 32, 1_000), (sample(), 10, 35), (three_areas(), 3, 4), (smallest(), 1, 1)]
-        {
+        for (network, areas, stops) in [
+            (largest(), 32, 1_000),
+            (longest(), 32, 1_000),
+            (sample(), 10, 35),
+            (three_areas(), 3, 4),
+            (smallest(), 1, 1),
+        ] {
             let tariff = read_tariff(&network.tariff).expect("a faultless tariff");
             assert_eq!((tariff.areas.len(), tariff.stops.len()), (areas, stops), "{}", network.name);
         }
@@ -238,17 +256,24 @@ mod tests {
         assert!(tariff.areas.iter().any(|area| matches!(area.trip_cap, TripCap::ByLevel { .. })));
         assert!(tariff.areas.iter().any(|area| area.day_cap.is_none()));
         assert!((0..32).all(|area| tariff.stops.iter().any(|stop| stop.area == area)));
-        assert!((1..32).all(|area| tariff.areas[area].is_aachen() == tariff.contains(AACHEN, area)));
+        assert!(tariff.areas.iter().all(|area| !area.is_aachen()));
+    }
+
+    #[test]
+    fn the_longest_tariff_has_as_many_bytes_as_there_may_be() {
+        let network = longest();
+        let tariff = read_tariff(&network.tariff).expect("a faultless tariff");
+        assert_eq!(network.tariff.len(), 14_523);
+        assert!(tariff.areas[1..].iter().all(|area| area.is_aachen() && area.level == Level::Region));
     }
 
     #[test]
     fn trips_go_as_far_as_asked() {
         let random = &mut Random::of(SEED, 0);
-        for network in [largest(), sample(), three_areas()] {
+        for network in [largest(), longest(), sample(), three_areas()] {
             let tariff = read_tariff(&network.tariff).expect("a faultless tariff");
-            for (reach, level) in
-                [(Reach::City, Level::City), (Reach::Region, Level::Region), (Reach::State, Level::State)]
-            {
+            let city = if network.name == "longest" { Level::Region } else { Level::City };
+            for (reach, level) in [(Reach::City, city), (Reach::Region, Level::Region), (Reach::State, Level::State)] {
                 for many in 2..50 {
                     let stops = (network.stops)(random, reach, many);
                     let areas: Vec<usize> = stops.iter().map(|&stop| tariff.stops[stop].area).collect();

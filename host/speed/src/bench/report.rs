@@ -5,10 +5,6 @@ use super::sides::{PerSide, Side, LIBRARY, TUNED};
 use super::tables::{decimal, ratio, slope, whole, with_commas, Table, Verdicts, NONE};
 use super::timing::Times;
 
-/// The aims of the library's ratio to the tuned side.
-pub const AIM: f64 = 1.0;
-const AIM_CHECKED: f64 = 0.7;
-
 /// A case with what was measured: no time where only instructions are counted, no instructions where there is no
 /// valgrind.
 pub struct Measured<'a> {
@@ -21,18 +17,21 @@ pub struct Measured<'a> {
 pub fn report(measured: &[Measured], sides: &[Side], verdicts: &mut Verdicts) {
     let of = |group: Group| -> Vec<&Measured> { measured.iter().filter(|row| row.case.group == group).collect() };
     println!("\n## One call\n");
-    print!("{}", timed(&of(Group::Settled), sides, "a call's time, library/tuned", AIM, verdicts));
+    print!("{}", timed(&of(Group::Settled), sides, Some(verdicts)));
     println!("\n## One call that only checks\n");
     println!("Tariff, book and trip are read through, and nothing is written.\n");
-    let what = "a call that only checks, library/tuned";
-    print!("{}", timed(&of(Group::Checked), sides, what, AIM_CHECKED, verdicts));
-    let spread = measured.iter().filter_map(|row| row.times.as_ref()).map(|times| times.spread).fold(0.0, f64::max);
-    println!("\nThe middle half of a side's samples spans {} % of its median at most.", decimal(100.0 * spread, 1));
+    print!("{}", timed(&of(Group::Checked), sides, None));
+    println!("\n## A tariff checked alone\n");
+    print!("{}", timed(&of(Group::Tariff), sides, None));
+    let spread = measured.iter().filter_map(|row| row.times.as_ref()).map(|times| times.spread).reduce(f64::max);
+    if let Some(spread) = spread {
+        println!("\nThe middle half of a side's samples spans {} % of its median at most.", decimal(100.0 * spread, 1));
+    }
     println!("\n## The refusals, in instructions\n");
     println!("The largest tariff, a used book, a party of 31; each fault as late in the bytes as it can stand.\n");
-    print!("{}", counted(&of(Group::Refused), sides, verdicts));
+    print!("{}", counted(&of(Group::Refused), sides));
     if measured.iter().any(|row| row.instructions.is_none()) {
-        verdicts.leave_out("the refusals, as no instructions were counted");
+        verdicts.leave_out("instructions, which were not counted");
     }
     println!("\n## How a call's cost grows\n");
     println!("One person on a fresh book, between two stops of the state: with no other stops, then with 32 areas.\n");
@@ -52,52 +51,59 @@ fn headed(sides: &[Side], of: impl Iterator<Item = usize>, unit: &str) -> Vec<St
     of.map(|side| format!("{} {unit}", sides[side].name)).collect()
 }
 
-fn timed(rows: &[&Measured], sides: &[Side], what: &str, aim: f64, verdicts: &mut Verdicts) -> Table {
-    let is_judged = sides.len() > TUNED;
+/// Times and instructions; with verdicts where something was aimed at.
+fn timed(rows: &[&Measured], sides: &[Side], mut verdicts: Option<&mut Verdicts>) -> Table {
+    let with_tuned = sides.len() > TUNED;
     let mut head = vec!["case".to_string()];
     head.extend(headed(sides, 0..sides.len(), "ns"));
-    head.extend(["library/tuned", "aim", "verdict"].iter().filter(|_| is_judged).map(|cell| cell.to_string()));
     head.extend(headed(sides, compared(sides), "instr."));
-    head.extend(is_judged.then_some("instr. library/tuned".to_string()));
+    if with_tuned {
+        head.extend(["ns library/tuned", "instr. library/tuned"].map(str::to_string));
+        head.extend(["aim", "ns", "instr."].iter().filter(|_| verdicts.is_some()).map(|cell| cell.to_string()));
+    }
     let mut table = Table::of(head);
     for row in rows {
         let mut cells = vec![row.case.name.clone()];
         cells.extend((0..sides.len()).map(|side| ns(row, side)));
-        if is_judged {
-            let found = row.times.as_ref().map(|times| times.ns[LIBRARY] / times.ns[TUNED]);
-            cells.extend(judged(what, found, aim, verdicts));
-        }
         cells.extend(compared(sides).map(|side| instructions(row, side)));
-        cells.extend(is_judged.then(|| instruction_ratio(row).map_or(NONE.to_string(), ratio)));
+        if with_tuned {
+            let found = [time_ratio(row), instruction_ratio(row)];
+            cells.extend(found.map(|found| found.map_or(NONE.to_string(), ratio)));
+            if let Some(verdicts) = &mut verdicts {
+                cells.extend(judged(row.case, found, verdicts));
+            }
+        }
         table.row(cells);
     }
     table
 }
 
-fn counted(rows: &[&Measured], sides: &[Side], verdicts: &mut Verdicts) -> Table {
-    let is_judged = sides.len() > TUNED;
+fn counted(rows: &[&Measured], sides: &[Side]) -> Table {
+    let with_tuned = sides.len() > TUNED;
     let mut head = vec!["refusal".to_string()];
     head.extend(headed(sides, compared(sides), "instr."));
-    head.extend(["library/tuned", "aim", "verdict"].iter().filter(|_| is_judged).map(|cell| cell.to_string()));
+    head.extend(with_tuned.then(|| "library/tuned".to_string()));
     let mut table = Table::of(head);
     for row in rows {
         let mut cells = vec![row.case.name.clone()];
         cells.extend(compared(sides).map(|side| instructions(row, side)));
-        if is_judged {
-            let what = "a refusal's instructions, library/tuned";
-            cells.extend(judged(what, instruction_ratio(row), AIM_CHECKED, verdicts));
-        }
+        cells.extend(with_tuned.then(|| instruction_ratio(row).map_or(NONE.to_string(), ratio)));
         table.row(cells);
     }
     table
 }
 
-/// A ratio, its aim and the verdict.
-fn judged(what: &str, found: Option<f64>, aim: f64, verdicts: &mut Verdicts) -> [String; 3] {
-    match found {
-        Some(found) => [ratio(found), format!("{aim:.1}"), verdicts.judge_ratio(what, found, aim).to_string()],
-        None => [NONE; 3].map(str::to_string),
+/// The aim, and what is to be said of the ratio of times and of that of instructions.
+fn judged(case: &Case, found: [Option<f64>; 2], verdicts: &mut Verdicts) -> Vec<String> {
+    let mut cells = vec![case.aim.map_or(NONE.to_string(), |aim| format!("{aim:.2}"))];
+    for (what, found) in ["time", "instructions"].into_iter().zip(found) {
+        let verdict = case.aim.zip(found).map(|(aim, found)| {
+            let of = case.name.split(',').next().unwrap_or("");
+            verdicts.judge_ratio(&format!("a call's {what} on the {of} tariff, library/tuned"), found, aim)
+        });
+        cells.push(verdict.unwrap_or(NONE).to_string());
     }
+    cells
 }
 
 /// A line for each size, and one that says how much an item more costs.
@@ -131,6 +137,10 @@ fn ns(row: &Measured, side: usize) -> String {
 
 fn instructions(row: &Measured, side: usize) -> String {
     row.instructions.as_ref().map_or(NONE.to_string(), |counts| with_commas(counts[side]))
+}
+
+fn time_ratio(row: &Measured) -> Option<f64> {
+    row.times.as_ref().map(|times| times.ns[LIBRARY] / times.ns[TUNED])
 }
 
 fn instruction_ratio(row: &Measured) -> Option<f64> {

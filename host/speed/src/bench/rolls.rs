@@ -65,13 +65,13 @@ fn spoil(trips: &mut Random, record: &mut [u8]) {
 
 #[cfg(test)]
 mod tests {
-    use super::super::inputs::{largest, smallest, three_areas};
+    use super::super::inputs::{largest, longest, smallest, three_areas};
     use super::*;
     use milecopper_host::model::settle_roll;
 
     #[test]
     fn nearly_all_are_accepted_several_in_a_window_as_many_broken_under_each_tariff() {
-        for network in [largest(), three_areas(), smallest()] {
+        for network in [largest(), longest(), three_areas(), smallest()] {
             let text = settle_roll(&network.tariff, &roll(&network, 1_000));
             let refused = text.lines().filter(|line| line.contains(" refused ")).count() - 1;
             let broken = text.lines().count() - 1_002;

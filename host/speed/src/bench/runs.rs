@@ -1,17 +1,22 @@
 //! The tables of the programs.
 
 use super::effort::Effort;
-use super::inputs::{largest, smallest, three_areas, Network};
+use super::inputs::{largest, longest, smallest, three_areas, Network};
 use super::programs::{PerProgram, Programs, Site, Times};
-use super::report::AIM;
 use super::rolls::RECORDS;
 use super::tables::{decimal, ratio, slope, with_commas, Table, Verdicts, NONE};
 
-/// The aim of a trip's cost on the largest tariff against that on the smallest.
-const AIM_OF_SIZE: f64 = 1.1;
+/// The aim of the program's ratio to the tuned one.
+const AIM: f64 = 1.4;
+/// The aim of a trip's cost on the largest tariff against that on one of the same depth.
+const AIM_OF_SIZE: f64 = 1.05;
 
 /// Lengths of a roll to see the cost grow with.
 const LENGTHS: [usize; 4] = [8_192, 16_384, 32_768, RECORDS];
+
+fn networks() -> [Network; 4] {
+    [largest(), three_areas(), longest(), smallest()]
+}
 
 /// What the programs cost on one tariff.
 struct Run {
@@ -41,7 +46,7 @@ pub fn report(programs: &Programs, effort: &Effort, counts: bool, verdicts: &mut
         verdicts.leave_out("the program, which is for another processor");
         return Ok(());
     }
-    let networks = [largest(), three_areas(), smallest()];
+    let networks = networks();
     let mut runs = Vec::new();
     for network in &networks {
         eprintln!("the programs on the tariff '{}'", network.name);
@@ -85,27 +90,39 @@ fn headed<'a>(programs: &'a Programs, unit: &'a str) -> impl Iterator<Item = Str
 }
 
 fn table_of(programs: &Programs, runs: &[Run], verdicts: &mut Verdicts) -> Table {
+    let is_judged = programs.names.len() == 2;
     let mut head = vec!["tariff".to_string()];
     head.extend(headed(programs, "ms"));
-    if programs.names.len() == 2 {
-        head.extend(["settle_roll/tuned_roll", "aim", "verdict"].map(str::to_string));
-    }
     head.extend(headed(programs, "ns a trip"));
     head.extend(headed(programs, "instr. a record"));
+    if is_judged {
+        head.extend(["time settle_roll/tuned_roll", "instr.", "aim", "time", "instr."].map(str::to_string));
+    }
     let mut table = Table::of(head);
     for run in runs {
         let mut cells = vec![run.name.to_string()];
         cells.extend(run.whole.ns.iter().map(|ns| decimal(ns / 1e6, 2)));
-        if let [program, tuned] = run.whole.ns[..] {
-            let found = program / tuned;
-            let verdict = verdicts.judge_ratio("the program's time, settle_roll/tuned_roll", found, AIM);
-            cells.extend([ratio(found), format!("{AIM:.1}"), verdict.to_string()]);
-        }
         cells.extend(run.per_trip().iter().map(|&ns| decimal(ns, 1)));
         cells.extend(counted(programs, run.instructions.as_ref(), |&count| decimal(count, 1)));
+        if is_judged {
+            cells.extend(judged(run, verdicts));
+        }
         table.row(cells);
     }
     table
+}
+
+/// The ratios of times and of instructions, the aim and the verdicts.
+fn judged(run: &Run, verdicts: &mut Verdicts) -> Vec<String> {
+    let found =
+        [Some(&run.whole.ns), run.instructions.as_ref()].map(|values| values.map(|values| values[0] / values[1]));
+    let mut cells: Vec<String> = found.iter().map(|found| found.map_or(NONE.to_string(), ratio)).collect();
+    cells.push(format!("{AIM:.2}"));
+    for (what, found) in ["time", "instructions a record"].into_iter().zip(found) {
+        let aim = format!("the program's {what}, settle_roll/tuned_roll");
+        cells.push(found.map_or(NONE, |found| verdicts.judge_ratio(&aim, found, AIM)).to_string());
+    }
+    cells
 }
 
 /// A cell for each program, also where nothing was counted.
@@ -113,23 +130,33 @@ fn counted<T>(programs: &Programs, counts: Option<&PerProgram<T>>, text: impl Fn
     counts.map_or(vec![NONE.to_string(); programs.names.len()], |counts| counts.iter().map(text).collect())
 }
 
-/// The largest tariff against the smallest, and against the one that has its depth and next to no records.
+/// The largest and the longest tariff against one that is as deep as any and has next to no records, and the largest against
+/// the smallest.
 fn size_matters(programs: &Programs, runs: &[Run], verdicts: &mut Verdicts) -> Table {
     let mut head = vec!["cost of a trip".to_string()];
     head.extend(headed(programs, ""));
-    head.extend(["aim", "verdict", "settle_roll instr."].map(str::to_string));
+    head.extend(["settle_roll instr.", "aim", "time", "instr."].map(str::to_string));
     let mut table = Table::of(head);
-    let [largest, three_areas, smallest] = runs else { unreachable!("three tariffs") };
-    for (other, aim) in [(smallest, Some(AIM_OF_SIZE)), (three_areas, None)] {
+    let [largest, three_areas, longest, smallest] = runs else { unreachable!("four tariffs") };
+    let pairs = [
+        (largest, three_areas, Some(AIM_OF_SIZE)),
+        (longest, three_areas, Some(AIM_OF_SIZE)),
+        (largest, smallest, None),
+    ];
+    for (run, other, aim) in pairs {
         let found: PerProgram<f64> =
-            largest.per_trip().iter().zip(other.per_trip()).map(|(cost, other)| cost / other).collect();
-        let mut cells = vec![format!("{} / {}", largest.name, other.name)];
+            run.per_trip().iter().zip(other.per_trip()).map(|(cost, other)| cost / other).collect();
+        let mut cells = vec![format!("{} / {}", run.name, other.name)];
         cells.extend(found.iter().map(|&found| ratio(found)));
-        cells.push(aim.map_or(NONE.to_string(), |aim| format!("{aim:.1}")));
-        let what = "a trip's cost, largest tariff / smallest";
-        cells.push(aim.map_or(NONE, |aim| verdicts.judge_ratio(what, found[0], aim)).to_string());
-        let instructions = largest.instructions.as_ref().zip(other.instructions.as_ref());
-        cells.push(instructions.map_or(NONE.to_string(), |(count, other)| ratio(count[0] / other[0])));
+        let instructions = run.instructions.as_ref().zip(other.instructions.as_ref());
+        let instructions = instructions.map(|(count, other)| count[0] / other[0]);
+        cells.push(instructions.map_or(NONE.to_string(), ratio));
+        cells.push(aim.map_or(NONE.to_string(), |aim| format!("{aim:.2}")));
+        for (what, found) in [("time", Some(found[0])), ("instructions", instructions)] {
+            let what = format!("a trip's {what}, largest or longest tariff / three areas");
+            let verdict = aim.zip(found).map(|(aim, found)| verdicts.judge_ratio(&what, found, aim));
+            cells.push(verdict.unwrap_or(NONE).to_string());
+        }
         table.row(cells);
     }
     table
@@ -172,7 +199,7 @@ fn slope_of(values: &[(usize, PerProgram<f64>)], program: usize, unit: &str) -> 
 /// many; on none where the program is for another processor.
 pub fn agree(programs: &Programs) -> Result<usize, String> {
     const RECORDS: usize = 2_000;
-    let networks = [largest(), three_areas(), smallest()];
+    let networks = networks();
     if !programs.run_here {
         return Ok(0);
     }

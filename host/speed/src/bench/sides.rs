@@ -1,12 +1,25 @@
 //! Those that settle, measured side by side.
 
+use super::cases::{Case, Group};
 use crate::tuned;
-use milecopper_host::differential::{settle_by_the_model, Settle};
+use milecopper_host::differential::{Settle, MODEL};
 use milecopper_host::library;
 
 pub struct Side {
     pub name: &'static str,
-    pub settle: Settle,
+    settle: Settle,
+    /// Looks at the tariff alone.
+    check: Settle,
+}
+
+impl Side {
+    /// What this case is of.
+    pub fn function(&self, case: &Case) -> Settle {
+        match case.group {
+            Group::Tariff => self.check,
+            _ => self.settle,
+        }
+    }
 }
 
 /// One value for each side that is measured.
@@ -18,9 +31,9 @@ pub const PLAIN: usize = 1;
 pub const TUNED: usize = 2;
 
 static ALL: [Side; 3] = [
-    Side { name: "library", settle: library::settle_to_number },
-    Side { name: "plain", settle: settle_by_the_model },
-    Side { name: "tuned", settle: tuned::settle },
+    Side { name: "library", settle: library::settle_to_number, check: |tariff, _, _, _| library::check_tariff(tariff) },
+    Side { name: "plain", settle: MODEL.settle, check: |tariff, _, _, _| (MODEL.check)(tariff) },
+    Side { name: "tuned", settle: tuned::settle, check: |tariff, _, _, _| tuned::check_tariff(tariff) },
 ];
 
 /// The sides that are measured.

@@ -50,7 +50,7 @@ struct Judged {
 impl Verdicts {
     /// The word for the table about a ratio.
     pub fn judge_ratio(&mut self, aim: &str, found: f64, most: f64) -> &'static str {
-        self.judge(&format!("{aim}: at most {most:.1}"), found, most, 3)
+        self.judge(&format!("{aim}: at most {most:.2}"), found, most, 3)
     }
 
     /// The word for the table about a figure that is to be at most this. It is judged as it is printed.
@@ -164,8 +164,8 @@ mod tests {
         assert_eq!(verdicts.judge_ratio("one", 1.2, 1.0), "**missed**");
         assert_eq!(verdicts.judge("three: at most 1,024", 1_024.0, 1_024.0, 0), "met");
         verdicts.leave_out("four");
-        let text = "| aim | met | found |\n|---|---:|---:|\n| one: at most 1.0 | 1 of 2 | 1.000 to 1.200 |\n\
-                    | two: at most 0.7 | 0 of 1 | 0.701 |\n| three: at most 1,024 | 1 of 1 | 1,024 |\n\
+        let text = "| aim | met | found |\n|---|---:|---:|\n| one: at most 1.00 | 1 of 2 | 1.000 to 1.200 |\n\
+                    | two: at most 0.70 | 0 of 1 | 0.701 |\n| three: at most 1,024 | 1 of 1 | 1,024 |\n\
                     | four | NOT measured | – |\n";
         assert_eq!(verdicts.to_string(), text);
     }

@@ -25,11 +25,12 @@ pub struct Times {
 /// Times a call on each side.
 pub fn time(case: &Case, effort: &Effort, sides: &[Side]) -> Times {
     let mut bench = Bench::of(case);
-    let batches: PerSide<u32> = sides.iter().map(|side| bench.batches_for(side.settle, effort.sample)).collect();
+    let batches: PerSide<u32> =
+        sides.iter().map(|side| bench.batches_for(side.function(case), effort.sample)).collect();
     let mut samples = vec![Vec::new(); sides.len()];
     for order in ORDERS.iter().cycle().take(effort.samples) {
         for &side in order.iter().filter(|&&side| side < sides.len()) {
-            samples[side].push(bench.sample(sides[side].settle, batches[side]));
+            samples[side].push(bench.sample(sides[side].function(case), batches[side]));
         }
     }
     let spread = samples.iter().cloned().map(spread).fold(0.0, f64::max);

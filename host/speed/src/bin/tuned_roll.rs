@@ -8,9 +8,8 @@ use std::io::{self, ErrorKind, Read};
 use std::os::fd::AsFd;
 use std::process::ExitCode;
 
-/// No tariff is decided by more than its first so many bytes: 32 areas, each with a factor record, 1,000 stops, and a
-/// record too many.
-const TARIFF_BYTES: u64 = 15_146;
+/// No tariff is decided by more than its first so many bytes: the longest tariff, and the longest record behind it.
+const TARIFF_BYTES: u64 = 14_523 + 1_026;
 
 const USAGE: &str = "usage: tuned_roll <ROLL
 

@@ -1,26 +1,32 @@
 //! The book as it lies in its bytes, when it is sound, and its window. Refusals 4, 10 and 11.
 
 use super::calendar::{LAST_MINUTE, MINUTES_IN_A_DAY};
-use super::numbers::four;
+use super::numbers::{four, FOR_X86_64};
 use super::tariff::MOST_AREAS;
 use super::trip::Trip;
 use super::{Cents, Minutes, Refusal};
 
-pub const BOOK: usize = 5_428;
+pub const BOOK: usize = 5_468;
 const TRIPS_IN_A_WINDOW: u32 = 256;
 /// The largest price that a tariff can give.
 const LARGEST_PRICE: Cents = 3_790_000;
+/// What a bicycle can have paid per trip in a window.
+const MOST_PAYMENTS: Cents = 15_360_000;
 
 /// A pair for each area: the second-class sum and the all-classes sum.
 pub type Rider = [Pair; MOST_AREAS];
 pub type Pair = [u8; 8];
 /// 0 if unused, else 1 + the covering area.
 pub type Bicycle = [u8; 4];
+/// What a bicycle paid per trip.
+pub type Payments = [u8; 4];
 
-/// The bytes of trips, opening minute and last check-out; of a rider; of the holder, the adults and the children.
+/// The bytes of trips, opening minute and last check-out; of the holder, the adults and the children; of the bicycles, and
+/// of their payments.
 const WINDOW: usize = 12;
-const RIDER: usize = 256;
-const RIDERS: usize = 21 * RIDER;
+const RIDERS: usize = 21 * 256;
+const BICYCLES: usize = 10 * 4;
+const PAIRS: usize = RIDERS / 8;
 /// The holder and ten adults come first.
 const CHILDREN: usize = 11;
 
@@ -32,7 +38,7 @@ pub struct Window {
     pub opening: Minutes,
     /// With this one's parts.
     trips: u32,
-    /// Whether sums and bicycles go back to none.
+    /// Whether sums, bicycles and payments go back to none.
     clears: bool,
 }
 
@@ -57,8 +63,9 @@ impl<'a> Book<'a> {
     }
 
     #[inline(always)]
-    pub fn bicycles(&mut self) -> &mut [Bicycle] {
-        self.0[WINDOW + RIDERS..].as_chunks_mut().0
+    pub fn bicycles(&mut self) -> (&mut [Bicycle], &mut [Payments]) {
+        let (bicycles, payments) = self.0[WINDOW + RIDERS..].split_at_mut(BICYCLES);
+        (bicycles.as_chunks_mut().0, payments.as_chunks_mut().0)
     }
 
     /// The window that the trip of so many parts belongs to: the open one, or the next.
@@ -91,50 +98,73 @@ impl<'a> Book<'a> {
     }
 }
 
-/// Whether the book is sound under a tariff of so many areas. In a book without trips all else is 0 as well.
+/// Whether the book is sound under a tariff of so many areas. Without trips all else is 0 as well.
 #[inline(never)]
 fn is_sound(bytes: &[u8; BOOK], areas: usize) -> bool {
     let (trips, opening, last) = (four(bytes, 0), four(bytes, 4), four(bytes, 8));
-    let (latest, most) = if trips == 0 { (0, 0) } else { (LAST_MINUTE, areas as u32) };
     let (riders, bicycles) = bytes[WINDOW..].split_at(RIDERS);
+    if trips == 0 {
+        return opening | last == 0 && bits_of(bicycles) == 0 && no_sum_is_there(riders.as_chunks().0);
+    }
+    let (bicycles, payments) = bicycles.split_at(BICYCLES);
     trips <= TRIPS_IN_A_WINDOW
-        && last <= latest
+        && last <= LAST_MINUTE
         && opening <= last
         && last - opening <= MINUTES_IN_A_DAY
+        && none_is_above(bicycles, areas as u32)
+        && none_is_above(payments, MOST_PAYMENTS)
         && sums_are_sound(riders.as_chunks().0, trips * LARGEST_PRICE)
-        && bicycles.as_chunks().0.iter().all(|&bicycle| u32::from_le_bytes(bicycle) <= most)
 }
 
-/// Half of a rider's sums.
-type Half = [u8; RIDER / 2];
+/// A few riders, of which the compiler writes out one row of wide steps.
+const RIDERS_AT_ONCE: usize = RIDERS / 7;
 
-/// Whether second class ≤ all classes ≤ limit in each pair. Most sums are 0, and then that is all.
-#[inline(always)]
-fn sums_are_sound(mut halves: &[Half], limit: Cents) -> bool {
-    while let Some((half, further)) = halves.split_first() {
-        let bits = half.as_chunks().0.iter().fold(0, |bits, &pair| bits | u64::from_le_bytes(pair));
-        if bits != 0 && !first_is_sound(halves, bits, limit) {
-            return false;
-        }
-        halves = further;
-    }
-    true
-}
-
-/// `bits` are those of all pairs of the first half together: of second class in the lower four bytes, of all classes in
-/// the upper. They are seldom above the limit, so that the single sums need not be compared with it. All sums are below
-/// 2^31, so that a difference below 0 has its top bit set.
 #[inline(never)]
-fn first_is_sound(halves: &[Half], bits: u64, limit: Cents) -> bool {
-    let pairs = halves[0].as_chunks::<8>().0.iter();
-    let differences = pairs.fold(0, |bits, pair| bits | four(pair, 4).wrapping_sub(four(pair, 0)));
-    differences >> 31 == 0
-        && bits & (1 << 63 | 1 << 31) == 0
-        && (bits >> 32 <= limit.into() || none_is_above(halves, limit))
+fn no_sum_is_there(riders: &[[u8; RIDERS_AT_ONCE]]) -> bool {
+    riders.iter().fold(0, |bits, riders| bits | bits_of(riders)) == 0
 }
+
+#[inline(always)]
+fn bits_of(bytes: &[u8]) -> u64 {
+    bytes.as_chunks().0.iter().fold(0, |bits, &word| bits | u64::from_le_bytes(word))
+}
+
+#[inline(always)]
+fn none_is_above(words: &[u8], most: u32) -> bool {
+    !words.as_chunks().0.iter().fold(false, |above, &word| above | (u32::from_le_bytes(word) > most))
+}
+
+/// Whether second class ≤ all classes ≤ limit in each pair. The bits of all sums together are seldom above the limit, so
+/// that the single ones need not be compared with it. The pairs are looked at in four rows side by side.
+#[inline(never)]
+fn sums_are_sound(pairs: &[Pair], limit: Cents) -> bool {
+    let rows: &[[Pair; PAIRS / 4]] = pairs.as_chunks().0;
+    let (mut above, mut bits) = (0, 0);
+    for place in 0..PAIRS / 4 {
+        for row in &rows[..4] {
+            let (second_class, all_classes) = (four(&row[place], 0), four(&row[place], 4));
+            above |= bits_if_above(second_class, all_classes);
+            bits |= all_classes;
+        }
+    }
+    above & ABOVE == 0 && (bits <= limit || no_sum_is_above(pairs, limit))
+}
+
+/// Some of [`ABOVE`] are set where the second number is below the first, and then only; all classes are below 2^31, which
+/// is found out as well.
+#[inline(always)]
+fn bits_if_above(second_class: Cents, all_classes: Cents) -> u32 {
+    if FOR_X86_64 {
+        all_classes.wrapping_sub(second_class) | second_class
+    } else {
+        second_class.saturating_sub(all_classes)
+    }
+}
+
+const ABOVE: u32 = if FOR_X86_64 { 1 << 31 } else { u32::MAX };
 
 #[cold]
 #[inline(never)]
-fn none_is_above(halves: &[Half], limit: Cents) -> bool {
-    halves[0].as_chunks::<8>().0.iter().all(|pair| four(pair, 4) <= limit)
+fn no_sum_is_above(pairs: &[Pair], limit: Cents) -> bool {
+    pairs.iter().all(|pair| four(pair, 4) <= limit)
 }

@@ -3,24 +3,22 @@
 use super::book::{Book, Rider};
 use super::fare::{raised_for_first_class, reduced_for_children, Ride};
 use super::numbers::two;
-use super::tariff::{bicycle_flat, Area, Tariff, MOST_AREAS, NO_DAY_CAP};
+use super::record::{BICYCLE, PERSON};
+use super::tariff::{bicycle_flat, is_aachen, Area, Tariff, MOST_AREAS, NO_DAY_CAP};
 use super::trip::Trip;
 use super::Cents;
 
-/// A charge as the record has it.
-pub type Slot = [u8; 4];
-
-/// Charges everyone and everything on the trip for a part of it, and posts the charges. The slots take them in the record's order:
-/// account holder, adults, children, bicycles. The answer is their total.
+/// Charges everyone and everything on the trip for a part of it, and posts the charges. The slots take them as the record has
+/// them: account holder, adults, children, bicycles. The answer is their total.
 #[inline(always)]
-pub fn charge_party(tariff: &Tariff, trip: &Trip, ride: &Ride, book: &mut Book, slots: &mut [Slot]) -> Cents {
-    let state = (0, &tariff.areas[0]);
+pub fn charge_party(tariff: &Tariff, trip: &Trip, ride: &Ride, book: &mut Book, slots: &mut [u8]) -> Cents {
+    let state = (0, tariff.area(0));
     match ride.record[4] {
         0 => charge_along([state], tariff, trip, ride, book, slots),
-        1 => charge_along([(ride.area, ride.record), state], tariff, trip, ride, book, slots),
+        1 => charge_along([state, (ride.area, ride.record)], tariff, trip, ride, book, slots),
         _ => {
             let region = usize::from(ride.record[5]);
-            let chain = [(ride.area, ride.record), (region, &tariff.areas[region]), state];
+            let chain = [state, (region, tariff.area(region)), (ride.area, ride.record)];
             charge_along(chain, tariff, trip, ride, book, slots)
         }
     }
@@ -34,37 +32,43 @@ fn charge_along<const N: usize>(
     trip: &Trip,
     ride: &Ride,
     book: &mut Book,
-    slots: &mut [Slot],
+    slots: &mut [u8],
 ) -> Cents {
     let fare = Fare { chain, price: ride.price, class: trip.class, child: false };
-    let (holder, slots) = slots.split_at_mut(1);
-    let total = fare.charge_one(&mut book.riders().0[0], &mut holder[0]);
-    if trip.adults + trip.children + trip.bicycles == 0 {
+    let (holder, slots) = slots.split_first_chunk_mut().expect("the account holder's slot");
+    let total = fare.charge_one(&mut book.riders().0[0], holder);
+    if trip.party == 0 {
         return total;
     }
-    let (riders, bicycles) = slots.split_at_mut(trip.adults + trip.children);
-    total + charge_carried(&fare, trip, ride, book, riders) + charge_bicycles(tariff, trip, ride, book, bicycles)
+    let (persons, bicycles) = slots.split_at_mut(PERSON * (trip.adults() + trip.children()));
+    total
+        + charge_carried(&fare, tariff, trip, ride, book, persons.as_chunks_mut().0)
+        + charge_bicycles(tariff, trip, ride, book, bicycles.as_chunks_mut().0)
 }
 
 /// Charges the adults and children carried.
 #[inline(never)]
 fn charge_carried<const N: usize>(
     fare: &Fare<N>,
+    tariff: &Tariff,
     trip: &Trip,
     ride: &Ride,
     book: &mut Book,
-    slots: &mut [Slot],
+    slots: &mut [[u8; PERSON]],
 ) -> Cents {
     let (adults, children) = book.riders();
-    let (adult_slots, child_slots) = slots.split_at_mut(trip.adults);
-    let price = reduced_for_children(ride.record, fare.price);
-    fare.charge_all(&mut adults[1..1 + trip.adults], adult_slots)
-        + Fare { price, child: true, ..*fare }.charge_all(&mut children[..trip.children], child_slots)
+    let (adult_slots, child_slots) = slots.split_at_mut(trip.adults());
+    let total = fare.charge_all(&mut adults[1..1 + trip.adults()], adult_slots);
+    if trip.children() == 0 {
+        return total;
+    }
+    let fare = Fare { price: ride.child_price(tariff, trip), child: true, ..*fare };
+    total + fare.charge_all(&mut children[..trip.children()], child_slots)
 }
 
 /// What riders of one sort, adults or children, are charged by.
 struct Fare<'a, const N: usize> {
-    /// The trip's area and every area above it, each with its number.
+    /// The trip's area and every area above it, each with its number; the widest first.
     chain: [(usize, &'a Area); N],
     price: Cents,
     /// 1 or 2.
@@ -72,29 +76,54 @@ struct Fare<'a, const N: usize> {
     child: bool,
 }
 
+/// A charge, and what the record says of it: charge and reduction, and the cap that is named, its area and class.
+#[derive(Clone, Copy)]
+struct Charge {
+    cents: Cents,
+    amounts: u64,
+    cap: u16,
+}
+
+/// No area, no class.
+const NO_CAP: u16 = 255;
+
+const SECOND_CLASS: u16 = 2 << 8;
+const ALL_CLASSES: u16 = 1 << 8;
+
+impl Charge {
+    #[inline(always)]
+    fn write(&self, slot: &mut [u8; PERSON]) {
+        slot[..8].copy_from_slice(&self.amounts.to_le_bytes());
+        slot[8..].copy_from_slice(&self.cap.to_le_bytes());
+    }
+}
+
 impl<const N: usize> Fare<'_, N> {
     #[inline(always)]
-    fn charge_one(&self, rider: &mut Rider, slot: &mut Slot) -> Cents {
-        let (charge, after) = self.charged(&self.sums_of(rider));
-        self.set_sums(rider, &after);
-        *slot = charge.to_le_bytes();
-        charge
+    fn charge_one(&self, rider: &mut Rider, slot: &mut [u8; PERSON]) -> Cents {
+        let sums = self.sums_of(rider);
+        let charge = self.charge_on(&sums);
+        self.set_sums(rider, &self.with(charge, &sums));
+        charge.write(slot);
+        charge.cents
     }
 
     /// Those who have travelled together have the same sums: a charge is worked out only where they differ from those
     /// of the rider before.
     #[inline(always)]
-    fn charge_all(&self, riders: &mut [Rider], slots: &mut [Slot]) -> Cents {
-        let (mut before, mut after, mut charge, mut total) = ([u64::MAX; N], [0; N], 0, 0);
+    fn charge_all(&self, riders: &mut [Rider], slots: &mut [[u8; PERSON]]) -> Cents {
+        let (mut before, mut after, mut total) = ([u64::MAX; N], [0; N], 0);
+        let mut charge = Charge { cents: 0, amounts: 0, cap: 0 };
         for (rider, slot) in riders.iter_mut().zip(slots) {
             let sums = self.sums_of(rider);
-            if sums.iter().zip(&before).any(|(sums, before)| sums != before) {
+            if sums.iter().zip(&before).fold(0, |bits, (sums, before)| bits | (sums ^ before)) != 0 {
                 before = sums;
-                (charge, after) = self.charged(&sums);
+                charge = self.charge_on(&sums);
+                after = self.with(charge, &sums);
             }
             self.set_sums(rider, &after);
-            *slot = charge.to_le_bytes();
-            total += charge;
+            charge.write(slot);
+            total += charge.cents;
         }
         total
     }
@@ -102,11 +131,7 @@ impl<const N: usize> Fare<'_, N> {
     /// The rider's sums along the chain. A pair is one number, with the sum of all classes in its upper half.
     #[inline(always)]
     fn sums_of(&self, rider: &Rider) -> [u64; N] {
-        let mut sums = [0; N];
-        for (sums, &(area, _)) in sums.iter_mut().zip(&self.chain) {
-            *sums = u64::from_le_bytes(rider[area % MOST_AREAS]);
-        }
-        sums
+        self.chain.map(|(area, _)| u64::from_le_bytes(rider[area % MOST_AREAS]))
     }
 
     #[inline(always)]
@@ -116,36 +141,35 @@ impl<const N: usize> Fare<'_, N> {
         }
     }
 
-    /// The charge, and the sums with it: in class 2 it is added to both of a pair, in class 1 to the upper.
+    /// The sums with the charge: in class 2 it is added to both of a pair, in class 1 to the upper.
     #[inline(always)]
-    fn charged(&self, sums: &[u64; N]) -> (Cents, [u64; N]) {
-        let charge = self.charge_on(sums);
-        let mut after = *sums;
-        for sums in &mut after {
-            *sums += u64::from(charge) * (1 << 32 | (self.class - 1));
-        }
-        (charge, after)
+    fn with(&self, charge: Charge, sums: &[u64; N]) -> [u64; N] {
+        sums.map(|sums| sums + u64::from(charge.cents) * (1 << 32 | (self.class - 1)))
     }
 
-    /// The smallest of the price and what each cap has left, and 0 at least. An area's all-classes cap is not below its
-    /// second-class cap, nor its all-classes sum below its second-class sum: where the lower cap has enough left above
-    /// the larger sum, neither cap is short.
+    /// The smallest of the price and what each cap has left, and 0 at least; named is the first cap that has the least left,
+    /// where that is below the price. An area's all-classes cap is not below its second-class cap, nor its all-classes sum
+    /// below its second-class sum: where the lower cap has enough left above the larger sum, neither cap is short.
     #[inline(always)]
-    fn charge_on(&self, sums: &[u64; N]) -> Cents {
-        let mut charge = self.price as i32;
-        for (&(_, area), &sums) in self.chain.iter().zip(sums) {
+    fn charge_on(&self, sums: &[u64; N]) -> Charge {
+        let (mut cents, mut cap) = (self.price as i32, NO_CAP);
+        for (&(number, area), &sums) in self.chain.iter().zip(sums) {
             let (second_class, all_classes) = (sums as i32, (sums >> 32) as i32);
             let day_cap = two(area, 25);
-            let cap = self.reduced(area, day_cap);
-            if charge > cap - all_classes && day_cap != NO_DAY_CAP {
-                let raised = self.reduced(area, raised_for_first_class(area, day_cap));
-                charge = charge.min(raised - all_classes);
-                if self.class == 2 {
-                    charge = charge.min(cap - second_class);
+            let second_class_cap = self.reduced(area, day_cap);
+            if cents > second_class_cap - all_classes && day_cap != NO_DAY_CAP {
+                let left = (second_class_cap - second_class).max(0);
+                if self.class == 2 && left < cents {
+                    (cents, cap) = (left, number as u16 | SECOND_CLASS);
+                }
+                let left = (self.reduced(area, raised_for_first_class(area, day_cap)) - all_classes).max(0);
+                if left < cents {
+                    (cents, cap) = (left, number as u16 | ALL_CLASSES);
                 }
             }
         }
-        charge.max(0) as Cents
+        let cents = cents as Cents;
+        Charge { cents, amounts: u64::from(cents) | u64::from(self.price - cents) << 32, cap }
     }
 
     #[inline(always)]
@@ -155,24 +179,41 @@ impl<const N: usize> Fare<'_, N> {
     }
 }
 
-/// A bicycle's new covering area is the smallest containing the trip's and its old one; it is charged the difference of
-/// their flats.
+/// A bicycle's new covering area is the smallest containing the trip's and its old one. Where that is of kind 1, it is charged
+/// the difference of their flats; where it is of kind 8, a price per trip up to a cap. Bicycles of which the book says the
+/// same are charged alike.
 #[inline(never)]
-fn charge_bicycles(tariff: &Tariff, trip: &Trip, ride: &Ride, book: &mut Book, slots: &mut [Slot]) -> Cents {
-    let mut total = 0;
-    for (bicycle, slot) in book.bicycles()[..trip.bicycles].iter_mut().zip(slots) {
-        let old = u32::from_le_bytes(*bicycle) as usize;
-        let (covering, charge) = if old == 0 {
-            (ride.area, bicycle_flat(ride.record))
-        } else if old == 1 + ride.area {
-            (ride.area, 0)
-        } else {
-            let covering = tariff.smallest_containing(1 << ride.area | 1 << (old - 1));
-            (covering, bicycle_flat(&tariff.areas[covering]) - bicycle_flat(&tariff.areas[old - 1]))
-        };
-        *bicycle = (1 + covering as u32).to_le_bytes();
-        *slot = charge.to_le_bytes();
-        total += charge;
+fn charge_bicycles(tariff: &Tariff, trip: &Trip, ride: &Ride, book: &mut Book, slots: &mut [[u8; BICYCLE]]) -> Cents {
+    let (bicycles, payments) = book.bicycles();
+    let (mut before, mut after, mut total) = ((u32::MAX, 0), (0, 0, 0), 0);
+    for ((bicycle, payments), slot) in bicycles[..trip.bicycles()].iter_mut().zip(payments).zip(slots) {
+        let found = (u32::from_le_bytes(*bicycle), u32::from_le_bytes(*payments));
+        if found != before {
+            before = found;
+            after = charge_bicycle(tariff, ride, found);
+        }
+        *bicycle = after.0.to_le_bytes();
+        *payments = after.1.to_le_bytes();
+        *slot = after.2.to_le_bytes();
+        total += after.2;
     }
     total
+}
+
+/// The bicycle's new word, its new payments and its charge.
+#[inline(always)]
+fn charge_bicycle(tariff: &Tariff, ride: &Ride, (word, payments): (u32, Cents)) -> (u32, Cents, Cents) {
+    let old = word.checked_sub(1).map(|old| old as usize);
+    let covering = match old {
+        Some(old) if old != ride.area => tariff.smallest_containing(1 << (ride.area % 32) | 1 << (old % 32)),
+        _ => ride.area,
+    };
+    let area = tariff.area(covering);
+    if is_aachen(area) {
+        let left = bicycle_flat(area).saturating_sub(payments);
+        let charge = two(tariff.aachen_area(covering), 39).min(left);
+        return (1 + covering as u32, payments + charge, charge);
+    }
+    let old_flat = old.map(|old| tariff.area(old)).filter(|old| !is_aachen(old)).map_or(0, bicycle_flat);
+    (1 + covering as u32, payments, bicycle_flat(area) - old_flat)
 }

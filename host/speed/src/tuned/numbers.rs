@@ -1,5 +1,9 @@
 //! Little-endian numbers, and the ranges of several at once.
 
+/// Whether it is compiled for x86-64, which has half as many wide registers as Arm, and no wide comparison of numbers without
+/// sign.
+pub const FOR_X86_64: bool = cfg!(any(target_arch = "x86_64", for_x86_64));
+
 /// The number of two bytes at a fixed place.
 #[inline(always)]
 pub fn two<const N: usize>(bytes: &[u8; N], at: usize) -> u32 {
@@ -58,7 +62,18 @@ impl Ranges {
     /// set, since those below it neither borrow nor carry.
     #[inline(always)]
     pub fn above_least(&self, fields: u64) -> Option<u64> {
+        (self.strays(fields) & self.tops == 0).then_some(fields.wrapping_sub(self.least))
+    }
+
+    /// Bits among which a top bit is set where a field is out of its range. Those of several such numbers may be taken
+    /// together before the top bits are looked at.
+    #[inline(always)]
+    pub fn strays(&self, fields: u64) -> u64 {
         let above = fields.wrapping_sub(self.least);
-        ((above | above.wrapping_add(self.room)) & self.tops == 0).then_some(above)
+        above | above.wrapping_add(self.room)
+    }
+
+    pub const fn tops(&self) -> u64 {
+        self.tops
     }
 }

@@ -23,11 +23,13 @@ pub struct Part {
     pub area: usize,
     /// dx² + dy² from its first stop to its last.
     pub square: i64,
+    /// 0 until the stamps are read; of a second part 0.
     pub minutes: Minutes,
 }
 
 /// The parts of a trip.
 pub struct Parts {
+    /// The first one, or the only one, has the trip's duration.
     pub first: Part,
     /// Where the trip is broken.
     pub second: Option<Part>,
@@ -38,6 +40,12 @@ impl Parts {
     #[inline(always)]
     pub fn many(&self) -> usize {
         1 + usize::from(self.second.is_some())
+    }
+
+    /// Whether the area of one of them is a marked town. Few trips are in first class: it stands out of the way.
+    #[inline(never)]
+    pub fn lie_in_a_marked_town(&self, tariff: &Tariff) -> bool {
+        tariff.is_marked_town(self.first.area) || self.second.is_some_and(|part| tariff.is_marked_town(part.area))
     }
 }
 
@@ -64,16 +72,16 @@ impl<'a> Way<'a> {
         Some(way)
     }
 
-    /// The parts of a trip on this way. The first one, or the only one, has the trip's duration.
+    /// The parts of a trip on this way.
     #[inline(always)]
-    pub fn parts(&self, tariff: &Tariff, minutes: Minutes) -> Parts {
+    pub fn parts(&self, tariff: &Tariff) -> Parts {
         let area = tariff.smallest_containing(self.out | self.back);
         let square = square(self.first, self.last);
         // No factor is below 1: most trips are not broken whatever it is. Both are 0 where a change has led nowhere.
         if (self.square > square || self.square | square == 0) && self.is_broken(tariff, area, square) {
-            return self.broken(tariff, minutes);
+            return self.broken(tariff);
         }
-        Parts { first: Part { area, square, minutes }, second: None }
+        Parts { first: Part { area, square, minutes: 0 }, second: None }
     }
 
     /// Whether a trip of this area is broken at its farthest change, of which it has one; `square` is from its first
@@ -81,19 +89,20 @@ impl<'a> Way<'a> {
     #[inline(always)]
     fn is_broken(&self, tariff: &Tariff, area: usize, square: i64) -> bool {
         let (factor, is_marked) = tariff.factor_for(area);
-        let is_kept = is_marked && tariff.areas[area][4] == CITY;
+        let is_kept = is_marked && tariff.area(area)[4] == CITY;
         !is_kept && (square == 0 || self.square > factor * factor * square)
     }
 
     #[inline(always)]
-    fn broken(&self, tariff: &Tariff, minutes: Minutes) -> Parts {
-        let first = Part { area: tariff.smallest_containing(self.out), square: self.square, minutes };
+    fn broken(&self, tariff: &Tariff) -> Parts {
+        let first = Part { area: tariff.smallest_containing(self.out), square: self.square, minutes: 0 };
         let square = square(self.change, self.last);
         let second = Part { area: tariff.smallest_containing(self.back), square, minutes: 0 };
         Parts { first, second: Some(second) }
     }
 }
 
+#[inline(always)]
 fn area_bit(stop: &Stop) -> u32 {
     1 << (stop[4] % 32)
 }

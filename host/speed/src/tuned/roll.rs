@@ -2,12 +2,12 @@
 //! broken.
 
 use super::book::{Book, BOOK};
-use super::charge::{charge_party, Slot};
+use super::charge::charge_party;
 use super::fare::Ride;
 use super::lines::{Charged, Lines, Tally};
 use super::numbers::two;
 use super::parts::{Part, Parts};
-use super::tariff::Tariff;
+use super::tariff::{Tariff, MOST_AREAS};
 use super::trip::Trip;
 use super::{Minutes, Refusal};
 use std::io::{self, ErrorKind, Read, Write};
@@ -15,14 +15,15 @@ use std::io::{self, ErrorKind, Read, Write};
 const MOST_RECORDS: u32 = 65_535;
 /// The longest record has 1,026 bytes.
 const BUFFER: usize = 8_192;
-/// The account holder, ten adults, ten children and ten bicycles.
-const LARGEST_PARTY: usize = 31;
+/// The slots of the account holder, ten adults, ten children and ten bicycles.
+const SLOTS: usize = 21 * 10 + 10 * 4;
 
 /// Settles the roll under the tariff and prints what the program prints; of a roll that cannot be read to its end the
 /// lines so far, and no tail.
 pub fn settle_roll(tariff: &[u8], roll: impl Read, out: impl Write) -> io::Result<()> {
     let mut lines = Lines::to(out);
-    let read = match Tariff::read(tariff) {
+    let mut places = [0; MOST_AREAS];
+    let read = match Tariff::read(tariff, &mut places) {
         Err(fault) => lines.put_fault(fault),
         Ok(tariff) => settle_records(&tariff, roll, &mut lines),
     };
@@ -33,7 +34,7 @@ pub fn settle_roll(tariff: &[u8], roll: impl Read, out: impl Write) -> io::Resul
 fn settle_records(tariff: &Tariff, mut roll: impl Read, lines: &mut Lines<impl Write>) -> io::Result<()> {
     lines.put_header()?;
     let mut book = [0; BOOK];
-    let mut run = Run { tariff, book: Book::fresh(&mut book), slots: [[0; 4]; LARGEST_PARTY], tally: Tally::default() };
+    let mut run = Run { tariff, book: Book::fresh(&mut book), slots: [0; SLOTS], tally: Tally::default() };
     let mut buffer = [0; BUFFER];
     let mut kept = 0;
     loop {
@@ -66,7 +67,7 @@ struct Run<'a> {
     tariff: &'a Tariff<'a>,
     /// Sound from its start on, since settling leaves it sound.
     book: Book<'a>,
-    slots: [Slot; LARGEST_PARTY],
+    slots: [u8; SLOTS],
     tally: Tally,
 }
 

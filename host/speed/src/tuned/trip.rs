@@ -1,4 +1,4 @@
-//! The trip record. Refusals 5 to 9.
+//! The trip record. Refusals 5 to 9, and 17.
 
 use super::calendar::{minutes_of, MINUTES_IN_A_DAY};
 use super::numbers::{eight, four, Ranges, ANY_TWO_BYTES};
@@ -9,6 +9,8 @@ use super::{Minutes, Refusal};
 /// The bytes before the stops.
 const HEAD: usize = 24;
 const KIND: u32 = 7;
+/// From so many minutes on a trip may stay at one stop.
+const NO_MISTAP: Minutes = 3;
 
 /// Class, ticket level, adults, children, bicycles and number of stops, above two bytes of the check-out.
 const COUNTS: Ranges =
@@ -21,13 +23,12 @@ pub struct Trip {
     pub class: u64,
     /// 0 none, 1 = K to 5 = D.
     pub ticket_level: usize,
-    pub adults: usize,
-    pub children: usize,
-    pub bicycles: usize,
+    /// Adults, children and bicycles carried, a byte each, from the lowest on.
+    pub party: u32,
 }
 
 impl Trip {
-    /// The trip and its parts, or the first of the refusals 5 to 9.
+    /// The trip and its parts, or the first of the refusals 5 to 9 and 17.
     #[inline(always)]
     pub fn read(bytes: &[u8], tariff: &Tariff) -> Result<(Trip, Parts), Refusal> {
         let Some((head, stops)) = bytes.split_first_chunk::<HEAD>() else {
@@ -37,32 +38,58 @@ impl Trip {
         if stops.len() != 2 * n as usize || four(head, 0) != KIND << 16 | (22 + 2 * n) {
             return Err(Refusal::new(5));
         }
-        if COUNTS.above_least(eight(head, 16)).is_none() {
+        let counts = eight(head, 16);
+        if COUNTS.above_least(counts).is_none() {
             return Err(Refusal::new(6));
         }
-        let Some(way) = Way::through(stops.as_chunks().0, tariff.stops) else {
+        let numbers = stops.as_chunks().0;
+        let Some(way) = Way::through(numbers, tariff.stops) else {
             return Err(Refusal::new(7));
         };
+        let class = counts >> 16 & 0xff;
+        let mut parts = way.parts(tariff);
+        if class == 1 && parts.lie_in_a_marked_town(tariff) {
+            return Err(Refusal::new(6));
+        }
         let Some((check_in, check_out)) = minutes_of(eight(head, 4), eight(head, 11)) else {
             return Err(Refusal::new(8));
         };
-        if check_out.wrapping_sub(check_in) > MINUTES_IN_A_DAY {
+        parts.first.minutes = check_out.wrapping_sub(check_in);
+        if parts.first.minutes > MINUTES_IN_A_DAY {
             return Err(Refusal::new(9));
+        }
+        if parts.first.minutes < NO_MISTAP && are_one(numbers) {
+            return Err(Refusal::new(17));
         }
         let trip = Trip {
             check_in,
             check_out,
-            class: head[18].into(),
+            class,
             ticket_level: head[19].into(),
-            adults: head[20].into(),
-            children: head[21].into(),
-            bicycles: head[22].into(),
+            party: (counts >> 32) as u32 & 0xff_ffff,
         };
-        Ok((trip, way.parts(tariff, check_out - check_in)))
+        Ok((trip, parts))
     }
 
-    /// The account holder and all that are carried.
-    pub fn party(&self) -> usize {
-        1 + self.adults + self.children + self.bicycles
+    #[inline(always)]
+    pub fn adults(&self) -> usize {
+        self.party as usize & 0xff
     }
+
+    #[inline(always)]
+    pub fn children(&self) -> usize {
+        self.party as usize >> 8 & 0xff
+    }
+
+    #[inline(always)]
+    pub fn bicycles(&self) -> usize {
+        self.party as usize >> 16
+    }
+}
+
+/// Whether these are all the same number. There are two at least.
+#[cold]
+#[inline(never)]
+fn are_one(numbers: &[[u8; 2]]) -> bool {
+    numbers.windows(2).all(|two| two[0] == two[1])
 }
