@@ -63,7 +63,7 @@ use Rattle.book.specs.Contracts.{
 }
 use Rattle.book.proofs.WordLaws.{word-fresh, size-put, put-same}
 use Rattle.book.proofs.SoundLaws.{PairSound, SoundBook, sound-has}
-use Rattle.book.proofs.Trees.{is-tree, lies-within, caps-in-order}
+use Rattle.book.proofs.Trees.{is-tree, lies-within}
 use Rattle.book.proofs.SumLaws.{sumOf, counted, sum-by-words}
 use Rattle.book.proofs.Groups.{groupOf}
 use Rattle.book.proofs.ChargeLaws.{
@@ -309,8 +309,6 @@ module _ {tariff : List ℕ} {counts : Counts} {book : List ℕ} {current : Bool
       (lacking-by tariff counts book current ride paid (riders .first + i) (c .carried i h) earlier (c .ridden .before) (c .paid-before .amounts) area) in
       record {
         place = small;
-        order = caps-in-order (areaAt tariff counts area) child;
-        sums = most .0;
         second = omega (arith, most .0, most .1, lack);
         all = omega (arith, most .1, lack);
       }

@@ -15,10 +15,10 @@ use Rattle.book.specs.Sound.{pairsSound}
 use Rattle.book.proofs.SoundLaws.{pairRight}
 
 -- numbers with their bits put together are at least each of them
-or-first : (a b : ℕ) → a ≤ bitOr a b
+pub or-first : (a b : ℕ) → a ≤ bitOr a b
 or-first a b = omega (arith, or-add-and a b, and-le-r a b)
 
-or-second : (a b : ℕ) → b ≤ bitOr a b
+pub or-second : (a b : ℕ) → b ≤ bitOr a b
 or-second a b = omega (arith, or-add-and a b, and-le-l a b)
 
 -- a pair whose second-class sum and gap are at most these

@@ -17,5 +17,6 @@ pub mod Paying
 pub mod BookWords
 pub mod EarlierLaws
 pub mod CutLaws
-pub mod ClearLaws
 pub mod GapLaws
+pub mod ZeroLaws
+pub mod AlikeLaws

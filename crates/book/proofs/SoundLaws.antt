@@ -10,7 +10,6 @@ use mathlib.Core.List.{List}
 use borrow.Author.Tests.{le-leb, eq-eqb, ne-eqb, leb-true, eqb-true}
 use lib.ListN.{length}
 use lib.Dec.{leb, eqb}
-use lib.Bits.{bitOr, or-zero-l, or-add-and, and-le-r}
 use Rattle.units.specs.Day.{dayMinutes}
 use Rattle.wire.specs.Each.{each}
 use Rattle.wire.proofs.Each.{each-more, each-at, each-all}
@@ -64,15 +63,6 @@ one-more n test before here e h = rw (e, h, each-more)
 
 pub all-done : (n i : ℕ) (test : ℕ → Bool) (found : Bool) → i ≤ n → n ≤ i → found ≡ each i test → found ≡ each n test
 all-done n i test found most least e = e ∙ ap (λ (k : ℕ). each k test) (le-antisymm most least)
-
--- two numbers together have no bit set where neither has one
-pub or-zero : (a b : ℕ) → eqb (bitOr a b) 0 ≡ eqb a 0 && eqb b 0
-or-zero a b =
-    elim (ℕ-discrete a 0) [
-      | yes none ↦ rw (none, or-zero-l b)
-      | no some ↦
-          rw (ne-eqb a 0 some, ne-eqb (bitOr a b) 0 (λ none. some (omega (arith, or-add-and a b, and-le-r a b))))
-    ]
 
 -- the tests at one word, at one pair, and at one bicycle's covering area and payments
 abbrev pub zeroRight : List ℕ → ℕ → Bool
@@ -136,9 +126,13 @@ pub payments-back : (b : List ℕ) → ((k : ℕ) → k < 10 → paidWord b k �
 unfolding paymentsSound
 payments-back b right = each-all 10 (paidRight b) (λ k h. le-leb _ _ (right k h))
 
-zeros-have : (b : List ℕ) → allZero b ≡ true → (i : ℕ) → i < bookWords → word b i ≡ 0
+pub zeros-have : (b : List ℕ) → allZero b ≡ true → (i : ℕ) → i < bookWords → word b i ≡ 0
 unfolding allZero
 zeros-have b e i h = eqb-true _ _ (each-at bookWords (zeroRight b) e i h)
+
+pub zeros-back : (b : List ℕ) → ((i : ℕ) → i < bookWords → word b i ≡ 0) → allZero b ≡ true
+unfolding allZero
+zeros-back b zero = each-all bookWords (zeroRight b) (λ i h. eq-eqb (word b i) 0 (zero i h))
 
 -- What a book's words, as read one after another, leave open: a book of another length; an unused one; one in use, by its head.
 pub told-unsized : (b : List ℕ) (areas : ℕ) → (length b ≡ bookSize → ⊥) → sound b areas ≡ false
@@ -240,7 +234,4 @@ sound-back b areas size head pairs covers payments =
 
 -- A fresh book is sound under every tariff.
 pub fresh-sound : (areas : ℕ) → sound freshBook areas ≡ true
-unfolding allZero
-fresh-sound areas =
-    told-unused freshBook areas fresh-size (word-fresh 0)
-    ∙ each-all bookWords (zeroRight freshBook) (λ i h. eq-eqb (word freshBook i) 0 (word-fresh i))
+fresh-sound areas = told-unused freshBook areas fresh-size (word-fresh 0) ∙ zeros-back freshBook (λ i h. word-fresh i)

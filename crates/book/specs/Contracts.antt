@@ -8,7 +8,6 @@ use lib.Seq.{sets}
 use lib.Dec.{eqb}
 use Rattle.units.specs.Day.{dayMinutes}
 use Rattle.caps.specs.declared.Rest.{Rest}
-use Rattle.caps.specs.Limits.{CapOrder}
 use Rattle.caps.specs.Contracts.{restHere, uncappedAt, nameOf as finalName}
 use Rattle.tariff.specs.declared.Counts.{Counts}
 use Rattle.tariff.specs.Rules.{mostMoney, levelOf, flatOf}
@@ -23,6 +22,8 @@ use Rattle.book.specs.declared.Earlier.the-variants.{Nothing, Part}
 use Rattle.book.specs.declared.Cut.{Cut}
 use Rattle.book.specs.declared.limits.Link.{Link}
 use Rattle.book.specs.declared.limits.Chain.{Chain}
+use Rattle.book.specs.declared.charging.Found.{Found}
+use Rattle.book.specs.declared.posting.Covered.{Covered}
 use Rattle.book.specs.declared.posting.Way.{Way}
 use Rattle.book.specs.declared.terms.Terms.{Terms}
 use Rattle.book.specs.Words.{bookSize, freshBook, word, tripsOf, secondSum, allSum, coverWord, paidWord}
@@ -37,6 +38,11 @@ use Rattle.book.specs.Posting.{addHere, addList, paidWith}
 pub record Word (book : List ℕ) (place r : ℕ) : Type 0 where
   pub value : r ≡ word book place
   pub range : r < 2 ^ 32
+
+-- the words from one place to another with their bits put together: none is set exactly where all of them are 0
+pub record BitsOf (book : List ℕ) (from to bits : ℕ) : Type 0 where
+  pub none : bits ≡ 0 → (k : ℕ) → from ≤ k → k < to → word book k ≡ 0
+  pub clear : ((k : ℕ) → from ≤ k → k < to → word book k ≡ 0) → bits ≡ 0
 
 -- a fast way over the pairs says only where all of them are sound
 pub record PairsClear (book : List ℕ) (most : ℕ) (r : Bool) : Type 0 where
@@ -126,12 +132,9 @@ pub record ChainOf (tariff : List ℕ) (counts : Counts) (area : ℕ) (child : B
 abbrev pub lackingAt : Link → ℕ → ℕ
 lackingAt link paid = cond (link .pending) paid 0
 
--- a rider's sums with what they lack fit their words, in an area of a chain and in all three; and neither a second-class sum nor a second-class
--- cap is larger than the all-classes one
+-- a rider's sums with what they lack fit their words, in an area of a chain and in all three
 pub record FitsAt (link : Link) (w : List ℕ) (rider paid : ℕ) : Type 0 where
   pub place : link .area < 32
-  pub order : CapOrder (link .caps .second) (link .caps .all)
-  pub sums : secondSum w rider (link .area) ≤ allSum w rider (link .area)
   pub second : secondSum w rider (link .area) + lackingAt link paid < 2 ^ 32
   pub all : allSum w rider (link .area) + lackingAt link paid < 2 ^ 32
 
@@ -259,6 +262,20 @@ pub record BicycleCharge (tariff : List ℕ) (counts : Counts) (area old paid r 
   pub value : r ≡ bicycleCharge tariff counts area old paid
   pub range : r ≤ mostMoney
 
+-- a bicycle's charge by its words before an earlier part
+abbrev pub chargeFound : List ℕ → Counts → Earlier → ℕ → ℕ → ℕ → ℕ
+chargeFound tariff counts earlier area old paid =
+    bicycleCharge tariff counts area (coverAfter tariff counts earlier old) (paidAfter tariff counts earlier old paid)
+
+-- what is held of the bicycle before: the charge is that of its words, if they are any bicycle's
+pub record FoundRight (tariff : List ℕ) (counts : Counts) (earlier : Earlier) (area : ℕ) (found : Found) : Type 0 where
+  pub right : found .cover ≤ counts .areas → found .amount .0 ≡ chargeFound tariff counts earlier area (found .cover) (found .paid)
+
+pub record FoundAs (tariff : List ℕ) (counts : Counts) (earlier : Earlier) (area old paid : ℕ) (found : Found) : Type 0 where
+  pub cover : found .cover ≡ old
+  pub payments : found .paid ≡ paid
+  pub charge : found .amount .0 ≡ chargeFound tariff counts earlier area old paid
+
 -- ---- Posting.
 
 -- a book without trips is a fresh one
@@ -340,6 +357,21 @@ pub record Covering (tariff : List ℕ) (counts : Counts) (book : List ℕ) (rid
   pub few : count ≤ 10
   pub covers : (i : ℕ) → i < count → coverWord book i ≤ counts .areas
   pub payments : (i : ℕ) → i < count → paidWord book i ≤ mostPaid
+
+-- a bicycle's covering area and payments after a ride, by its words before
+pub record Renewed (tariff : List ℕ) (counts : Counts) (area old before new paid : ℕ) : Type 0 where
+  pub cover : new ≡ newCover tariff counts area old
+  pub there : new < counts .areas
+  pub payments : paid ≡ paidWith tariff counts new before
+
+-- what is held of the bicycle before, if its words are any bicycle's
+pub record CoveredRight (tariff : List ℕ) (counts : Counts) (area : ℕ) (held : Covered) : Type 0 where
+  pub right : held .old ≤ counts .areas → Renewed tariff counts area (held .old) (held .before) (held .new) (held .paid)
+
+pub record CoveredAs (tariff : List ℕ) (counts : Counts) (area old before : ℕ) (held : Covered) : Type 0 where
+  pub found : held .old ≡ old
+  pub found-paid : held .before ≡ before
+  pub renewed : Renewed tariff counts area old before (held .new) (held .paid)
 
 -- what posting asks: a ride that the book has room for, in its window, with the charges that it comes to
 pub record Postable (tariff : List ℕ) (counts : Counts) (book : List ℕ) (window : Window) (ride : Ride) (amounts : List ℕ) : Type 0 where

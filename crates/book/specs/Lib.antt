@@ -6,5 +6,5 @@ pub mod Charging
 pub mod Cuts
 pub mod Posting
 pub mod Contracts
-pub mod Clear
 pub mod InWords
+pub mod Alike

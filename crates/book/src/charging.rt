@@ -5,8 +5,9 @@ use crate::Charge;
 use crate::Cut;
 use crate::Earlier;
 use crate::Riders;
-use crate::clear::quick_charge;
-use crate::clear::rooms_of;
+use crate::alike::Last;
+use crate::alike::NO_RIDER;
+use crate::alike::charge_alike;
 use crate::limits::Chain;
 use crate::limits::Link;
 use crate::limits::chain_of;
@@ -38,7 +39,7 @@ ghost use Rattle.book.specs.Sound.{mostPaid};
 ghost use Rattle.book.specs.Windows.{inWindow};
 ghost use Rattle.book.specs.Charging.{flatBefore};
 ghost use Rattle.book.specs.Posting.{wordsAfter};
-ghost use Rattle.book.specs.Contracts.{Word, lackingAt, FitsAt, FitsAlong, restAtLink, ChargeBy, cutBy, nameOf, Ridden, Paid, Chargeable, RidersCharged, withBicycles, AllCharged, AllCut, EarlierThere, CoverAfter, PaidAfter, NewCover, TermsOf, payBy, paidBy, BicycleCharge};
+ghost use Rattle.book.specs.Contracts.{Word, lackingAt, FitsAt, FitsAlong, restAtLink, ChargeBy, cutBy, nameOf, Ridden, Paid, Chargeable, RidersCharged, withBicycles, AllCharged, AllCut, EarlierThere, CoverAfter, PaidAfter, NewCover, TermsOf, payBy, paidBy, BicycleCharge, FoundRight, FoundAs};
 
 // A word of the book, which is 0 in a new window.
 pub fn get_in(book: &[u8], current: bool, place: usize) -> u32
@@ -150,19 +151,28 @@ fn charge_riders(
     let at = ride.area;
     let fare = price(area(tariff, counts, at), ride, child);
     let chain = chain_of(tariff, counts, at, child, earlier);
-    let rooms = rooms_of(chain, class, fare);
+    let mut last = Last {
+        next: NO_RIDER,
+        paid: 0,
+        rest: uncapped(fare),
+    };
     for i in 0..count {
         let before = paid[from + i];
-        let rest = quick_charge(
+        let rest = charge_alike(
             book,
             current,
             first + i,
             chain,
-            rooms,
             class,
             Cents(before),
             fare,
+            last,
         );
+        last = Last {
+            next: first + i + 1,
+            paid: before,
+            rest,
+        };
         let cut = cut_of(fare, rest);
         let amount = rest.amount;
         let reduction = cut.reduction;
@@ -280,6 +290,44 @@ fn paid_after(tariff: &[u8], counts: Counts, earlier: Earlier, old: usize, paid:
     }
 }
 
+// A bicycle's two words as they were found, and its charge. Bicycles that have travelled together have the same words, and are charged alike.
+pub struct Found {
+    pub cover: usize,
+    pub paid: u32,
+    pub amount: Cents,
+}
+
+// No bicycle's word is this: a tariff has at most 32 areas.
+pub const NEVER_FOUND: usize = 33;
+
+// A bicycle's charge by its words: that of the bicycle before it, where they are the same.
+fn charge_found(
+    tariff: &[u8],
+    counts: Counts,
+    earlier: Earlier,
+    own: Terms,
+    at: usize,
+    last: Found,
+    cover: usize,
+    paid: u32,
+) -> Found
+    requires { ⌜ Read (now tariff) counts × (TermsOf (now tariff) counts at own × ((at < counts .areas) × (EarlierThere counts earlier × ((cover ≤ counts .areas) × ((paid ≤ mostPaid) × FoundRight (now tariff) counts earlier at last))))) ⌝ }
+    ensures { λ r. ⌜ FoundAs (now (tariff .entry)) counts earlier at cover paid r ⌝ }
+{
+    if (cover == last.cover) & (paid == last.paid) {
+        return last;
+    }
+    let old = cover_after(tariff, counts, earlier, cover);
+    let before = paid_after(tariff, counts, earlier, cover, paid);
+    let one = charge_bicycle(tariff, counts, own, at, old, before);
+    let amount = one.amount;
+    Found {
+        cover,
+        paid,
+        amount,
+    }
+}
+
 // The charges of the party's bicycles, into its amounts from `from` on.
 fn charge_bicycles(
     tariff: &[u8],
@@ -301,13 +349,16 @@ fn charge_bicycles(
         return;
     }
     let own = terms_of(tariff, counts, at);
+    let mut last = Found {
+        cover: NEVER_FOUND,
+        paid: 0,
+        amount: Cents(0),
+    };
     for i in 0..count {
         let found = get_in(book, current, cover(i)) as usize;
         let before = get_in(book, current, payments(i));
-        let old = cover_after(tariff, counts, earlier, found);
-        let paid = paid_after(tariff, counts, earlier, found, before);
-        let one = charge_bicycle(tariff, counts, own, at, old, paid);
-        let amount = one.amount;
+        last = charge_found(tariff, counts, earlier, own, at, last, found, before);
+        let amount = last.amount;
         amounts[from + i] = amount.0;
     }
 }

@@ -2,19 +2,20 @@
 //
 // words.rt     where each word stands, once
 // sound.rt     whether a byte string is a sound book
+// zeros.rt     whether a book has any bit set
 // gaps.rt      a fast way to see that all pairs are sound
 // windows.rt   the window that a trip belongs to, and 10
 // limits.rt    an area's caps, and the areas whose caps a ride has
 // charging.rt  what each of a party is charged: only reads
-// clear.rt     a fast way for riders whom no cap is near
+// alike.rt     a fast way for riders who have travelled together
 // terms.rt     what an area asks of bicycles, read once for the ride's own
 // posting.rt   the window opened and the charges added: only writes
 use fare::Ride;
 use units::Cents;
 use units::Minutes;
 
+pub mod alike;
 pub mod charging;
-pub mod clear;
 pub mod gaps;
 pub mod limits;
 pub mod posting;
@@ -22,6 +23,7 @@ pub mod sound;
 pub mod terms;
 pub mod windows;
 pub mod words;
+pub mod zeros;
 
 // The window that a trip falls into: the one that the book has open, or the next, opened at the trip's check-in; and the trips that it has
 // before this one.

@@ -1,8 +1,10 @@
 // The window opened, the charges added to the sums, the bicycles' covering areas and payments: all that is ever written to a book.
 use crate::Riders;
 use crate::Window;
+use crate::charging::NEVER_FOUND;
 use crate::charging::new_cover;
 use crate::charging::paid_with;
+use crate::terms::Terms;
 use crate::terms::terms_by;
 use crate::terms::terms_of;
 use crate::words::FIRST_CHILD;
@@ -28,7 +30,8 @@ ghost use Rattle.tariff.specs.Areas.{Read};
 ghost use Rattle.book.specs.Words.{bookSize, freshBook};
 ghost use Rattle.book.specs.Windows.{inWindow};
 ghost use Rattle.book.specs.Posting.{addHere, coverBicycles, opened, posted};
-ghost use Rattle.book.specs.Contracts.{FreshOrUsed, AddingHere, WayOf, AddingUp, addAlong, Adding, addRiders, Covering, Postable};
+ghost use Rattle.book.specs.Sound.{mostPaid};
+ghost use Rattle.book.specs.Contracts.{TermsOf, FreshOrUsed, AddingHere, WayOf, AddingUp, addAlong, Adding, addRiders, CoveredRight, CoveredAs, Covering, Postable};
 
 // All sums and bicycles back to none.
 fn clear(book: &mut [u8])
@@ -136,6 +139,40 @@ fn add_riders(
     }
 }
 
+// A bicycle's two words as they were found, and its covering area and payments after the ride. As where they are charged, those of bicycles
+// with the same words are the same.
+pub struct Covered {
+    pub old: usize,
+    pub before: u32,
+    pub new: usize,
+    pub paid: u32,
+}
+
+fn cover_found(
+    tariff: &[u8],
+    counts: Counts,
+    own: Terms,
+    at: usize,
+    last: Covered,
+    old: usize,
+    before: u32,
+) -> Covered
+    requires { ⌜ Read (now tariff) counts × (TermsOf (now tariff) counts at own × ((at < counts .areas) × ((old ≤ counts .areas) × ((before ≤ mostPaid) × CoveredRight (now tariff) counts at last)))) ⌝ }
+    ensures { λ r. ⌜ CoveredAs (now (tariff .entry)) counts at old before r ⌝ }
+{
+    if (old == last.old) & (before == last.before) {
+        return last;
+    }
+    let new = new_cover(tariff, counts, at, old);
+    let paid = paid_with(terms_by(tariff, counts, own, at, new), before);
+    Covered {
+        old,
+        before,
+        new,
+        paid,
+    }
+}
+
 // The new covering areas of the first `count` bicycles, and their payments.
 fn cover_bicycles(tariff: &[u8], counts: Counts, book: &mut [u8], ride: Ride, count: usize)
     requires { ⌜ Covering (now tariff) counts (now book) ride count ⌝ }
@@ -146,15 +183,20 @@ fn cover_bicycles(tariff: &[u8], counts: Counts, book: &mut [u8], ride: Ride, co
     }
     let at = ride.area;
     let own = terms_of(tariff, counts, at);
+    let mut last = Covered {
+        old: NEVER_FOUND,
+        before: 0,
+        new: at,
+        paid: 0,
+    };
     for i in 0..count {
         let place = cover(i);
         let old = get(book, place) as usize;
         let paying = payments(i);
         let before = get(book, paying);
-        let new = new_cover(tariff, counts, at, old);
-        let paid = paid_with(terms_by(tariff, counts, own, at, new), before);
-        put(book, place, 1 + new as u32);
-        put(book, paying, paid);
+        last = cover_found(tariff, counts, own, at, last, old, before);
+        put(book, place, 1 + last.new as u32);
+        put(book, paying, last.paid);
     }
 }
 

@@ -6,11 +6,11 @@ use crate::words::OPENING;
 use crate::words::PAIRS;
 use crate::words::SIZE;
 use crate::words::TRIPS;
-use crate::words::WORDS;
 use crate::words::cover;
 use crate::words::get;
 use crate::words::pair_at;
 use crate::words::payments;
+use crate::zeros::bits_of_all;
 use calendar::Stamp;
 use fare::prices::MOST_PRICE;
 use units::DAY;
@@ -27,11 +27,7 @@ fn all_zero(book: &[u8]) -> bool
     requires { ⌜ length (now book) ≡ bookSize ⌝ }
     ensures { λ r. ⌜ r ≡ allZero (now (book .entry)) ⌝ }
 {
-    let mut bits: u32 = 0;
-    for i in 0..WORDS {
-        bits = bits | get(book, i);
-    }
-    bits == 0
+    bits_of_all(book) == 0
 }
 
 // All 21 × 32 pairs: each second-class sum at most its all-classes sum, and that at most `most`.

@@ -9,8 +9,6 @@ ghost use Rattle.book.specs.Contracts.{Word};
 
 pub const SIZE: usize = 5_468;
 
-pub const WORDS: usize = 1_367;
-
 pub const TRIPS: usize = 0;
 
 pub const OPENING: usize = 1;

@@ -23,6 +23,17 @@ years-grow : (a b : ℕ) → a ≤ b → daysOfYears a ≤ daysOfYears b
 unfolding daysOfYears
 years-grow = grows daysOfYears (λ k. le-add-right _ _)
 
+-- every month has 28 days
+pub month-least : (leapYear : Bool) (month : ℕ) → 28 ≤ monthDays leapYear month
+unfolding monthDays
+month-least l m = go l (eqb m 2) (eqb m 4 || (eqb m 6 || (eqb m 9 || eqb m 11)))
+  where
+    go : (l t u : Bool) → 28 ≤ cond t (cond l 29 28) (cond u 30 31)
+    go true true u = omega arith
+    go false true u = omega arith
+    go l false true = omega arith
+    go l false false = omega arith
+
 -- a date goes before the end of its month
 pub in-month : (year month day : ℕ) → Date year month day → daysOfMonths (leap year) (month - 1) + (day - 1) < daysOfMonths (leap year) month
 unfolding daysOfMonths

@@ -8,7 +8,8 @@ ghost use mathlib.Core.Path.{_≡_};
 ghost use mathlib.Core.Bool.{true, false};
 ghost use Prim.Native.Nat.{_≤_};
 ghost use Rattle.calendar.specs.Days.{leap, monthDays, DaysBefore, DayNumber};
-ghost use Rattle.calendar.specs.Contracts.{row, entryAt, fromZero};
+ghost use lib.Dec.{leb};
+ghost use Rattle.calendar.specs.Contracts.{row, entryAt, fromZero, midnightOf};
 ghost use Rattle.calendar.specs.Stamps.{isDate, isClock, isOffset, isStamp, stampOf, MinuteNumber};
 
 pub mod moments;
@@ -54,6 +55,16 @@ fn month_days(leap_year: bool, month: u8) -> u8
     }
 }
 
+// Whether a day is at most its month's last. Every month has 28 days: most days need not be looked up.
+fn in_month(year: u16, month: u8, day: u8) -> bool
+    ensures { λ r. ⌜ r ≡ leb day (monthDays (leap year) month) ⌝ }
+{
+    if day <= 28 {
+        return true;
+    }
+    day <= month_days(is_leap(year), month)
+}
+
 fn is_date(year: u16, month: u8, day: u8) -> bool
     ensures { λ r. ⌜ r ≡ isDate year month day ⌝ }
 {
@@ -62,7 +73,7 @@ fn is_date(year: u16, month: u8, day: u8) -> bool
         & (1 <= month)
         & (month <= 12)
         & (1 <= day)
-        & (day <= month_days(is_leap(year), month))
+        & in_month(year, month, day)
 }
 
 fn is_clock(hour: u8, minute: u8) -> bool
@@ -180,12 +191,48 @@ impl Stamp {
         }
     }
 
-    // The minutes from 2000-01-01 00:00 UTC to the stamp's moment.
+    // The stamp of another clock time and offset on the same date, which need not be looked at again.
+    pub fn on_date(self, hour: u8, minute: u8, offset: u8) -> Made
+        requires { ⌜ isStamp self ≡ true ⌝ }
+        ensures { λ r. ⌜ r ≡ stampOf (self .year) (self .month) (self .day) hour minute offset ⌝ }
+    {
+        let year = self.year;
+        let month = self.month;
+        let day = self.day;
+        if is_clock(hour, minute) & is_offset(offset) & from_zero(year, month, day, hour, offset) {
+            Made::Good(Stamp {
+                year,
+                month,
+                day,
+                hour,
+                minute,
+                offset,
+            })
+        } else {
+            Made::Refused
+        }
+    }
+
+    // The minutes from 2000-01-01 00:00 to the start of the stamp's date, both local.
+    pub fn midnight(self) -> u32
+        requires { ⌜ isStamp self ≡ true ⌝ }
+        ensures { λ r. ⌜ r ≡ midnightOf self ⌝ }
+    {
+        DAY * day_number(self.year, self.month, self.day)
+    }
+
+    // The minutes from 2000-01-01 00:00 UTC to the stamp's moment, from those to the start of its date.
+    pub fn minutes_from(self, midnight: u32) -> Minutes
+        requires { ⌜ (isStamp self ≡ true) × (midnight ≡ midnightOf self) ⌝ }
+        ensures { λ r. ⌜ MinuteNumber self (r .0) ⌝ }
+    {
+        Minutes(midnight + 60 * self.hour as u32 + self.minute as u32 - 60 * self.offset as u32)
+    }
+
     pub fn minutes(self) -> Minutes
         requires { ⌜ isStamp self ≡ true ⌝ }
         ensures { λ r. ⌜ MinuteNumber self (r .0) ⌝ }
     {
-        let day = day_number(self.year, self.month, self.day);
-        Minutes(DAY * day + 60 * self.hour as u32 + self.minute as u32 - 60 * self.offset as u32)
+        self.minutes_from(self.midnight())
     }
 }

@@ -1,7 +1,7 @@
 // Columns of a line, put behind what is there already: each function answers the place behind what it has put.
 use calendar::Moment;
 use text::behind::put_text;
-use text::digits::put_before;
+use text::fours::put_small;
 ghost use Prim.Native.Nat.{_+_, _≤_};
 ghost use mathlib.Core.List.{[], _∷_, _++_};
 ghost use lib.ListN.{length};
@@ -9,23 +9,13 @@ ghost use Rattle.text.specs.Words.{decimal};
 ghost use Rattle.text.specs.Contracts.{Behind};
 ghost use Rattle.csv.specs.Text.{twoDigits, fourDigits, momentText};
 
-// A number of 32 bits, which has 10 digits at most.
-fn put_short(out: &mut [u8], place: usize, number: u32) -> usize
-    requires { ⌜ place + 10 ≤ length (now out) ⌝ }
-    ensures { λ r. ⌜ Behind (decimal number) 10 (now (out .entry)) place (now (out .exit)) r ⌝ }
-{
-    let mut digits = [0u8; 10];
-    let at = put_before(&mut digits, 10, number);
-    put_text(out, place, &digits[at..])
-}
-
 // A comma, perhaps a word behind it, and a number.
 pub fn put_column(out: &mut [u8], place: usize, text: &[u8], number: u32) -> usize
     requires { ⌜ place + length (now text) + 10 ≤ length (now out) ⌝ }
     ensures { λ r. ⌜ Behind (now (text .entry) ++ decimal number) (length (now (text .entry)) + 10) (now (out .entry)) place (now (out .exit)) r ⌝ }
 {
     let start = put_text(out, place, text);
-    put_short(out, start, number)
+    put_small(out, start, number)
 }
 
 // The four digits of a year.

@@ -2,7 +2,7 @@
 -- whose region has the mark 1 is broken, and no trip of two stops.
 -- Assumes nothing.
 use Prim.Native.Nat.{ℕ, _+_, _-_, _*_, _≤_, _<_}
-use native.Mathlib.Nat.{zero-add, sub-zero}
+use native.Mathlib.Nat.{zero-add, sub-zero, mul-le-mul, mul-le-mul-right}
 use native.Mathlib.Omega.{arith}
 use mathlib.Core.Path.{_≡_, refl, sym, ap, _∙_}
 use mathlib.Core.Bool.{Bool, true, false, cond, _&&_, _||_, or-true, false≢true}
@@ -16,6 +16,7 @@ use Rattle.tariff.specs.Rules.{levelOf}
 use Rattle.tariff.specs.Areas.{parentOf, liesWithin, FaultlessTariff}
 use Rattle.tariff.specs.Factors.{isCity, factorOf}
 use Rattle.tariff.proofs.Faultless.{faultless}
+use Rattle.tariff.proofs.FactorLaws.{factor-of}
 use Rattle.tariff.proofs.Within.{within-cases, above-of, parent-there}
 use Rattle.fare.specs.declared.Breaking.{Breaking}
 use Rattle.fare.specs.declared.Breaking.the-variants.{Unbroken, At}
@@ -50,6 +51,11 @@ pub exactly-not-back :
     → (first .x .0 ≡ last .x .0 → first .y .0 ≡ last .y .0 → ⊥) → ComesBack first last change f → ⊥
 exactly-not-back first last change f exactly elsewhere (same-point x y) = elsewhere x y
 exactly-not-back first last change f exactly elsewhere (nearer far) = omega arith
+
+-- No factor is below 1, and whoever comes back under a factor comes back under 1.
+back-under-one : (first last change : Stop) (f : ℕ) → 1 ≤ f → ComesBack first last change f → ComesBack first last change 1
+back-under-one first last change f least (same-point x y) = same-point x y
+back-under-one first last change f least (nearer far) = nearer (omega (arith, far, mul-le-mul-right (apart first last) (mul-le-mul least least)))
 
 -- Nothing but itself lies inside a city.
 pub within-city :
@@ -170,6 +176,19 @@ module _ {tariff : List ℕ} {counts : Counts} {bytes : List ℕ} {n : ℕ} (rid
 
   pub break-few : n < 3 → BreakOf tariff counts bytes n Unbroken
   break-few few = break-is _ (sym (never-without-change (omega arith)))
+
+  -- a trip that does not come back under the factor 1 is broken nowhere
+  pub break-never :
+      3 ≤ n → {c : ℕ} → FarthestChange tariff counts bytes (n - 1) c → {back : Bool} → back ≡ comesBackFrom tariff counts bytes (n - 1) c 1
+      → back ≡ false → BreakOf tariff counts bytes n Unbroken
+  break-never some {c} change is-back not-back =
+      let least = factor-of (faultless tariff counts (riding .read)) whole (whole-area (omega arith) .there) .least in
+      break-is _
+      (sym
+      (said-unbroken
+      (λ d broken.
+      let e = farthest-unique tariff counts bytes (n - 1) c d change (broken .farthest-change) in
+      false≢true (sym not-back ∙ is-back ∙ rw e (said-back _ _ _ 1 (back-under-one _ _ _ _ least (broken .comes-back)))))))
 
   module _ {area : ℕ} (some : 3 ≤ n) (is : AreaOfStops tariff counts bytes 0 (n - 1) area) where
     same-area : area ≡ whole

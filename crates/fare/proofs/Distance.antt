@@ -1,8 +1,8 @@
 -- Started kilometres: the count up from 0 stops at the least k that reaches far enough, and any k that reaches far enough and is
 -- least is the one where the count stops. So a search may go another way.
 -- Assumes nothing.
-use Prim.Native.Nat.{ℕ, zero, suc, _+_, _*_, _/_, _≤_, _<_}
-use native.Mathlib.Nat.{mul-le-mul, mul-le-mul-left, add-mul, suc-mul, div-lt-iff-lt-mul, le-antisymm, add-zero}
+use Prim.Native.Nat.{ℕ, zero, suc, _+_, _*_, _/_, _≤_, _<_, max, min}
+use native.Mathlib.Nat.{mul-le-mul, mul-le-mul-left, add-mul, suc-mul, div-lt-iff-lt-mul, le-antisymm, add-zero, add-comm, max-eq-left, max-eq-right, min-eq-left, min-eq-right}
 use native.Mathlib.Omega.{arith}
 use native.Mathlib.Decide.{decLt}
 use mathlib.Core.Path.{_≡_, refl, sym}
@@ -122,3 +122,17 @@ no-metre = refl
 -- the contract of `least_km` where there is no way to go
 pub nowhere : LeastKm 0 0
 nowhere = record { value = sym no-metre; holds = omega arith; least = λ j _. omega arith; range = omega arith }
+
+-- the sum of two squares goes by neither number first
+pub sorted : (a b : ℕ) → square (max a b) + square (min a b) ≡ square a + square b
+sorted a b =
+    elim (decLt a b) [
+      | yes h ↦ rw (max-eq-right (less a b h), min-eq-left (less a b h)) (add-comm (square b) (square a))
+      | no h ↦ rw (max-eq-left (more a b h), min-eq-right (more a b h))
+    ]
+  where
+    less : (a b : ℕ) → a < b → a ≤ b
+    less a b h = omega arith
+
+    more : (a b : ℕ) → (a < b → ⊥) → b ≤ a
+    more a b h = omega arith

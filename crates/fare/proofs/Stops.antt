@@ -21,7 +21,7 @@ use Rattle.trip.specs.Record.{stopNumber}
 use Rattle.trip.specs.Trips.{stopsKnown}
 use Rattle.fare.specs.Distance.{square, gap, apart, mostKm, kmOf, LeastKm}
 use Rattle.fare.specs.Rides.{stopOf, areaOfStops, AreaOfStops, rideBetween}
-use Rattle.fare.specs.Contracts.{Riding, InOrder, StopOf, RideIs}
+use Rattle.fare.specs.Contracts.{Riding, InOrder, StopOf, RideIs, rideOn}
 use Rattle.fare.proofs.Distance.{across, km-holds, km-least, km-range}
 
 -- two stops of the plane are no farther apart than 1,415 kilometres reach
@@ -122,28 +122,15 @@ times trip order =
     let both = and-eq-true-iff (leb (trip .checkin .0) (trip .checkout .0)) _ .0 (order .times) in
     (leb-true _ _ (both .0), leb-true _ _ (both .1))
 
--- the contract of `ride_between`, from its area, its first and last stop and their kilometres
+-- the ride from one stop to another, from its area and its kilometres
 pub ride :
-    (tariff : List ℕ) (counts : Counts) (bytes : List ℕ) (trip : Trip) (first last minutes area km : ℕ) (from to : Stop)
-    → minutes ≤ dayMinutes → AreaOfStops tariff counts bytes first last area → StopOf tariff counts bytes first from
-    → StopOf tariff counts bytes last to → LeastKm (apart from to) km
-    → RideIs counts (rideBetween tariff counts bytes trip first last minutes)
-    (record {
-      area = area;
-      km = record { 0 = km };
-      minutes = record { 0 = minutes };
-      class = trip .class;
-      level = trip .level;
-      party = trip .party;
-    })
+    (tariff : List ℕ) (counts : Counts) (bytes : List ℕ) (trip : Trip) (first last minutes area km : ℕ)
+    → minutes ≤ dayMinutes → AreaOfStops tariff counts bytes first last area
+    → LeastKm (apart (stopOf tariff counts bytes first) (stopOf tariff counts bytes last)) km
+    → RideIs counts (rideBetween tariff counts bytes trip first last minutes) (rideOn trip area km minutes)
 unfolding rideBetween
-ride tariff counts bytes trip first last minutes area km from to short smallest-area one other far =
-    record {
-      value = rw (smallest-area .value, far .value, one .value, other .value);
-      there = smallest-area .there;
-      km = far .range;
-      minutes = short;
-    }
+ride tariff counts bytes trip first last minutes area km short smallest-area far =
+    record { value = rw (smallest-area .value, far .value); there = smallest-area .there; km = far .range; minutes = short }
 
 -- so the definition's ride has its ranges
 pub ride-there :
@@ -153,5 +140,5 @@ pub ride-there :
 unfolding rideBetween
 ride-there trip riding first last minutes order inside short =
     let place : first + (last - first) ≡ last = omega arith in
-    ride _ _ _ trip first last minutes _ _ _ _ short (rw place at (area-of-stops riding first (last - first) (omega arith)))
-    (stop-there riding first (omega arith)) (stop-there riding last inside) (least-between riding first last (omega arith) inside)
+    ride _ _ _ trip first last minutes _ _ short (rw place at (area-of-stops riding first (last - first) (omega arith)))
+    (least-between riding first last (omega arith) inside)

@@ -64,6 +64,18 @@ pub record DurationOf (trip : Trip) (r : ℕ) : Type 0 where
   pub value : r ≡ durationOf trip
   pub range : r ≤ dayMinutes
 
+-- a ride of the trip in an area, so far and so long
+abbrev pub rideOn : Trip → ℕ → ℕ → ℕ → Ride
+rideOn trip area km minutes =
+    record {
+      area = area;
+      km = record { 0 = km };
+      minutes = record { 0 = minutes };
+      class = trip .class;
+      level = trip .level;
+      party = trip .party;
+    }
+
 -- a ride by its definition, in one of the tariff's areas, no farther than across the plane and no longer than a day
 pub record RideIs (counts : Counts) (ride r : Ride) : Type 0 where
   pub value : r ≡ ride

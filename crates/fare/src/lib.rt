@@ -1,6 +1,6 @@
 // From a trip's bytes to its ride, or the two rides that it is broken into, and from a ride to its price.
 //
-// rides.rt       the smallest area that contains some stops of a trip, the started kilometres between two, the ride from one to another
+// rides.rt       the smallest area that contains some stops of a trip, the started kilometres between two, the ride that a whole trip is
 // kilometres.rt  the least kilometres that are enough, from a guess
 // parts.rt       where a trip that comes back is broken, and the rides that its two parts are
 // prices.rt      the price by the area's kind: the four steps in their order, or the adult's and the child's of kind 8

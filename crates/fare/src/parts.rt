@@ -3,7 +3,8 @@ use crate::Breaking;
 use crate::Ride;
 use crate::rides::area_of_stops;
 use crate::rides::duration;
-use crate::rides::ride_between;
+use crate::rides::km_between;
+use crate::rides::ride_on;
 use crate::rides::squared_between;
 use crate::rides::stop_of;
 use tariff::Counts;
@@ -75,7 +76,8 @@ fn comes_back_from(
     comes_back(first, last, change, factor)
 }
 
-// Where a trip of so many stops is broken.
+// Where a trip of so many stops is broken. No factor is below 1: a trip that does not come back under 1 is broken under none, and neither its area
+// nor the factor that holds there is looked for.
 pub fn break_of(tariff: &[u8], counts: Counts, bytes: &[u8], stops: usize) -> Breaking
     requires { ⌜ Riding (now tariff) counts (now bytes) stops ⌝ }
     ensures { λ r. ⌜ BreakOf (now (tariff .entry)) counts (now (bytes .entry)) stops r ⌝ }
@@ -83,12 +85,15 @@ pub fn break_of(tariff: &[u8], counts: Counts, bytes: &[u8], stops: usize) -> Br
     if stops < 3 {
         return Breaking::Unbroken;
     }
+    let c = farthest_change(tariff, counts, bytes, stops);
+    if !comes_back_from(tariff, counts, bytes, stops, c, 1) {
+        return Breaking::Unbroken;
+    }
     let area = area_of_stops(tariff, counts, bytes, stops, 0, stops - 1);
     let says = factor_of(tariff, counts, area);
     if kept_whole(tariff, counts, area, says.mark) {
         return Breaking::Unbroken;
     }
-    let c = farthest_change(tariff, counts, bytes, stops);
     if comes_back_from(tariff, counts, bytes, stops, c, says.factor) {
         Breaking::At(c)
     } else {
@@ -101,7 +106,10 @@ pub fn first_part(tariff: &[u8], counts: Counts, bytes: &[u8], trip: Trip, c: us
     requires { ⌜ Riding (now tariff) counts (now bytes) (trip .stops) × (InOrder trip × (c < trip .stops)) ⌝ }
     ensures { λ r. ⌜ RideIs counts (firstPart (now (tariff .entry)) counts (now (bytes .entry)) trip c) r ⌝ }
 {
-    ride_between(tariff, counts, bytes, trip, 0, c, duration(trip))
+    let stops = trip.stops;
+    let area = area_of_stops(tariff, counts, bytes, stops, 0, c);
+    let km = km_between(tariff, counts, bytes, stops, 0, c);
+    ride_on(trip, area, km, duration(trip))
 }
 
 // The second part: the ride from there on, in 0 minutes, at the check-out.
@@ -109,6 +117,8 @@ pub fn second_part(tariff: &[u8], counts: Counts, bytes: &[u8], trip: Trip, c: u
     requires { ⌜ Riding (now tariff) counts (now bytes) (trip .stops) × (c < trip .stops) ⌝ }
     ensures { λ r. ⌜ RideIs counts (secondPart (now (tariff .entry)) counts (now (bytes .entry)) trip c) r ⌝ }
 {
-    let last = trip.stops - 1;
-    ride_between(tariff, counts, bytes, trip, c, last, Minutes(0))
+    let stops = trip.stops;
+    let area = area_of_stops(tariff, counts, bytes, stops, c, stops - 1);
+    let km = km_between(tariff, counts, bytes, stops, c, stops - 1);
+    ride_on(trip, area, km, Minutes(0))
 }

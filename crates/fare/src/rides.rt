@@ -12,11 +12,10 @@ use units::Km;
 use units::Metres;
 use units::Minutes;
 ghost use mathlib.Core.Path.{_≡_};
-ghost use Prim.Native.Nat.{_+_, _≤_, _<_};
-ghost use Rattle.units.specs.Day.{dayMinutes};
+ghost use Prim.Native.Nat.{_+_, _≤_, _<_, max, min};
 ghost use Rattle.fare.specs.Distance.{gap, apart, LeastKm};
-ghost use Rattle.fare.specs.Rides.{AreaOfStops, rideBetween};
-ghost use Rattle.fare.specs.Contracts.{Riding, InOrder, OnPlane, SquaredBetween, StopOf, DurationOf, RideIs, RideOf};
+ghost use Rattle.fare.specs.Rides.{stopOf, AreaOfStops};
+ghost use Rattle.fare.specs.Contracts.{Riding, InOrder, OnPlane, SquaredBetween, StopOf, DurationOf, rideOn, RideOf};
 
 fn gap_between(a: Metres, b: Metres) -> u64
     ensures { λ r. ⌜ r ≡ gap (a .0) (b .0) ⌝ }
@@ -38,6 +37,18 @@ pub fn squared_between(a: Stop, b: Stop) -> u64
     east * east + north * north
 }
 
+fn longer_of(a: u64, b: u64) -> u64
+    ensures { λ r. ⌜ r ≡ max a b ⌝ }
+{
+    if a < b { b } else { a }
+}
+
+fn shorter_of(a: u64, b: u64) -> u64
+    ensures { λ r. ⌜ r ≡ min a b ⌝ }
+{
+    if a < b { a } else { b }
+}
+
 // Started kilometres between two stops.
 pub fn kilometres(a: Stop, b: Stop) -> Km
     requires { ⌜ OnPlane a × OnPlane b ⌝ }
@@ -45,11 +56,7 @@ pub fn kilometres(a: Stop, b: Stop) -> Km
 {
     let east = gap_between(a.x, b.x);
     let north = gap_between(a.y, b.y);
-    if east < north {
-        Km(least_km(north, east))
-    } else {
-        Km(least_km(east, north))
-    }
+    Km(least_km(longer_of(east, north), shorter_of(east, north)))
 }
 
 // A stop of the trip, counted from 0, in the tariff.
@@ -72,6 +79,9 @@ pub fn area_of_stops(
     requires { ⌜ Riding (now tariff) counts (now trip) stops × ((first ≤ last) × (last < stops)) ⌝ }
     ensures { λ r. ⌜ AreaOfStops (now (tariff .entry)) counts (now (trip .entry)) first last r ⌝ }
 {
+    // Borrowed anew, they come in registers; else each caller keeps copies of the slices on the stack for us.
+    let tariff = &*tariff;
+    let trip = &*trip;
     let mut area = stop_of(tariff, counts, trip, stops, first).area as usize;
     for i in first..last {
         let next = stop_of(tariff, counts, trip, stops, i + 1).area as usize;
@@ -80,29 +90,31 @@ pub fn area_of_stops(
     area
 }
 
-// The ride from the stop `first` of the trip to the stop `last`, in so many minutes.
-pub fn ride_between(
+// Started kilometres between the stops `first` and `last` of the trip.
+pub fn km_between(
     tariff: &[u8],
     counts: Counts,
-    bytes: &[u8],
-    trip: Trip,
+    trip: &[u8],
+    stops: usize,
     first: usize,
     last: usize,
-    minutes: Minutes,
-) -> Ride
-    requires { ⌜ Riding (now tariff) counts (now bytes) (trip .stops) × ((first ≤ last) × ((last < trip .stops) × (minutes .0 ≤ dayMinutes))) ⌝ }
-    ensures { λ r. ⌜ RideIs counts (rideBetween (now (tariff .entry)) counts (now (bytes .entry)) trip first last (minutes .0)) r ⌝ }
+) -> Km
+    requires { ⌜ Riding (now tariff) counts (now trip) stops × ((first < stops) × (last < stops)) ⌝ }
+    ensures { λ r. ⌜ LeastKm (apart (stopOf (now (tariff .entry)) counts (now (trip .entry)) first) (stopOf (now (tariff .entry)) counts (now (trip .entry)) last)) (r .0) ⌝ }
 {
-    // Borrowed anew, it comes in a register; else each caller keeps a copy of the slice on the stack for us.
-    let tariff = &*tariff;
-    let stops = trip.stops;
-    let area = area_of_stops(tariff, counts, bytes, stops, first, last);
-    let from = stop_of(tariff, counts, bytes, stops, first);
-    let to = stop_of(tariff, counts, bytes, stops, last);
+    let from = stop_of(tariff, counts, trip, stops, first);
+    let to = stop_of(tariff, counts, trip, stops, last);
+    kilometres(from, to)
+}
+
+// A ride of the trip in an area, so far and so long. It is small, and so a trip's fields stay in registers from where they are read on.
+pub fn ride_on(trip: Trip, area: usize, km: Km, minutes: Minutes) -> Ride
+    ensures { λ r. ⌜ r ≡ rideOn trip area (km .0) (minutes .0) ⌝ }
+{
     let party = trip.party;
     Ride {
         area,
-        km: kilometres(from, to),
+        km,
         minutes,
         class: trip.class,
         level: trip.level,
@@ -125,6 +137,8 @@ pub fn ride_of(tariff: &[u8], counts: Counts, bytes: &[u8], trip: Trip) -> Ride
     requires { ⌜ Riding (now tariff) counts (now bytes) (trip .stops) × InOrder trip ⌝ }
     ensures { λ r. ⌜ RideOf (now (tariff .entry)) counts (now (bytes .entry)) trip r ⌝ }
 {
-    let last = trip.stops - 1;
-    ride_between(tariff, counts, bytes, trip, 0, last, duration(trip))
+    let stops = trip.stops;
+    let area = area_of_stops(tariff, counts, bytes, stops, 0, stops - 1);
+    let km = km_between(tariff, counts, bytes, stops, 0, stops - 1);
+    ride_on(trip, area, km, duration(trip))
 }

@@ -3,3 +3,4 @@ pub mod Taken
 pub mod Rest
 pub mod Told
 pub mod Example
+pub mod ShortLines

@@ -15,3 +15,10 @@ refused-groups a b c d = simp append-assoc
 
 pub tail-groups : (a b c d e f g : List ℕ) → (((a ++ b) ++ (c ++ d)) ++ (e ++ f)) ++ g ≡ a ++ b ++ c ++ d ++ e ++ f ++ g
 tail-groups a b c d e f g = simp append-assoc
+
+-- a part's line in two halves, each number with what stands behind it
+pub halves-groups :
+    (a b c d e f blank end : List ℕ)
+    → (((a ++ blank) ++ (b ++ blank)) ++ (c ++ blank)) ++ ((((d ++ blank) ++ e) ++ blank) ++ (f ++ end))
+    ≡ a ++ ((blank ++ b) ++ ((blank ++ c) ++ ((blank ++ d) ++ ((blank ++ e) ++ ((blank ++ f) ++ end)))))
+halves-groups a b c d e f blank end = simp append-assoc

@@ -2,7 +2,7 @@
 use Prim.Native.Nat.{ℕ, _+_, _*_, _≤_, _<_}
 use mathlib.Core.Path.{_≡_}
 use mathlib.Core.Bool.{Bool, true}
-use mathlib.Core.List.{List, _++_}
+use mathlib.Core.List.{List, [], _∷_, _++_}
 use lib.ListN.{length, take}
 use Rattle.text.specs.Words.{bytes, decimal}
 use Rattle.text.specs.Contracts.{Behind}
@@ -12,6 +12,7 @@ use Rattle.statement.specs.Record.{mostParts}
 use Rattle.settle.specs.Contracts.{Ready}
 use Rattle.roll.specs.Pieces.{stepOf, bookStep}
 use Rattle.roll.specs.Contracts.{mostLineCents}
+use Rattle.lines.specs.Text.{spaced}
 use Rattle.lines.specs.declared.turns.Tally.{Tally}
 use Rattle.lines.specs.declared.turns.Turn.{Turn}
 use Rattle.lines.specs.declared.turns.Turn.the-variants.{More, On, Over}
@@ -34,6 +35,10 @@ rideText number area km minutes = ((decimal number ++ (bytes " " ++ decimal area
 
 abbrev pub mostRide : ℕ
 mostRide = 43
+
+-- a part's line by its numbers
+abbrev pub numbersText : ℕ → ℕ → ℕ → ℕ → ℕ → ℕ → List ℕ
+numbersText number area km minutes opening cents = decimal number ++ spaced (area ∷ km ∷ minutes ∷ opening ∷ cents ∷ [])
 
 -- each record has added what its parts can say at most
 abbrev pub CentsFit : Tally → Type 0

@@ -2,8 +2,10 @@
 // number or a line.
 //
 // spaced.rt  numbers behind a blank, behind a place
+// short.rt   a part's line, put at once where its numbers are short, behind a place
 // texts.rt   header, lines, tail, and a refused tariff's one line, behind a place
 // turns.rt   what stands at the start of the bytes that have come, settled, counted and put
+mod short;
 mod spaced;
 pub mod texts;
 pub mod turns;

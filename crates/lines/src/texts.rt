@@ -1,4 +1,5 @@
 // The texts of a roll, put behind what is there already: each function answers the place behind what it has put.
+use crate::short::put_short;
 use crate::spaced::put_long_spaced;
 use crate::spaced::put_spaced;
 use crate::turns::Tally;
@@ -14,7 +15,7 @@ ghost use lib.ListN.{length};
 ghost use Rattle.roll.specs.declared.Line.the-variants.{Refused};
 ghost use Rattle.text.specs.Contracts.{Behind};
 ghost use Rattle.lines.specs.Text.{header, entryText, lineText, tailText, faultText};
-ghost use Rattle.lines.specs.Contracts.{mostRide, mostLine, mostRecord, rideText};
+ghost use Rattle.lines.specs.Contracts.{mostRide, mostLine, mostRecord, rideText, numbersText};
 
 // The first line.
 pub fn put_header(out: &mut [u8]) -> usize
@@ -35,26 +36,47 @@ fn put_ride(out: &mut [u8], place: usize, number: u32, area: u32, km: u32, minut
     put_spaced(out, after2, minutes)
 }
 
-// The line of a part.
+// The line of a part, number by number.
+fn put_long(
+    out: &mut [u8],
+    place: usize,
+    number: u32,
+    area: u32,
+    km: u32,
+    minutes: u32,
+    opening: u32,
+    cents: u64,
+) -> usize
+    requires { ⌜ place + mostLine ≤ length (now out) ⌝ }
+    ensures { λ r. ⌜ Behind (numbersText number area km minutes opening cents) mostLine (now (out .entry)) place (now (out .exit)) r ⌝ }
+{
+    let after3 = put_ride(out, place, number, area, km, minutes);
+    let after4 = put_spaced(out, after3, opening);
+    let after5 = put_long_spaced(out, after4, cents);
+    put_byte(out, after5, b'\n')
+}
+
+// The line of a part: at once where its numbers are short.
 fn put_charged(out: &mut [u8], place: usize, number: u32, entry: Entry) -> usize
     requires { ⌜ place + mostLine ≤ length (now out) ⌝ }
     ensures { λ r. ⌜ Behind (entryText number entry) mostLine (now (out .entry)) place (now (out .exit)) r ⌝ }
 {
-    let ride = put_ride(
-        out,
-        place,
-        number,
-        entry.area as u32,
-        entry.km as u32,
-        entry.minutes as u32,
-    );
-    let opening = put_spaced(out, ride, entry.opening);
-    let cents = put_long_spaced(out, opening, entry.cents);
-    put_byte(out, cents, b'\n')
+    let area = entry.area as u32;
+    let km = entry.km as u32;
+    let minutes = entry.minutes as u32;
+    let opening = entry.opening;
+    let cents = entry.cents;
+    if 100_000_000 <= number as u64 + opening as u64 {
+        return put_long(out, place, number, area, km, minutes, opening, cents);
+    }
+    if (area + km + minutes < 10_000) & (cents < 10_000) {
+        return put_short(out, place, number, area, km, minutes, opening, cents);
+    }
+    put_long(out, place, number, area, km, minutes, opening, cents)
 }
 
 // The line of a refused record.
-fn put_refused(out: &mut [u8], place: usize, number: u32, refusal: u64) -> usize
+pub fn put_refused(out: &mut [u8], place: usize, number: u32, refusal: u64) -> usize
     requires { ⌜ place + mostLine ≤ length (now out) ⌝ }
     ensures { λ r. ⌜ Behind (lineText number (Refused refusal)) mostLine (now (out .entry)) place (now (out .exit)) r ⌝ }
 {

@@ -6,6 +6,7 @@ use mathlib.Core.Path.{_≡_, refl, sym, ap, _∙_}
 use mathlib.Core.List.{List, [], _∷_, _++_, map, List·Memᴰ, List·Memᴰ·head, List·Memᴰ·tail}
 use mathlib.Core.Bool.{true}
 use lib.ListN.{drop}
+use lib.Count.{ones}
 use Rattle.units.specs.Rounding.{dividedUp, hundredthsOf, periods}
 use Rattle.wire.specs.Number.{getLe, putLe, bytesOf}
 use Rattle.wire.specs.Each.{each}
@@ -17,7 +18,7 @@ use Rattle.caps.specs.Named.{leaves, namedHere, nameIn}
 use Rattle.caps.specs.Rides.{ChargedRide}
 use Rattle.caps.specs.Tree.{foldUp, among, chargeIn}
 use Rattle.tariff.specs.declared.Counts.{Counts}
-use Rattle.tariff.specs.Layout.{longOf, areaPlace, longAreas}
+use Rattle.tariff.specs.Layout.{longOf, areaPlace, longBits}
 use Rattle.tariff.specs.Fields.{areaFields, factorFields, stopFields}
 use Rattle.tariff.specs.Rules.{capsRight, placeRight, wideAmong}
 use Rattle.tariff.specs.Scan.{areaEntry, factorEntry, stopEntry, entryAt, readFrom, readTariff}
@@ -142,7 +143,7 @@ module _ (tariff : List ℕ) (counts : Counts) (read : Read tariff counts) where
 
 -- The sample is a faultless tariff of seven areas, three factor records and 28 stops.
 pub sample-read : Read sample sampleCounts
-unfolding longOf areaPlace longAreas readTariff readFrom entryAt areaEntry factorEntry stopEntry frameAt broken areaFields factorFields stopFields
+unfolding longOf areaPlace longBits ones readTariff readFrom entryAt areaEntry factorEntry stopEntry frameAt broken areaFields factorFields stopFields
     capsRight placeRight wideAmong getLe bytesOf sample sampleAreas sampleFactors sampleStops areasBytes areaBytes sampleArea factorsBytes factorBytes
     sampleFactor stopsBytes stopBytes sampleStop
 sample-read = refl
@@ -166,7 +167,7 @@ saidSums c = record { come-to = results c; window = ridesIn (results c) [] }
 -- all cases, computed
 computed : map settledSums cases ≡ map saidSums cases
 unfolding dividedUp hundredthsOf periods getLe putLe bytesOf each broken frameAt monthDays daysOfMonths daysOfYears dayNumber localMinute minuteNumber
-    leftOf cappedHere foldUp among chargeIn leaves namedHere nameIn longOf areaPlace longAreas areaFields stopFields levelCap capOf tripCapOf kindWith
+    leftOf cappedHere foldUp among chargeIn leaves namedHere nameIn longOf areaPlace longBits ones areaFields stopFields levelCap capOf tripCapOf kindWith
     dayCapOf areaOf areaAt stopAt townAt liesWithin smallestOf shapeAt partyAt stopNumber checkinOf checkoutOf isTrip partyRight stopsKnown
     stampsRight oneStop apart kmFrom kmOf stopOf areaOfStops rideBetween rideOf basePart kmPart step1 step2 step3 step4 tripCap commonPrice isMarked
     inMarkedTown priceOf someInTown townRefuses secondCap allCap riderCharge riderCharges bicycleCharges chargesOf riderCut riderCuts cutsOf cutOf

@@ -138,7 +138,7 @@ sample = areasBytes sampleAreas ++ (factorsBytes sampleFactors ++ stopsBytes sam
 
 -- and what it has
 abbrev pub sampleCounts : Counts
-sampleCounts = record { areas = 7; long = 0; factors = 3; stops = 28 }
+sampleCounts = record { areas = 7; longs = 0; factors = 3; stops = 28 }
 
 -- ---- Trips.
 

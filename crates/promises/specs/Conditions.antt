@@ -56,7 +56,7 @@ use Rattle.settle.specs.Refusals.{refusal, rows, First}
 
 -- the numbers of areas and of stops that a faultless tariff has
 unfoldable pub countsOf : List ℕ → Counts
-countsOf tariff = elim (readTariff tariff) [ Faultless counts ↦ counts | Fault number at ↦ record { areas = 0; long = 0; factors = 0; stops = 0 } ]
+countsOf tariff = elim (readTariff tariff) [ Faultless counts ↦ counts | Fault number at ↦ record { areas = 0; longs = 0; factors = 0; stops = 0 } ]
 
 -- the rides that a trip's bytes are, one or two, and the window that it belongs to or opens
 abbrev pub tripRides : List ℕ → Counts → List ℕ → List Ride

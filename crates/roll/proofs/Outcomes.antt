@@ -16,13 +16,13 @@ use Rattle.statement.proofs.Records.{opening-is, area-is, km-is, minutes-is, ce
 use Rattle.settle.specs.declared.Answer.{Answer}
 use Rattle.settle.specs.declared.Answer.the-variants as answer
 use Rattle.settle.specs.Outcome.{Outcome, refused, accepted, settledUnder, settled, partsIn, bookAfter}
-use Rattle.settle.specs.Contracts.{Ready, Told, ToldSound}
+use Rattle.settle.specs.Contracts.{Ready, Told, ToldSound, NextSettled}
 use Rattle.settle.proofs.Parts.{OneOrTwo, alone, both, Accepted, no-size, under-accepted, settled-accepted}
 use Rattle.settle.proofs.Ways.{faultless-way}
 use Rattle.roll.specs.declared.Line.{Line}
 use Rattle.roll.specs.declared.Line.the-variants.{Refused}
 use Rattle.roll.specs.Lines.{partEntry, lineOf}
-use Rattle.roll.specs.Contracts.{entryIn, Readable, lineIn, LineIn, SettledLine}
+use Rattle.roll.specs.Contracts.{Room, entryIn, Readable, lineIn, LineIn, SettledLine}
 
 -- A record says what is said of its part.
 entry-is :
@@ -117,7 +117,11 @@ settled-readable tariff book trip room told is =
 -- ---- What settling a record of a roll tells.
 
 module _ {tariff : List ℕ} {counts : Counts} {book : List ℕ} (trip : List ℕ) {book′ statement statement′ : List ℕ} {r : Answer} (ready : Ready tariff counts book)
-    (o : ToldSound (settledUnder tariff counts book trip largestStatement) (counts .areas) book book′ statement statement′ r) where
+    (room : Room statement) (lent : NextSettled tariff counts book trip statement book′ statement′ r) where
+  o : ToldSound (settledUnder tariff counts book trip largestStatement) (counts .areas) book book′ statement statement′ r
+  o =
+      subst (λ (bytes : ℕ). ToldSound (settledUnder tariff counts book trip bytes) (counts .areas) book book′ statement statement′ r) room lent
+
   under : settled tariff book trip largestStatement ≡ settledUnder tariff counts book trip largestStatement
   under = faultless-way tariff book trip largestStatement counts (ready .read)
 

@@ -40,6 +40,10 @@ pub record Fresh (book : List ℕ) : Type 0 where
   pub size : bookSize ≡ length book
   pub sound-book : (areas : ℕ) → sound book areas ≡ true
 
+-- room for every record's statement; what stands in it says nothing
+abbrev pub Room : List ℕ → Type 0
+Room statement = length statement ≡ largestStatement
+
 -- what the record at a place of a statement says
 unfoldable pub entryIn : List ℕ → ℕ → Entry
 entryIn statement place =

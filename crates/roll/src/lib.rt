@@ -18,7 +18,7 @@ ghost use mathlib.Core.Path.{_≡_};
 ghost use Rattle.statement.specs.Contracts.{RecordAt};
 ghost use Rattle.settle.specs.Contracts.{Ready};
 ghost use Rattle.roll.specs.Pieces.{unfinished};
-ghost use Rattle.roll.specs.Contracts.{Fresh, EntryIn, Readable, LineIn, SettledLine, Stepped};
+ghost use Rattle.roll.specs.Contracts.{Fresh, Room, EntryIn, Readable, LineIn, SettledLine, Stepped};
 
 // At most so many records of a roll are settled.
 pub const MOST_RECORDS: u32 = 65_535;
@@ -61,6 +61,13 @@ pub fn fresh_book() -> [u8; SIZE]
     [0u8; SIZE]
 }
 
+// Room for a record's statement.
+pub fn statement_room() -> [u8; LARGEST_STATEMENT]
+    ensures { λ r. ⌜ Room r ⌝ }
+{
+    [0u8; LARGEST_STATEMENT]
+}
+
 // What the charge record at a place of a statement says.
 fn entry_at(statement: &[u8], place: usize) -> Entry
     requires { ⌜ RecordAt (now statement) place ⌝ }
@@ -88,15 +95,20 @@ fn charged_line(statement: &[u8], size: usize) -> Line
     Line::Charged(first)
 }
 
-// A record settled: its line, and the book brought up to date.
-fn settle_line(tariff: &[u8], counts: Counts, book: &mut [u8], trip: &[u8]) -> Line
-    requires { ⌜ Ready (now tariff) counts (now book) ⌝ }
+// A record settled: its line, and the book brought up to date. The statement is lent to be written and read, and what is left in it says nothing.
+fn settle_line(
+    tariff: &[u8],
+    counts: Counts,
+    book: &mut [u8],
+    trip: &[u8],
+    statement: &mut [u8],
+) -> Line
+    requires { ⌜ Ready (now tariff) counts (now book) × Room (now statement) ⌝ }
     ensures { λ r. ⌜ SettledLine (now (tariff .entry)) (counts .areas) (now (book .entry)) (now (trip .entry)) (now (book .exit)) r ⌝ }
 {
-    let mut statement = [0u8; LARGEST_STATEMENT];
-    match settle_next(tariff, counts, book, trip, &mut statement) {
+    match settle_next(tariff, counts, book, trip, statement) {
         Answer::Refused { number, place: _ } => Line::Refused(number as u64),
-        Answer::Written(size) => charged_line(&statement, size),
+        Answer::Written(size) => charged_line(statement, size),
     }
 }
 
@@ -111,9 +123,17 @@ fn is_unfinished(piece: &[u8]) -> bool
     (2 <= long) & (long <= 1024) & (piece.len() < 2 + long)
 }
 
-// What stands at the start of a piece, and what it comes to on the book; `more` says whether the roll can go on behind the piece.
-pub fn next(tariff: &[u8], counts: Counts, book: &mut [u8], piece: &[u8], more: bool) -> Step
-    requires { ⌜ Ready (now tariff) counts (now book) ⌝ }
+// What stands at the start of a piece, and what it comes to on the book; `more` says whether the roll can go on behind the piece. The statement
+// is lent for a record's.
+pub fn next(
+    tariff: &[u8],
+    counts: Counts,
+    book: &mut [u8],
+    piece: &[u8],
+    more: bool,
+    statement: &mut [u8],
+) -> Step
+    requires { ⌜ Ready (now tariff) counts (now book) × Room (now statement) ⌝ }
     ensures { λ r. ⌜ Stepped (now (tariff .entry)) (counts .areas) (now (book .entry)) (now (piece .entry)) more (now (book .exit)) r ⌝ }
 {
     if more & is_unfinished(piece) {
@@ -127,7 +147,7 @@ pub fn next(tariff: &[u8], counts: Counts, book: &mut [u8], piece: &[u8], more: 
         Frame::Whole { kind: _, body } => {
             let used = 4 + body;
             Step::Record {
-                line: settle_line(tariff, counts, book, &piece[..used]),
+                line: settle_line(tariff, counts, book, &piece[..used], statement),
                 used,
             }
         }

@@ -5,6 +5,7 @@ use lines::turns::Tally;
 use lines::turns::Turn;
 use lines::turns::take_turn;
 use roll::fresh_book;
+use roll::statement_room;
 use streams::flow::Flow;
 use streams::flow::Flowed;
 use streams::flow::INPUT;
@@ -15,6 +16,7 @@ use streams::output::write;
 use tariff::Counts;
 ghost use mathlib.Core.Path.{_≡_};
 ghost use Rattle.tariff.specs.Areas.{Read};
+ghost use Rattle.roll.specs.Contracts.{Room};
 ghost use Rattle.settle_roll.specs.Contracts.{Running, wentOn, StepTaken, Begun};
 
 // How far a run has come: its buffers, and the records so far.
@@ -50,9 +52,10 @@ fn take_step(
     book: &mut [u8],
     input: &mut [u8],
     out: &mut [u8],
+    statement: &mut [u8],
     run: Run,
 ) -> Next
-    requires { ⌜ Running (now tariff) counts (now book) (now input) (now out) run ⌝ }
+    requires { ⌜ Running (now tariff) counts (now book) (now input) (now out) run × Room (now statement) ⌝ }
     ensures { λ r. ⌜ StepTaken (now (tariff .entry)) counts run (now (book .entry)) (now (input .entry)) (now (out .entry)) (now (book .exit)) (now (input .exit)) (now (out .exit)) r ⌝ }
 {
     let flow = run.flow;
@@ -65,6 +68,7 @@ fn take_step(
         book,
         &input[from..to],
         more,
+        statement,
         out,
         flow.end,
         run.tally,
@@ -90,13 +94,14 @@ fn settle_all(
     book: &mut [u8],
     input: &mut [u8],
     out: &mut [u8],
+    statement: &mut [u8],
     first: Run,
 )
-    requires { ⌜ Begun (now tariff) counts (now book) (now input) (now out) first ⌝ }
+    requires { ⌜ Begun (now tariff) counts (now book) (now input) (now out) first × Room (now statement) ⌝ }
 {
     let mut run = first;
     loop {
-        match take_step(tariff, counts, book, input, out, run) {
+        match take_step(tariff, counts, book, input, out, statement, run) {
             Next::On(on) => {
                 run = on;
             }
@@ -118,6 +123,7 @@ pub fn settle_roll(tariff: &[u8], counts: Counts)
     let mut book = fresh_book();
     let mut input = [0u8; INPUT];
     let mut out = [0u8; OUTPUT];
+    let mut statement = statement_room();
     let end = put_header(&mut out);
     let first = Run {
         flow: Flow {
@@ -132,5 +138,13 @@ pub fn settle_roll(tariff: &[u8], counts: Counts)
             cents: 0,
         },
     };
-    settle_all(tariff, counts, &mut book, &mut input, &mut out, first);
+    settle_all(
+        tariff,
+        counts,
+        &mut book,
+        &mut input,
+        &mut out,
+        &mut statement,
+        first,
+    );
 }

@@ -2,21 +2,20 @@
 -- Assumes nothing.
 use Prim.Native.Nat.{ℕ, _+_, _*_, _≤_, _<_}
 use native.Mathlib.Omega.{arith}
-use native.Mathlib.Decide.{ℕ-discrete}
 use mathlib.Core.Path.{_≡_, refl, sym, ap, _∙_}
 use mathlib.Core.Logic.{inl, inr}
 use mathlib.Core.Bool.{true, cond}
 use mathlib.Core.List.{List}
-use borrow.Author.Tests.{eq-eqb, ne-eqb}
 use lib.ListN.{length}
-use lib.Dec.{ltb, eqb}
+use lib.Count.{ones}
+use lib.Dec.{ltb}
 use Rattle.wire.specs.Number.{getLe, Bytes}
 use Rattle.wire.proofs.Number.{get-range}
 use Rattle.wire.proofs.Frames.{whole, whole-back}
 use Rattle.tariff.specs.declared.Counts.{Counts}
 use Rattle.tariff.specs.declared.area_run.Run.{Run}
 use Rattle.tariff.specs.declared.scan.Entry.the-variants.{Area}
-use Rattle.tariff.specs.Layout.{commonKind, aachenKind, areaSize, longMore, longOf, areaBodyOf, mostAreas, areaEnd, longAreas, oneArea}
+use Rattle.tariff.specs.Layout.{commonKind, aachenKind, areaSize, longMore, longOf, areaBodyOf, mostAreas, areaEnd, oneArea}
 use Rattle.tariff.specs.Fields.{areaFields, longFields}
 use Rattle.tariff.specs.Rules.{levelOf, areaRight}
 use Rattle.tariff.specs.Scan.{entryAt, Reached, AreaInPlace}
@@ -58,7 +57,7 @@ module _ (b : List ℕ) (at : ℕ) where
 -- where areas end that are all that went before, there are as many
 pub areas-there : (b : List ℕ) (at : ℕ) (soFar : Counts) → Reached b at soFar → AreasThere b soFar
 areas-there b at soFar reached =
-    record { few = reached .few; inside = omega (arith, reached, place-is b (soFar .areas)); long = reached .long }
+    record { few = reached .few; inside = omega (arith, reached, ap ones (reached .longs), place-is b (soFar .areas)); longs = reached .longs }
 
 module _ (b : List ℕ) (run : Run) (kind : ℕ) where
   module _ (found : KindFound b (run .at) kind) (some : 0 < kind) where
@@ -97,13 +96,3 @@ module _ (b : List ℕ) (run : Run) (kind : ℕ) where
         },
         omega arith,
       )
-
--- Where no area so far is of kind 8, all of them are known to be of kind 1; else as many as before.
-pub plain-known :
-    (b : List ℕ) (soFar : Counts) (plain : ℕ) → soFar .long ≡ longAreas b (soFar .areas) → longAreas b plain ≡ 0
-    → longAreas b (cond (eqb (soFar .long) 0) (soFar .areas) plain) ≡ 0
-plain-known b soFar plain long none =
-    elim (ℕ-discrete (soFar .long) 0) [
-      | yes all ↦ rw (eq-eqb (soFar .long) 0 all) (omega arith)
-      | no some ↦ rw (ne-eqb (soFar .long) 0 some) none
-    ]

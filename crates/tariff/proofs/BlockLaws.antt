@@ -19,7 +19,7 @@ use Rattle.tariff.specs.Contracts.{stopStands}
 use Rattle.tariff.specs.Blocks.{bits, Clear, Tells, joinedSums}
 use Rattle.tariff.proofs.Masks.{or-left, or-right, clear-left, clear-right, mask-parts, high-bits}
 use Rattle.tariff.proofs.Words.{four-word, head-word, point-word}
-use Rattle.tariff.proofs.StopLaws.{one-stands, more-stand}
+use Rattle.tariff.proofs.StopLaws.{none-stand, one-stands, more-stand, fewer-stand}
 
 module _ (s t : Sums) (c : Clear (joinedSums s t)) where
   clear-first : Clear s
@@ -235,3 +235,30 @@ pub tells-three :
 tells-three b at second third areas n s t u both all two three first next last is-both is-all =
     rw (is-all, is-both)
     (tells-joined b at areas (n + n) n (joinedSums s t) u (tells-joined b at areas n n s t first (rw two at next)) (rw three at last))
+
+-- the words joined before a place where a block begins: those of all stops up to there, if not of more; and a block from there ends within
+-- them all
+pub record Joining (b : List ℕ) (from areas most at : ℕ) (s : Sums) : Type 0 where
+  pub before : ℕ
+  pub place : at ≡ from + stopSize * before
+  pub room : before + 18 ≤ most
+  pub tells : Tells b from areas before s
+
+pub joining-none : (b : List ℕ) (from areas most : ℕ) (s : Sums) → 18 ≤ most → Joining b from areas most from s
+joining-none b from areas most s room =
+    record { before = 0; place = omega arith; room = room; tells = record { told = λ c. none-stand b from areas } }
+
+-- A block joined: so the stops up to its end are told, and each place up to there may be the next.
+module _ (b : List ℕ) (from areas most at : ℕ) (s t : Sums) (so-far : Joining b from areas most at s) (block : Tells b at areas 18 t) where
+  pub joining-told : Tells b from areas (so-far .before + 18) (joinedSums s t)
+  joining-told = tells-joined b from areas (so-far .before) 18 s t (so-far .tells) (rw (so-far .place) at block)
+
+  pub joining-more :
+      (stops next : ℕ) → next ≡ from + stopSize * stops → stops + 18 ≤ most → stops ≤ so-far .before + 18 → Joining b from areas most next (joinedSums s t)
+  joining-more stops next place room reached =
+      record {
+        before = stops;
+        place = place;
+        room = room;
+        tells = record { told = λ c. fewer-stand b from areas (so-far .before + 18) stops reached (joining-told .told c) };
+      }

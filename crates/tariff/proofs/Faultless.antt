@@ -2,17 +2,18 @@
 -- Assumes nothing.
 use Prim.Native.Nat.{ℕ, _+_, _≤_, _<_}
 use native.Mathlib.Omega.{arith}
-use mathlib.Core.Path.{_≡_}
+use mathlib.Core.Path.{_≡_, ap}
 use mathlib.Core.Bool.{true}
 use mathlib.Core.List.{List}
 use lib.ListN.{length}
+use lib.Count.{ones}
 use Rattle.tariff.specs.declared.Counts.{Counts}
 use Rattle.tariff.specs.Layout.{factorSize, stopSize, areaPlace, factorPlace, stopPlace, areasBefore, factorsBefore, stopsBefore}
 use Rattle.tariff.specs.Rules.{mostMoney, levelOf, kindOf}
 use Rattle.tariff.specs.Areas.{areaAt, factorAt, Read, isAachen, bicyclePriceOf, FaultlessTariff}
 use Rattle.tariff.specs.Contracts.{AreaThere}
 use Rattle.tariff.proofs.Entries.{AreaEntry, FactorEntry, StopEntry, area-entry, factor-entry, stop-entry}
-use Rattle.tariff.proofs.Places.{long-up, place-is, place-before}
+use Rattle.tariff.proofs.Places.{bits-cut, place-is, place-before}
 use Rattle.tariff.proofs.Passed.{finished, few-long, few-factors, few-stops}
 use Rattle.tariff.proofs.Values.{state-level, area-ranges, area-rank, factor-ranges, stop-ranges}
 use Rattle.tariff.proofs.Within.{area-aachen}
@@ -35,7 +36,7 @@ faultless b counts e =
     record {
       some = some;
       few-areas = p .reached .few;
-      long = p .reached .long;
+      longs = p .reached .longs;
       few-long = few-long b (length b) counts p some;
       factors = factors;
       some-factor = omega (arith, wide-before (levelOf b counts) 0 (counts .areas) some (omega arith));
@@ -66,8 +67,8 @@ area-there b counts i h =
     let t = faultless b counts (h .0) in
     record {
       few = omega arith;
-      inside = omega (arith, place-before b i (counts .areas) (h .1), place-is b (counts .areas));
-      long = omega (arith, long-up b i (counts .areas) (omega arith));
+      inside = omega (arith, place-before b i (counts .areas) (h .1), place-is b (counts .areas), ap ones (t .longs));
+      longs = rw (t .longs) (bits-cut b i (counts .areas) (omega arith));
     }
 
 pub factor-inside : (b : List ℕ) (counts : Counts) (k : ℕ) → Read b counts × (k < counts .factors) → factorPlace counts k + factorSize ≤ length b

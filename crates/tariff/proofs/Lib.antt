@@ -16,5 +16,7 @@ pub mod Masks
 pub mod StopLaws
 pub mod BlockLaws
 pub mod PriceLaws
+pub mod CapLaws
 pub mod AreaRunLaws
+pub mod FactorRunLaws
 pub mod Prefix

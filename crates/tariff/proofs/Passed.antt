@@ -9,13 +9,13 @@ use mathlib.Core.Path.{_≡_, refl, sym, ap, _∙_}
 use mathlib.Core.List.{List}
 use borrow.Author.Count.{below-none, below-more}
 use lib.ListN.{length}
+use lib.Count.{ones}
 use Rattle.tariff.specs.declared.Counts.{Counts}
 use Rattle.tariff.specs.declared.Reading.{Reading}
 use Rattle.tariff.specs.declared.Reading.the-variants.{Fault, Faultless}
 use Rattle.tariff.specs.declared.scan.Entry.{Entry}
 use Rattle.tariff.specs.declared.scan.Entry.the-variants.{End, Area, Factor, Stop, Faulty}
 use Rattle.tariff.specs.Layout.{
-  longOf,
   factorSize,
   stopSize,
   mostStops,
@@ -23,6 +23,7 @@ use Rattle.tariff.specs.Layout.{
   kindAt,
   areaEnd,
   areaPlace,
+  longBits,
   factorPlace,
   stopPlace,
   areasBefore,
@@ -34,7 +35,7 @@ use Rattle.tariff.specs.Layout.{
 }
 use Rattle.tariff.specs.Rules.{levelOf, kindOf, factorsDue}
 use Rattle.tariff.specs.Scan.{entryAt, readFrom, readTariff, Passed, FirstFault}
-use Rattle.tariff.proofs.Places.{place-none, place-next, long-none, long-next, place-is, long-few, long-fewer}
+use Rattle.tariff.proofs.Places.{place-none, place-next, bits-next, long-none, place-is, long-few, long-fewer}
 use Rattle.tariff.proofs.Values.{state-kind}
 use Rattle.tariff.proofs.Turns.{turn-end, turn-fault, turn-area, turn-factor, turn-stop}
 use Rattle.tariff.proofs.Entries.{area-entry, factor-entry, stop-entry, end-entry}
@@ -43,7 +44,7 @@ use Rattle.tariff.proofs.Wide.{wide-most}
 pub passed-none : (b : List ℕ) → Passed b 0 (areasBefore b 0)
 passed-none b =
     record {
-      reached = record { place = omega (arith, long-none b); inside = omega arith; few = omega arith; long = refl };
+      reached = record { place = omega (arith, long-none b); inside = omega arith; few = omega arith; longs = refl };
       area = below-none _;
       factor = below-none _;
       stop = below-none _;
@@ -52,18 +53,24 @@ passed-none b =
 module _ (b : List ℕ) (at : ℕ) (soFar : Counts) (p : Passed b at soFar) where
   -- an area stands where those before it end
   pub at-area : (kind : ℕ) → entryAt b at soFar ≡ Area kind → at ≡ areaPlace b (soFar .areas)
-  at-area kind e = let facts = area-entry b at soFar kind e in omega (arith, place-is b (soFar .areas))
+  at-area kind e =
+      let facts = area-entry b at soFar kind e in omega (arith, ap ones (p .reached .longs), place-is b (soFar .areas))
 
   pub passed-area : (kind : ℕ) → entryAt b at soFar ≡ Area kind → Passed b (areaEnd b at) (oneArea soFar kind)
   passed-area kind e =
       let facts = area-entry b at soFar kind e in
       let here = at-area kind e in
-      let long : longOf kind ≡ longOf (kindAt b at) = ap longOf (facts .kind-is) in
-      let next : longOf (kindAt b at) ≡ longOf (kindAt b (areaPlace b (soFar .areas))) = ap (λ (place : ℕ). longOf (kindAt b place)) here in
+      let kinds : kind ≡ kindAt b (areaPlace b (soFar .areas)) = facts .kind-is ∙ ap (kindAt b) here in
+      let longs : oneArea soFar kind .longs ≡ longBits b (soFar .areas + 1) = rw (kinds, p .reached .longs) (sym (bits-next b (soFar .areas))) in
       record {
         reached =
-            record { place = omega arith; inside = facts .fits; few = omega arith; long = omega (arith, long-next b (soFar .areas)) };
-        area = below-more _ _ (p .area) (rw (facts .kind-is, here, p .reached .long, facts .here .no-factor, facts .here .no-stop) at e);
+            record {
+              place = omega (arith, ap ones longs, place-is b (soFar .areas + 1), place-next b (soFar .areas), ap (areaEnd b) here);
+              inside = facts .fits;
+              few = omega arith;
+              longs = longs;
+            };
+        area = below-more _ _ (p .area) (rw (facts .kind-is, here, p .reached .longs, facts .here .no-factor, facts .here .no-stop) at e);
         factor = λ k h. absurd (omega arith);
         stop = λ j h. absurd (omega arith);
       }
@@ -73,7 +80,7 @@ module _ (b : List ℕ) (at : ℕ) (soFar : Counts) (p : Passed b at soFar) wher
       let facts = factor-entry b at soFar e in
       let here : at ≡ factorPlace soFar (soFar .factors) = omega arith in
       record {
-        reached = record { place = omega arith; inside = facts .fits; few = p .reached .few; long = p .reached .long };
+        reached = record { place = omega arith; inside = facts .fits; few = p .reached .few; longs = p .reached .longs };
         area = p .area;
         factor = below-more _ _ (p .factor) (rw (here, facts .no-stop) at e);
         stop = λ j h. absurd (omega arith);
@@ -83,7 +90,7 @@ module _ (b : List ℕ) (at : ℕ) (soFar : Counts) (p : Passed b at soFar) wher
   passed-stop e =
       let facts = stop-entry b at soFar e in
       record {
-        reached = record { place = omega arith; inside = facts .fits; few = p .reached .few; long = p .reached .long };
+        reached = record { place = omega arith; inside = facts .fits; few = p .reached .few; longs = p .reached .longs };
         area = p .area;
         factor = p .factor;
         stop = below-more _ _ (p .stop) (rw (p .reached .place) at e);
@@ -97,11 +104,11 @@ most (suc n) bound each = each n (omega arith)
 -- Not all areas are of kind 8, and at most so many factor records as are due and 1,000 stops go before a place, so it lies at 14,523 or
 -- before: where 32 areas, 31 of kind 8, with a factor record each and 1,000 stops end.
 module _ (b : List ℕ) (at : ℕ) (soFar : Counts) (p : Passed b at soFar) where
-  pub few-long : 0 < soFar .areas → soFar .long < soFar .areas
+  pub few-long : 0 < soFar .areas → ones (soFar .longs) < soFar .areas
   few-long some =
       let first = area-entry b (areaPlace b 0) (areasBefore b 0) (kindOf b soFar 0) (p .area 0 some) in
       let common = rw (place-none b) at (state-kind b soFar (first .right)) in
-      omega (arith, p .reached .long, long-fewer b common (soFar .areas) some)
+      omega (arith, ap ones (p .reached .longs), long-fewer b common (soFar .areas) some)
 
   pub due-factors : soFar .factors ≤ factorsDue b soFar
   due-factors =
@@ -118,7 +125,7 @@ module _ (b : List ℕ) (at : ℕ) (soFar : Counts) (p : Passed b at soFar) wher
       elim (decLt 0 (soFar .areas)) [
         | yes some ↦ omega (arith, p .reached .place, p .reached .few, few-long some, few-factors, few-stops)
         | no none ↦
-            omega (arith, p .reached .place, p .reached .few, p .reached .long, long-few b (soFar .areas), few-factors, few-stops)
+            omega (arith, p .reached .place, p .reached .few, ap ones (p .reached .longs), long-few b (soFar .areas), few-factors, few-stops)
       ]
 
 -- The reading of the tariff comes to a place, with so many turns left and one more.
@@ -178,11 +185,11 @@ comes b at soFar p =
     let facts = area-entry b (areaPlace b i) (areasBefore b i) kind is in (
       omega (arith, place-next b i),
       omega (arith, place-next b i),
-      λ turns. rw (place-next b i, long-next b i) (turn-area turns b (areaPlace b i) (areasBefore b i) kind is),
+      λ turns. rw (place-next b i, bits-next b i) (turn-area turns b (areaPlace b i) (areasBefore b i) kind is),
     ))
     (rw (place-none b) (comes-first b))
     in
-    let first-factor : areaPlace b (soFar .areas) ≡ factorPlace soFar 0 = omega (arith, place-is b (soFar .areas), p .reached .long) in
+    let first-factor : areaPlace b (soFar .areas) ≡ factorPlace soFar 0 = omega (arith, place-is b (soFar .areas), ap ones (p .reached .longs)) in
     let factors =
     after-equal b factorSize (omega arith) (factorPlace soFar) (λ n. omega arith) (factorsBefore soFar) (soFar .factors)
     (λ k h.
@@ -190,7 +197,7 @@ comes b at soFar p =
       factor-entry b (factorPlace soFar k) (factorsBefore soFar k) is .fits,
       λ turns. turn-factor turns b (factorPlace soFar k) (factorsBefore soFar k) is,
     ))
-    (rw (first-factor, sym (p .reached .long)) at areas)
+    (rw (first-factor, sym (p .reached .longs)) at areas)
     in
     let first-stop : factorPlace soFar (soFar .factors) ≡ stopPlace soFar 0 = omega arith in
     rw (p .reached .place)

@@ -8,6 +8,7 @@ use mathlib.Core.Path.{_≡_, refl, sym, ap, _∙_}
 use mathlib.Core.List.{List}
 use borrow.Author.Tests.{le-ltb}
 use lib.ListN.{length, take}
+use lib.Count.{ones}
 use lib.Seq.{take-all, length-take-le}
 use Rattle.wire.specs.Frame.{longestRecord, frameAt}
 use Rattle.wire.specs.declared.Frame.{Frame}
@@ -26,7 +27,7 @@ use Rattle.tariff.specs.Layout.{
   decidingBytes,
   kindAt,
   areaPlace,
-  longAreas,
+  longBits,
   factorPlace,
   stopPlace,
   areasBefore,
@@ -117,8 +118,8 @@ module _ (n : ℕ) (b : List ℕ) (there : n ≤ length b) where
     first-places zero few = refl
     first-places (suc i) few = rw (first-places i (omega arith), first-kind i few)
 
-    first-longs : (i : ℕ) → i ≤ mostAreas → longAreas (take n b) i ≡ longAreas b i
-    unfolding longAreas
+    first-longs : (i : ℕ) → i ≤ mostAreas → longBits (take n b) i ≡ longBits b i
+    unfolding longBits
     first-longs zero few = refl
     first-longs (suc i) few = rw (first-longs i (omega arith), first-places i (omega arith), first-kind i few)
 
@@ -196,14 +197,14 @@ module _ (n : ℕ) (b : List ℕ) (there : n ≤ length b) (wide : decidingBytes
       let few = p .reached .few in
       let few-of = few-stops b at soFar p in
       let few-between = few-factors b at soFar p in
-      let few-longs : soFar .long ≤ soFar .areas = omega (arith, p .reached .long, long-few b (soFar .areas)) in
+      let few-longs : ones (soFar .longs) ≤ soFar .areas = omega (arith, ap ones (p .reached .longs), long-few b (soFar .areas)) in
       record {
         reached =
             record {
               place = p .reached .place;
               inside = omega (arith, first-length n b there, early b at soFar p);
               few = few;
-              long = p .reached .long ∙ sym (first-longs n b there (omega arith) (soFar .areas) few);
+              longs = p .reached .longs ∙ sym (first-longs n b there (omega arith) (soFar .areas) few);
             };
         area = λ i h.
             rw (

@@ -24,7 +24,7 @@ use Rattle.wire.proofs.Tests.{told}
 use Rattle.tariff.proofs.Entries.{stop-frame, stop-is-due, stop-holds}
 use Rattle.tariff.proofs.Passed.{passed-stop}
 
--- None is asked for; one stands; so many, and so many from where they end.
+-- None is asked for; one stands; so many, and so many from where they end; of so many, fewer.
 module _ (b : List ℕ) (from areas : ℕ) where
   pub none-stand : StopsStand b from areas 0
   none-stand = record { each = below-none _ }
@@ -45,6 +45,9 @@ module _ (b : List ℕ) (from areas : ℕ) where
                   rw place at (rest .each (i - m) (omega arith))
             ];
       }
+
+  pub fewer-stand : (m n : ℕ) → n ≤ m → StopsStand b from areas m → StopsStand b from areas n
+  fewer-stand m n few all = record { each = λ i h. all .each i (omega arith) }
 
 module _ (b : List ℕ) where
   -- the length and kind of a stop are those of a whole frame

@@ -89,13 +89,6 @@ module _ (b : List ℕ) (counts : Counts) (a c : ℕ) where
 pub within-refl : (b : List ℕ) (counts : Counts) (a : ℕ) → liesWithin b counts a a ≡ true
 within-refl b counts a = within-self b counts a a refl
 
--- Lying within, by the two areas above as they were found.
-pub within-found :
-    (b : List ℕ) (counts : Counts) (inner outer above top : ℕ) → above ≡ parentOf b counts inner → top ≡ parentOf b counts above
-    → eqb inner outer || eqb above outer || eqb top outer ≡ liesWithin b counts inner outer
-unfolding liesWithin among foldUp
-within-found b counts inner outer above top e e′ = rw (e′, e)
-
 -- What the rank of an area says of the area above it: the state is its own parent, any other parent is earlier, and one level up.
 pub record Above (b : List ℕ) (counts : Counts) (a : ℕ) : Type 0 where
   pub level : levelOf b counts a ≤ 2
@@ -171,6 +164,21 @@ module _ {b : List ℕ} {counts : Counts} (t : FaultlessTariff b counts) where
 
   pub within-state : (a : ℕ) → a < counts .areas → liesWithin b counts a 0 ≡ true
   within-state a h = within-top b counts a 0 (parent-top a h)
+
+  -- lying within, by the area above as it was found; above that is the state
+  pub within-found :
+      (inner outer above : ℕ) → inner < counts .areas → above ≡ parentOf b counts inner
+      → eqb inner outer || eqb above outer || eqb 0 outer ≡ liesWithin b counts inner outer
+  unfolding liesWithin among foldUp
+  within-found inner outer above h e = rw (e, parent-top inner h)
+
+  -- an area that is neither another nor its parent nor the state does not contain it
+  outside : (a c : ℕ) → a < counts .areas → (a ≡ c → ⊥) → (parentOf b counts a ≡ c → ⊥) → (c ≡ 0 → ⊥) → liesWithin b counts a c ≡ false
+  outside a c h self parent top = go (liesWithin b counts a c) refl
+    where
+      go : (t : Bool) → liesWithin b counts a c ≡ t → t ≡ false
+      go false e = refl
+      go true e = absurd (within-cases b counts a c e self parent (λ is. top (sym is ∙ parent-top a h)))
 
   -- what an area lies within has no greater number
   pub within-most : (a c : ℕ) → a < counts .areas → liesWithin b counts a c ≡ true → c ≤ a
@@ -269,6 +277,34 @@ module _ {b : List ℕ} {counts : Counts} (t : FaultlessTariff b counts) where
               within-cases b counts a d e (λ self. absurd (passed a d out e′ self))
               (λ parent. absurd (passed above d out′ e′ (up ∙ parent))) (λ to. within-self b counts top d (sym is ∙ to));
         }
+
+    -- The same by the areas above the two, `above` and `near`: neither is the other, the first is not the state and not the second's parent.
+    module _
+        (h′ : c < counts .areas)
+        (near above : ℕ)
+        (near-is : near ≡ parentOf b counts c)
+        (above-is : above ≡ parentOf b counts a)
+        (differ : a ≡ c → ⊥)
+        (below : a ≡ 0 → ⊥)
+        (beside : near ≡ a → ⊥)
+      where
+        not-own : liesWithin b counts c a ≡ false
+        not-own = outside c a h′ (λ e. differ (sym e)) (λ e. beside (near-is ∙ e)) below
+
+        pub meets-other : above ≡ c → Smallest b counts a c above
+        meets-other e = smallest-parent above above-is not-own (within-self b counts c above (sym e))
+
+        pub meets-parent : above ≡ near → Smallest b counts a c above
+        meets-parent e = smallest-parent above above-is not-own (within-parent b counts c above (sym near-is ∙ sym e))
+
+        pub meets-state : (above ≡ c → ⊥) → (above ≡ near → ⊥) → Smallest b counts a c 0
+        meets-state no-other no-parent =
+            elim (ℕ-discrete above 0) [
+              | yes top ↦ subst (Smallest b counts a c) top (smallest-parent above above-is not-own (rw top (within-state c h′)))
+              | no low ↦
+                  smallest-top above 0 above-is (sym (parent-top a h) ∙ ap (parentOf b counts) (sym above-is)) h′ not-own
+                  (outside c above h′ (λ e. no-other (sym e)) (λ e. no-parent (sym e ∙ sym near-is)) low)
+            ]
 
     pub smallest : c < counts .areas → Smallest b counts a c (smallestOf b counts a c)
     smallest h′ = own (liesWithin b counts c a) refl

@@ -27,3 +27,12 @@ pub packed-word :
     (b : List ℕ) (q : ℕ) → getLe 8 b q ≡ packed (getLe 2 b q) (getLe 2 b (q + 2)) (getLe 2 b (q + 4)) (getLe 1 b (q + 6)) (getLe 1 b (q + 7))
 unfolding getLe
 packed-word b q = simp add-assoc (omega arith)
+
+-- four numbers of two bytes
+abbrev pub lanes : (a b c d : ℕ) → ℕ
+lanes a b c d = a + (2 ^ 16 * b + (2 ^ 32 * c + 2 ^ 48 * d))
+
+pub lanes-word :
+    (b : List ℕ) (q : ℕ) → getLe 8 b q ≡ lanes (getLe 2 b q) (getLe 2 b (q + 2)) (getLe 2 b (q + 4)) (getLe 2 b (q + 6))
+unfolding getLe
+lanes-word b q = simp add-assoc (omega arith)

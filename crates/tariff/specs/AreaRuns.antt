@@ -1,16 +1,16 @@
--- What serves the contracts of area_run.rt and prices.rt alone.
+-- What serves the contracts of area_run.rt, prices.rt and cap_words.rt alone.
 use Prim.Native.Nat.{ℕ, _<_}
 use mathlib.Core.Path.{_≡_}
 use mathlib.Core.Logic.{_⊎_}
-use mathlib.Core.Bool.{Bool, true}
+use mathlib.Core.Bool.{Bool, true, _&&_}
 use mathlib.Core.List.{List}
 use Rattle.wire.specs.Frame.{frameAt}
 use Rattle.wire.specs.declared.Frame.the-variants.{Whole}
 use Rattle.tariff.specs.declared.area_run.Run.{Run}
 use Rattle.tariff.specs.declared.scan.Entry.the-variants.{Area}
 use Rattle.tariff.specs.Layout.{commonKind, aachenKind, areaBodyOf}
-use Rattle.tariff.specs.Fields.{areaFields}
-use Rattle.tariff.specs.Rules.{factorsDue, pricesRight}
+use Rattle.tariff.specs.Fields.{areaFields, longFields}
+use Rattle.tariff.specs.Rules.{factorsDue, pricesRight, capsRight, money, ticketsRight, longRight}
 use Rattle.tariff.specs.Scan.{entryAt, Passed}
 
 -- every record before a place is faultless, and all are areas
@@ -38,3 +38,15 @@ pub record AreaFound (b : List ℕ) (run : Run) (kind : ℕ) (r : Bool) : Type 0
 -- what prices that were found tell: right ones
 pub record PricesFound (b : List ℕ) (at : ℕ) (r : Bool) : Type 0 where
   pub told : r ≡ true → pricesRight (areaFields b at) ≡ true
+
+-- what caps that were found tell: right ones
+pub record CapsFound (b : List ℕ) (at : ℕ) (r : Bool) : Type 0 where
+  pub told : r ≡ true → capsRight (areaFields b at) ≡ true
+
+-- what child tickets and a bicycle price that were found tell: right ones
+pub record TicketsFound (b : List ℕ) (at : ℕ) (r : Bool) : Type 0 where
+  pub told : r ≡ true → ticketsRight (areaFields b at) (longFields b at) && money (longFields b at .«bicycle_price») ≡ true
+
+-- what all that an area record of kind 8 has besides tells, where it was found: it is right
+pub record LongFound (b : List ℕ) (at : ℕ) (r : Bool) : Type 0 where
+  pub told : r ≡ true → longRight (areaFields b at) (longFields b at) ≡ true

@@ -6,6 +6,7 @@ use mathlib.Core.List.{List}
 use mathlib.Core.Bool.{Bool, true, cond}
 use lib.ListN.{length}
 use lib.Dec.{eqb}
+use lib.Count.{ones}
 use Rattle.units.specs.declared.Cap.{Cap}
 use Rattle.units.specs.declared.Cap.the-variants as day
 use Rattle.caps.specs.Tree.{among}
@@ -22,7 +23,7 @@ use Rattle.tariff.specs.declared.Factor.{Factor}
 use Rattle.tariff.specs.declared.Stop.{Stop}
 use Rattle.tariff.specs.declared.Counts.{Counts}
 use Rattle.tariff.specs.declared.Reading.the-variants.{Faultless}
-use Rattle.tariff.specs.Layout.{commonKind, aachenKind, mostAreas, mostStops, kindAt, areaPlace, longAreas, factorPlace, stopPlace}
+use Rattle.tariff.specs.Layout.{commonKind, aachenKind, mostAreas, mostStops, kindAt, areaPlace, longBits, factorPlace, stopPlace}
 use Rattle.tariff.specs.Fields.{areaFields, longFields, factorFields, stopFields}
 use Rattle.tariff.specs.Rules.{
   mostBasePrice,
@@ -198,8 +199,8 @@ pub record StopRanges (areas : ℕ) (stop : Stop) : Type 0 where
 pub record FaultlessTariff (b : List ℕ) (counts : Counts) : Type 0 where
   pub some : 1 ≤ counts .areas
   pub few-areas : counts .areas ≤ mostAreas
-  pub long : counts .long ≡ longAreas b (counts .areas)
-  pub few-long : counts .long < counts .areas
+  pub longs : counts .longs ≡ longBits b (counts .areas)
+  pub few-long : ones (counts .longs) < counts .areas
   pub factors : counts .factors ≡ factorsDue b counts
   pub some-factor : 1 ≤ counts .factors
   pub few-factors : counts .factors ≤ mostAreas

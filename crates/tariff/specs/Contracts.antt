@@ -1,5 +1,5 @@
 -- What serves contracts alone: records that requires and ensures speak of.
-use Prim.Native.Nat.{ℕ, _+_, _*_, _≤_, _<_}
+use Prim.Native.Nat.{ℕ, _+_, _*_, _%_, _^_, _≤_, _<_}
 use mathlib.Core.Path.{_≡_}
 use mathlib.Core.List.{List}
 use mathlib.Core.Bool.{Bool, true, _&&_}
@@ -10,24 +10,24 @@ use Rattle.tariff.specs.declared.Area.{Area}
 use Rattle.tariff.specs.declared.Limits.{Limits}
 use Rattle.tariff.specs.declared.Counts.{Counts}
 use Rattle.tariff.specs.declared.Factor.{Factor}
-use Rattle.tariff.specs.Layout.{stopBody, stopSize, mostAreas, areaEnd, areaPlace, longAreas}
+use Rattle.tariff.specs.Layout.{stopBody, stopSize, mostAreas, areaEnd, areaPlace, longBits}
 use Rattle.tariff.specs.Fields.{stopFields}
 use Rattle.tariff.specs.Rules.{mostMoney, mostFactor, levelOf, flatOf, stopRight}
 use Rattle.tariff.specs.Areas.{parentOf, bicyclePriceOf}
 use Rattle.tariff.specs.Factors.{regionOf, factorOf}
 
--- an area's record is there, whatever follows it, and the areas of kind 8 before it are counted: so it is while the tariff is still being
--- read
+-- an area's record is there, whatever follows it, and it is known which areas before it are of kind 8: so it is while the tariff is still
+-- being read
 pub record AreaThere (b : List ℕ) (counts : Counts) (number : ℕ) : Type 0 where
   pub few : number < mostAreas
   pub inside : areaEnd b (areaPlace b number) ≤ length b
-  pub long : longAreas b number ≤ counts .long
+  pub longs : counts .longs % 2 ^ number ≡ longBits b number
 
 -- the records of the areas so far are there
 pub record AreasThere (b : List ℕ) (soFar : Counts) : Type 0 where
   pub few : soFar .areas ≤ mostAreas
   pub inside : areaPlace b (soFar .areas) ≤ length b
-  pub long : soFar .long ≡ longAreas b (soFar .areas)
+  pub longs : soFar .longs ≡ longBits b (soFar .areas)
 
 -- what an area's caps are made of
 abbrev pub limitsOf : Area → Limits

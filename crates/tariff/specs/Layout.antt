@@ -1,10 +1,11 @@
 -- Rules, sections 3 and 4: a tariff is its area records, then its factor records, then its stop records. How long each is and where each
 -- begins. An area record has one of two lengths, by its kind, so an area is found from the one before it; where the areas end, and what is
 -- behind them, is found by the counts. No other crate knows where a record stands.
-use Prim.Native.Nat.{ℕ, zero, suc, _+_, _-_, _*_}
+use Prim.Native.Nat.{ℕ, zero, suc, _+_, _-_, _*_, _^_}
 use mathlib.Core.List.{List}
 use mathlib.Core.Bool.{cond}
 use lib.Dec.{eqb}
+use lib.Count.{ones}
 use Rattle.wire.specs.Number.{getLe}
 use Rattle.wire.specs.Frame.{headSize, longestRecord}
 use Rattle.tariff.specs.declared.Counts.{Counts}
@@ -66,14 +67,14 @@ unfoldable pub areaPlace : List ℕ → ℕ → ℕ
 areaPlace b zero = 0
 areaPlace b (suc number) = areaEnd b (areaPlace b number)
 
--- how many of the first areas are of kind 8
-unfoldable pub longAreas : List ℕ → ℕ → ℕ
-longAreas b zero = 0
-longAreas b (suc number) = longAreas b number + longOf (kindAt b (areaPlace b number))
+-- which of the first areas are of kind 8, a binary digit for each: that of area i counts 2 ^ i
+unfoldable pub longBits : List ℕ → ℕ → ℕ
+longBits b zero = 0
+longBits b (suc number) = longOf (kindAt b (areaPlace b number)) * 2 ^ number + longBits b number
 
--- where the areas end
+-- where the areas end: as many digits are ones as areas are of kind 8
 abbrev pub areasEnd : Counts → ℕ
-areasEnd counts = areaSize * counts .areas + longMore * counts .long
+areasEnd counts = areaSize * counts .areas + longMore * ones (counts .longs)
 
 -- factor records follow the areas, numbered from 0 in order
 abbrev pub factorPlace : Counts → ℕ → ℕ
@@ -94,19 +95,20 @@ decidingBytes = longestTariff + longestRecord
 -- the counts so far, where areas alone go before; where some factor records, or some stops, of the whole go before; and with an area of
 -- some kind, so many factor records or so many stops more
 abbrev pub areasBefore : List ℕ → ℕ → Counts
-areasBefore b number = record { areas = number; long = longAreas b number; factors = 0; stops = 0 }
+areasBefore b number = record { areas = number; longs = longBits b number; factors = 0; stops = 0 }
 
 abbrev pub factorsBefore : Counts → ℕ → Counts
-factorsBefore counts number = record { areas = counts .areas; long = counts .long; factors = number; stops = 0 }
+factorsBefore counts number = record { areas = counts .areas; longs = counts .longs; factors = number; stops = 0 }
 
 abbrev pub stopsBefore : Counts → ℕ → Counts
-stopsBefore counts number = record { areas = counts .areas; long = counts .long; factors = counts .factors; stops = number }
+stopsBefore counts number = record { areas = counts .areas; longs = counts .longs; factors = counts .factors; stops = number }
 
 abbrev pub oneArea : Counts → ℕ → Counts
-oneArea soFar kind = record { areas = soFar .areas + 1; long = soFar .long + longOf kind; factors = soFar .factors; stops = soFar .stops }
+oneArea soFar kind =
+    record { areas = soFar .areas + 1; longs = longOf kind * 2 ^ soFar .areas + soFar .longs; factors = soFar .factors; stops = soFar .stops }
 
 abbrev pub moreFactors : Counts → ℕ → Counts
-moreFactors soFar n = record { areas = soFar .areas; long = soFar .long; factors = soFar .factors + n; stops = soFar .stops }
+moreFactors soFar n = record { areas = soFar .areas; longs = soFar .longs; factors = soFar .factors + n; stops = soFar .stops }
 
 abbrev pub moreStops : Counts → ℕ → Counts
-moreStops soFar n = record { areas = soFar .areas; long = soFar .long; factors = soFar .factors; stops = soFar .stops + n }
+moreStops soFar n = record { areas = soFar .areas; longs = soFar .longs; factors = soFar .factors; stops = soFar .stops + n }

@@ -9,3 +9,4 @@ pub mod Levels
 pub mod Contracts
 pub mod Blocks
 pub mod AreaRuns
+pub mod FactorRuns

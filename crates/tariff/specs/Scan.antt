@@ -26,7 +26,7 @@ use Rattle.tariff.specs.Layout.{
   mostStops,
   areaEnd,
   areaPlace,
-  longAreas,
+  longBits,
   factorPlace,
   stopPlace,
   areasBefore,
@@ -40,12 +40,12 @@ use Rattle.tariff.specs.Fields.{areaFields, longFields, factorFields, st
 use Rattle.tariff.specs.Rules.{kindOf, areaRight, factorsDue, factorRight, stopRight}
 use Rattle.tariff.specs.WrongValues.{WrongArea, WrongFactor, WrongStop}
 
--- a place that so many areas, so many of them of kind 8, factor records and stops reach
+-- a place that so many areas, those of kind 8 among them, factor records and stops reach
 pub record Reached (b : List ℕ) (at : ℕ) (soFar : Counts) : Type 0 where
   pub place : at ≡ stopPlace soFar (soFar .stops)
   pub inside : at ≤ length b
   pub few : soFar .areas ≤ mostAreas
-  pub long : soFar .long ≡ longAreas b (soFar .areas)
+  pub longs : soFar .longs ≡ longBits b (soFar .areas)
 
 -- an area record of one of its kinds: its body is 25 bytes in kind 1, 38 in kind 8, no factor record and no stop goes before it and fewer
 -- than 32 areas do, or it is 2; its values are right, or it is 3

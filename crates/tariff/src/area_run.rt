@@ -2,8 +2,11 @@
 // wrong, and whatever is no area, is for the loop over the records (scan.rt).
 //
 // Why it is right: length and kind of a record are compared as one number with those of both kinds of area, the prices are looked at together
-// (prices.rt), and the other rules are the very functions that the loop over the records asks. Where an area is not found, nothing is said, and that loop decides.
+// (prices.rt), and so are the caps and what kind 8 has besides (cap_words.rt); the area's place is for the very function that the loop over
+// the records asks. Where an area is not found, nothing is said, and that loop decides.
 use crate::Counts;
+use crate::cap_words::caps_found;
+use crate::cap_words::long_found;
 use crate::factors::wide_with;
 use crate::fields::AACHEN_KIND;
 use crate::fields::AREA_SIZE;
@@ -14,23 +17,18 @@ use crate::fields::area_fields;
 use crate::fields::level_at;
 use crate::fields::long_of;
 use crate::prices::prices_found;
-use crate::rules::caps_right;
 use crate::rules::place_right;
-use crate::rules::rest_right;
 use wire::four_at;
-ghost use mathlib.Core.Path.{_≡_};
-ghost use mathlib.Core.Bool.{cond};
 ghost use Prim.Native.Nat.{_≤_, _<_};
 ghost use lib.ListN.{length};
-ghost use lib.Dec.{eqb};
-ghost use Rattle.tariff.specs.Layout.{mostAreas, longAreas};
+ghost use Rattle.tariff.specs.Layout.{mostAreas};
 ghost use Rattle.tariff.specs.AreaRuns.{AreasPassed, AreaNext, KindFound, AreaFound};
 
 // Where the areas so far end, with how many factor records are due for them.
 pub struct Run {
     pub at: usize,
     pub so_far: Counts,
-    pub due: u16,
+    pub due: u8,
 }
 
 // The length and the kind of an area record as one number, of either kind.
@@ -57,9 +55,9 @@ fn kind_found(b: &[u8], at: usize) -> u16
     0
 }
 
-// Whether it is a faultless area, where so many of the first areas are known to be of kind 1.
-fn area_found(b: &[u8], run: Run, plain: u16, kind: u16) -> bool
-    requires { ⌜ AreasPassed (now b) run × (run .«so_far» .areas < mostAreas) × (longAreas (now b) plain ≡ 0) × KindFound (now b) (run .at) kind ⌝ }
+// Whether it is a faultless area.
+fn area_found(b: &[u8], run: Run, kind: u16) -> bool
+    requires { ⌜ AreasPassed (now b) run × (run .«so_far» .areas < mostAreas) × KindFound (now b) (run .at) kind ⌝ }
     ensures { λ r. ⌜ AreaFound (now (b .entry)) run kind r ⌝ }
 {
     if kind == 0 {
@@ -70,25 +68,17 @@ fn area_found(b: &[u8], run: Run, plain: u16, kind: u16) -> bool
     if !prices_found(b, at) {
         return false;
     }
+    if !caps_found(b, at) {
+        return false;
+    }
     let f = area_fields(b, at);
-    if !caps_right(f) {
-        return false;
+    // A branch, and not a call with the kind: so the record's length is known on each way, and the next place need not wait for it.
+    if kind == AACHEN_KIND {
+        if !long_found(b, at) {
+            return false;
+        }
     }
-    if !rest_right(b, at, kind, f) {
-        return false;
-    }
-    place_right(b, so_far, plain, kind, f)
-}
-
-// How many of the first areas are known to be of kind 1: all so far, or as many as before.
-fn plain_areas(so_far: Counts, before: u16) -> u16
-    ensures { λ r. ⌜ r ≡ cond (eqb («so_far» .long) 0) («so_far» .areas) before ⌝ }
-{
-    if so_far.long == 0 {
-        so_far.areas
-    } else {
-        before
-    }
+    place_right(b, so_far, kind, f)
 }
 
 // Past an area.
@@ -103,9 +93,9 @@ pub fn after_area(b: &[u8], run: Run, kind: u16) -> Run
         at: at + AREA_SIZE + LONG_MORE * long,
         so_far: Counts {
             areas: so_far.areas + 1,
-            long: so_far.long + long as u16,
             factors: so_far.factors,
             stops: so_far.stops,
+            longs: ((long as u32) << so_far.areas) + so_far.longs,
         },
         due: wide_with(level_at(b, at), run.due),
     }
@@ -117,14 +107,12 @@ pub fn areas_found(b: &[u8], from: Run) -> Run
     ensures { λ r. ⌜ AreasPassed (now (b .entry)) r × (from .at ≤ r .at) ⌝ }
 {
     let mut run = from;
-    let mut plain = plain_areas(run.so_far, 0);
-    while run.so_far.areas < MOST_AREAS {
+    while (run.so_far.areas as u16) < MOST_AREAS {
         let kind = kind_found(b, run.at);
-        if !area_found(b, run, plain, kind) {
+        if !area_found(b, run, kind) {
             break;
         }
         run = after_area(b, run, kind);
-        plain = plain_areas(run.so_far, plain);
     }
     run
 }

@@ -9,12 +9,10 @@ use crate::TripCap;
 use crate::fields::AACHEN_KIND;
 use crate::fields::AREA_SIZE;
 use crate::fields::AreaFields;
-use crate::fields::FACTOR_SIZE;
 use crate::fields::LONG_MORE;
 use crate::fields::LongFields;
 use crate::fields::NO_DAY_CAP;
 use crate::fields::STOP_SIZE;
-use crate::fields::area_end;
 use crate::fields::area_fields;
 use crate::fields::bicycle_price_at;
 use crate::fields::day_cap_at;
@@ -33,9 +31,9 @@ use units::Metres;
 use units::Minutes;
 ghost use mathlib.Core.Path.{_≡_};
 ghost use mathlib.Core.Bool.{true};
-ghost use Prim.Native.Nat.{_≤_, _<_};
+ghost use Prim.Native.Nat.{_%_, _^_, _≤_, _<_};
 ghost use lib.ListN.{length};
-ghost use Rattle.tariff.specs.Layout.{mostAreas, mostStops, kindAt, areaEnd, areaPlace, stopPlace};
+ghost use Rattle.tariff.specs.Layout.{mostAreas, kindAt, areaEnd, areaPlace, stopPlace};
 ghost use Rattle.tariff.specs.Fields.{longFields};
 ghost use Rattle.tariff.specs.Areas.{
   capOf,
@@ -150,30 +148,36 @@ fn area_of(f: AreaFields, kind: Kind) -> Area
     }
 }
 
-// Where the record of an area begins. Where no area is of kind 8 all records have one length; else those before it are walked over.
+// Which areas before one are of kind 8: the bits below its own.
+fn long_before(longs: u32, number: usize) -> u32
+    requires { ⌜ number < mostAreas ⌝ }
+    ensures { λ r. ⌜ r ≡ longs % 2 ^ number ⌝ }
+{
+    longs % (1 << number)
+}
+
+// Where the record of an area begins: each before it has one length, and so much more if it is of kind 8. Bits are slow to count, so that is
+// done only where there are some.
 pub fn area_place(b: &[u8], counts: Counts, number: usize) -> usize
     requires { ⌜ AreaThere (now b) counts number ⌝ }
     ensures { λ r. ⌜ r ≡ areaPlace (now (b .entry)) number ⌝ }
 {
-    if counts.long == 0 {
+    if counts.longs == 0 {
         return AREA_SIZE * number;
     }
-    let mut at = 0;
-    for i in 0..number {
-        at = area_end(b, at);
+    let before = long_before(counts.longs, number);
+    if before == 0 {
+        return AREA_SIZE * number;
     }
-    at
+    AREA_SIZE * number + LONG_MORE * u32::count_ones(before) as usize
 }
 
-// Where the record of a stop begins.
-fn stop_place(counts: Counts, number: usize) -> usize
-    requires { ⌜ (counts .areas ≤ mostAreas) × (counts .long ≤ mostAreas) × (counts .factors ≤ mostAreas) × (number < mostStops) ⌝ }
+// Where the record of a stop begins, from the tariff's end: no kind of area has to be known.
+fn stop_place(tariff: &[u8], counts: Counts, number: usize) -> usize
+    requires { ⌜ (length (now tariff) ≡ stopPlace counts (counts .stops)) × (number < counts .stops) ⌝ }
     ensures { λ r. ⌜ r ≡ stopPlace counts number ⌝ }
 {
-    AREA_SIZE * counts.areas as usize
-        + LONG_MORE * counts.long as usize
-        + FACTOR_SIZE * counts.factors as usize
-        + STOP_SIZE * number
+    tariff.len() - STOP_SIZE * (counts.stops as usize - number)
 }
 
 pub fn area(tariff: &[u8], counts: Counts, number: usize) -> Area
@@ -189,7 +193,7 @@ pub fn stop(tariff: &[u8], counts: Counts, number: usize) -> Stop
     requires { ⌜ Read (now tariff) counts × (number < counts .stops) ⌝ }
     ensures { λ r. ⌜ r ≡ stopAt (now (tariff .entry)) counts number ⌝ }
 {
-    let f = stop_fields(tariff, stop_place(counts, number));
+    let f = stop_fields(tariff, stop_place(tariff, counts, number));
     Stop {
         area: f.area,
         x: Metres(f.x),
@@ -262,28 +266,41 @@ pub fn town(tariff: &[u8], counts: Counts, number: usize) -> Town
     }
 }
 
+// There are three levels: the area above the area above any is the state.
+const STATE: usize = 0;
+
 // Whether an area is, or lies within, another.
 pub fn lies_within(tariff: &[u8], counts: Counts, inner: usize, outer: usize) -> bool
     requires { ⌜ Read (now tariff) counts × (inner < counts .areas) ⌝ }
     ensures { λ r. ⌜ r ≡ liesWithin (now (tariff .entry)) counts inner outer ⌝ }
 {
     let above = parent(tariff, counts, inner);
-    (inner == outer) | (above == outer) | (parent(tariff, counts, above) == outer)
+    (inner == outer) | (above == outer) | (STATE == outer)
 }
 
-// The smallest area that contains two: the walk goes up from the one until the other lies within.
+// The smallest area that contains two: the walk goes up from the one until the other lies within. Mostly both are one, and no area is looked up.
 pub fn smallest_containing(tariff: &[u8], counts: Counts, a: usize, b: usize) -> usize
     requires { ⌜ Read (now tariff) counts × ((a < counts .areas) × (b < counts .areas)) ⌝ }
     ensures { λ r. ⌜ Smallest (now (tariff .entry)) counts a b r ⌝ }
 {
     // Borrowed anew, it comes in a register; else each caller keeps a copy of the slice on the stack for us.
     let tariff = &*tariff;
-    if lies_within(tariff, counts, b, a) {
+    if a == b {
+        return a;
+    }
+    if a == STATE {
+        return a;
+    }
+    let near = parent(tariff, counts, b);
+    if near == a {
         return a;
     }
     let above = parent(tariff, counts, a);
-    if lies_within(tariff, counts, b, above) {
+    if above == b {
         return above;
     }
-    parent(tariff, counts, above)
+    if above == near {
+        return above;
+    }
+    STATE
 }

@@ -1,5 +1,6 @@
-// Stops in blocks: most of a tariff is stops, and 27 that stand one after another are checked with one test. A rest of them is taken three at
-// a time; a smaller rest, and whatever is wrong, is for the loop over the records (scan.rt).
+// Stops in blocks: most of a tariff is stops, and all that stand one after another are checked with one test, 18 in a turn. Where there are
+// fewer, and where that test finds something wrong, they are taken three at a time; a smaller rest, and whatever is wrong, is for the loop
+// over the records (scan.rt).
 //
 // Why it is right: of each stop two words of eight bytes are taken, and each of them once more with a number added to it, so that wherever a
 // field is wrong a bit is set that is clear in every right stop. Words joined by "or" have each bit that one of them has. So where those bits
@@ -19,7 +20,7 @@ const THREE: usize = 3;
 
 const NINE: usize = 9;
 
-const BLOCK: usize = 27;
+const BLOCK: usize = 18;
 
 // The two words of a stop, or of several joined: the one of its length, kind and area, with the three bytes before them, and the one of its x
 // and y; and both moved.
@@ -76,7 +77,7 @@ fn joined(s: Sums, t: Sums) -> Sums
     }
 }
 
-// Of three, nine and 27 stops: straight on, so that the compiler takes two words at once.
+// Of three, nine and 18 stops: straight on, so that the compiler takes two words at once.
 fn three_sums(b: &[u8], at: usize, areas: u16) -> Sums
     requires { ⌜ (3 ≤ at) × (at + 3 * stopSize ≤ length (now b)) × (areas ≤ mostAreas) ⌝ }
     ensures { λ r. ⌜ Tells (now (b .entry)) at areas 3 r ⌝ }
@@ -102,15 +103,48 @@ fn nine_sums(b: &[u8], at: usize, areas: u16) -> Sums
 }
 
 fn block_sums(b: &[u8], at: usize, areas: u16) -> Sums
-    requires { ⌜ (3 ≤ at) × (at + 27 * stopSize ≤ length (now b)) × (areas ≤ mostAreas) ⌝ }
-    ensures { λ r. ⌜ Tells (now (b .entry)) at areas 27 r ⌝ }
+    requires { ⌜ (3 ≤ at) × (at + 18 * stopSize ≤ length (now b)) × (areas ≤ mostAreas) ⌝ }
+    ensures { λ r. ⌜ Tells (now (b .entry)) at areas 18 r ⌝ }
 {
     let first = nine_sums(b, at, areas);
-    let second = nine_sums(b, at + NINE * STOP_SIZE, areas);
-    joined(
-        joined(first, second),
-        nine_sums(b, at + 2 * NINE * STOP_SIZE, areas),
-    )
+    joined(first, nine_sums(b, at + NINE * STOP_SIZE, areas))
+}
+
+// Of all stops from a place on, 18 or more, block after block. The last block ends where they end, so that it may begin within the one before:
+// what is joined twice changes nothing. In this form: so the compiler keeps two words in one register, and does not join turns of the loop
+// instead.
+fn all_sums(b: &[u8], from: usize, areas: u16, most: usize) -> Sums
+    requires { ⌜ (3 ≤ from) × (from + stopSize * most ≤ length (now b)) × (areas ≤ mostAreas) × (18 ≤ most) ⌝ }
+    ensures { λ r. ⌜ Tells (now (b .entry)) from areas most r ⌝ }
+{
+    let last = from + STOP_SIZE * (most - BLOCK);
+    let mut at = from;
+    let mut head: u64 = 0;
+    let mut point: u64 = 0;
+    let mut head_moved: u64 = 0;
+    let mut point_moved: u64 = 0;
+    loop {
+        let block = block_sums(b, at, areas);
+        head = head | block.head;
+        point = point | block.point;
+        head_moved = head_moved | block.head_moved;
+        point_moved = point_moved | block.point_moved;
+        let next = at + BLOCK * STOP_SIZE;
+        if last < next {
+            if at == last {
+                break;
+            }
+            at = last;
+        } else {
+            at = next;
+        }
+    }
+    Sums {
+        head,
+        point,
+        head_moved,
+        point_moved,
+    }
 }
 
 // Whether the bits are clear that a wrong field sets. In this order: so the compiler pairs the words, and the moved words.
@@ -124,24 +158,7 @@ fn is_clear(s: Sums) -> bool
         == 0
 }
 
-// How many stops from a place on are found to stand, 27 at a time, of `most` that there is room for.
-fn blocks_standing(b: &[u8], from: usize, areas: u16, most: usize) -> usize
-    requires { ⌜ (3 ≤ from) × (from + stopSize * most ≤ length (now b)) × (areas ≤ mostAreas) ⌝ }
-    ensures { λ r. ⌜ StopsStand (now (b .entry)) from areas r × (r ≤ most) ⌝ }
-{
-    let mut stops = 0;
-    let mut at = from;
-    while stops + BLOCK <= most {
-        if !is_clear(block_sums(b, at, areas)) {
-            break;
-        }
-        at += BLOCK * STOP_SIZE;
-        stops += BLOCK;
-    }
-    stops
-}
-
-// Likewise three at a time.
+// How many stops from a place on are found to stand, three at a time, of `most` that there is room for.
 fn threes_standing(b: &[u8], from: usize, areas: u16, most: usize) -> usize
     requires { ⌜ (3 ≤ from) × (from + stopSize * most ≤ length (now b)) × (areas ≤ mostAreas) ⌝ }
     ensures { λ r. ⌜ StopsStand (now (b .entry)) from areas r × (r ≤ most) ⌝ }
@@ -163,6 +180,10 @@ pub fn stops_standing(b: &[u8], from: usize, areas: u16, most: usize) -> usize
     requires { ⌜ (3 ≤ from) × (from + stopSize * most ≤ length (now b)) × (areas ≤ mostAreas) ⌝ }
     ensures { λ r. ⌜ StopsStand (now (b .entry)) from areas r × (r ≤ most) ⌝ }
 {
-    let first = blocks_standing(b, from, areas, most);
-    first + threes_standing(b, from + STOP_SIZE * first, areas, most - first)
+    if BLOCK <= most {
+        if is_clear(all_sums(b, from, areas, most)) {
+            return most;
+        }
+    }
+    threes_standing(b, from, areas, most)
 }

@@ -4,17 +4,17 @@ use crate::Counts;
 use crate::Factor;
 use crate::areas::level;
 use crate::areas::parent;
-use crate::fields::AREA_SIZE;
 use crate::fields::FACTOR_SIZE;
-use crate::fields::LONG_MORE;
+use crate::fields::STOP_SIZE;
 use crate::fields::area_end;
 use crate::fields::factor_fields;
 use crate::fields::level_at;
 ghost use mathlib.Core.Path.{_≡_};
 ghost use mathlib.Core.Bool.{cond};
 ghost use Prim.Native.Nat.{_+_, _≤_, _<_};
+ghost use lib.ListN.{length};
 ghost use lib.Dec.{ltb};
-ghost use Rattle.tariff.specs.Layout.{mostAreas, factorPlace};
+ghost use Rattle.tariff.specs.Layout.{mostAreas, factorPlace, stopPlace};
 ghost use Rattle.tariff.specs.Rules.{wideAreas};
 ghost use Rattle.tariff.specs.Areas.{Read};
 ghost use Rattle.tariff.specs.Factors.{isCity};
@@ -24,7 +24,7 @@ ghost use Rattle.tariff.specs.Contracts.{RegionOf, FactorOf};
 const CITY: u8 = 2;
 
 // How many areas up to one, itself too, are the state or a region, from its level and how many are before it.
-pub fn wide_with(level: u8, before: u16) -> u16
+pub fn wide_with(level: u8, before: u8) -> u8
     requires { ⌜ before ≤ mostAreas ⌝ }
     ensures { λ r. ⌜ r ≡ before + cond (ltb level 2) 1 0 ⌝ }
 {
@@ -32,7 +32,7 @@ pub fn wide_with(level: u8, before: u16) -> u16
 }
 
 // How many areas before one are the state or a region: their records are walked over.
-fn wide_before(tariff: &[u8], counts: Counts, number: usize) -> u16
+fn wide_before(tariff: &[u8], counts: Counts, number: usize) -> u8
     requires { ⌜ Read (now tariff) counts × (number < counts .areas) ⌝ }
     ensures { λ r. ⌜ r ≡ wideAreas (now (tariff .entry)) counts number ⌝ }
 {
@@ -65,12 +65,14 @@ fn region_of(tariff: &[u8], counts: Counts, area: usize) -> usize
     }
 }
 
-// Where a factor record begins.
-fn factor_place(counts: Counts, number: usize) -> usize
-    requires { ⌜ (counts .areas ≤ mostAreas) × (counts .long ≤ mostAreas) × (number < mostAreas) ⌝ }
+// Where a factor record begins, from the tariff's end.
+fn factor_place(tariff: &[u8], counts: Counts, number: usize) -> usize
+    requires { ⌜ (length (now tariff) ≡ stopPlace counts (counts .stops)) × (number < counts .factors) ⌝ }
     ensures { λ r. ⌜ r ≡ factorPlace counts number ⌝ }
 {
-    AREA_SIZE * counts.areas as usize + LONG_MORE * counts.long as usize + FACTOR_SIZE * number
+    tariff.len()
+        - STOP_SIZE * counts.stops as usize
+        - FACTOR_SIZE * (counts.factors as usize - number)
 }
 
 pub fn factor_of(tariff: &[u8], counts: Counts, area: usize) -> Factor
@@ -78,5 +80,5 @@ pub fn factor_of(tariff: &[u8], counts: Counts, area: usize) -> Factor
     ensures { λ r. ⌜ FactorOf (now (tariff .entry)) counts area r ⌝ }
 {
     let number = wide_before(tariff, counts, region_of(tariff, counts, area));
-    factor_fields(tariff, factor_place(counts, number as usize))
+    factor_fields(tariff, factor_place(tariff, counts, number as usize))
 }

@@ -4,7 +4,9 @@
 // rules.rt   which values a record may have
 // area_run.rt areas one after another, without a look at what else could stand there
 // prices.rt  an area's prices at once
-// blocks.rt  stops one after another, 27 with one test
+// cap_words.rt an area's caps at once, and what kind 8 has besides
+// factor_run.rt factor records one after another, as the areas
+// blocks.rt  stops one after another, all with one test
 // scan.rt    the loop over the records: the first fault, or the finished counts
 // areas.rt   areas and stops by number, the areas above an area, the smallest area containing two
 // factors.rt the factor record that holds for an area
@@ -17,6 +19,8 @@ use units::Minutes;
 pub mod area_run;
 pub mod areas;
 pub mod blocks;
+pub mod cap_words;
+pub mod factor_run;
 pub mod factors;
 pub mod fields;
 pub mod levels;
@@ -82,12 +86,12 @@ pub struct Stop {
     pub y: Metres,
 }
 
-// How many areas, factor records and stops a faultless tariff has; `long` of the areas have the longer record, kind 8.
+// How many areas, factor records and stops a faultless tariff has; bit i of `longs` says that area i has the longer record, kind 8.
 pub struct Counts {
-    pub areas: u16,
-    pub long: u16,
-    pub factors: u16,
+    pub areas: u8,
+    pub factors: u8,
     pub stops: u16,
+    pub longs: u32,
 }
 
 // What reading a tariff comes to: the first faulty record's refusal and offset, or the counts.

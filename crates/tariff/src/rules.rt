@@ -3,7 +3,6 @@ use crate::Counts;
 use crate::Factor;
 use crate::areas::area_place;
 use crate::fields::AACHEN_KIND;
-use crate::fields::AREA_SIZE;
 use crate::fields::AreaFields;
 use crate::fields::COMMON_KIND;
 use crate::fields::LongFields;
@@ -19,7 +18,7 @@ ghost use Prim.Native.Nat.{_+_, _≤_};
 ghost use lib.ListN.{length};
 ghost use lib.Dec.{eqb};
 ghost use Rattle.wire.specs.Frame.{headSize};
-ghost use Rattle.tariff.specs.Layout.{aachenKind, areaBodyOf, areaPlace, longAreas};
+ghost use Rattle.tariff.specs.Layout.{aachenKind, areaBodyOf};
 ghost use Rattle.tariff.specs.Fields.{longFields};
 ghost use Rattle.tariff.specs.Rules.{
   pricesRight,
@@ -31,7 +30,7 @@ ghost use Rattle.tariff.specs.Rules.{
   factorRight,
   stopRight,
 };
-ghost use Rattle.tariff.specs.Contracts.{AreaThere, AreasThere};
+ghost use Rattle.tariff.specs.Contracts.{AreasThere};
 
 const MOST_BASE_PRICE: u16 = 10_000;
 
@@ -43,7 +42,7 @@ const MOST_MINUTES: u16 = 1_440;
 
 const MOST_PERCENT: u8 = 100;
 // All other money.
-const MONEY: u16 = 60_000;
+pub const MONEY: u16 = 60_000;
 
 const MOST_FACTOR: u8 = 9;
 
@@ -129,22 +128,10 @@ pub fn rest_right(b: &[u8], at: usize, kind: u16, f: AreaFields) -> bool
     }
 }
 
-// Where the record of an earlier area begins. So many of the first areas are known to be of kind 1: up to there all records have one length.
-fn parent_place(b: &[u8], so_far: Counts, plain: u16, parent: u8) -> usize
-    requires { ⌜ AreaThere (now b) «so_far» parent × (longAreas (now b) plain ≡ 0) ⌝ }
-    ensures { λ r. ⌜ r ≡ areaPlace (now (b .entry)) parent ⌝ }
-{
-    if parent as u16 <= plain {
-        AREA_SIZE * parent as usize
-    } else {
-        area_place(b, so_far, parent as usize)
-    }
-}
-
 // The next area after those so far: area 0 alone has level 0, parent 0, and is of kind 1. A region's parent is 0; a city's is an earlier
 // region of its own kind. No flat exceeds the parent's, but that of a region of kind 8 may.
-pub fn place_right(b: &[u8], so_far: Counts, plain: u16, kind: u16, f: AreaFields) -> bool
-    requires { ⌜ AreasThere (now b) «so_far» × (longAreas (now b) plain ≡ 0) ⌝ }
+pub fn place_right(b: &[u8], so_far: Counts, kind: u16, f: AreaFields) -> bool
+    requires { ⌜ AreasThere (now b) «so_far» ⌝ }
     ensures { λ r. ⌜ r ≡ placeRight (now (b .entry)) «so_far» kind f ⌝ }
 {
     let number = so_far.areas;
@@ -159,23 +146,23 @@ pub fn place_right(b: &[u8], so_far: Counts, plain: u16, kind: u16, f: AreaField
     if level != 2 {
         return false;
     }
-    if number <= parent as u16 {
+    if number <= parent {
         return false;
     }
-    let at = parent_place(b, so_far, plain, parent);
+    let at = area_place(b, so_far, parent as usize);
     (level_at(b, at) == 1) & (kind_at(b, at) == kind) & (f.bicycle_flat <= flat_at(b, at))
 }
 
 // The next factor record after so many: its factor, and its mark, which is 0 in the state's, the first.
-pub fn factor_right(f: Factor, before: u16) -> bool
+pub fn factor_right(f: Factor, before: u8) -> bool
     ensures { λ r. ⌜ r ≡ factorRight f before ⌝ }
 {
     (1 <= f.factor) & (f.factor <= MOST_FACTOR) & ((f.mark == 0) | ((f.mark == 1) & (0 < before)))
 }
 
 // A stop's area exists; x and y lie on the plane.
-pub fn stop_right(f: StopFields, areas: u16) -> bool
+pub fn stop_right(f: StopFields, areas: u8) -> bool
     ensures { λ r. ⌜ r ≡ stopRight f areas ⌝ }
 {
-    ((f.area as u16) < areas) & (f.x <= MOST_METRES) & (f.y <= MOST_METRES)
+    (f.area < areas) & (f.x <= MOST_METRES) & (f.y <= MOST_METRES)
 }

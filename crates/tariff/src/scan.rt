@@ -5,12 +5,13 @@ use crate::area_run::Run;
 use crate::area_run::after_area;
 use crate::area_run::areas_found;
 use crate::blocks::stops_standing;
+use crate::factor_run::after_factor;
+use crate::factor_run::factors_found;
 use crate::fields::AACHEN_KIND;
 use crate::fields::AREA_BODY;
 use crate::fields::COMMON_KIND;
 use crate::fields::FACTOR_BODY;
 use crate::fields::FACTOR_KIND;
-use crate::fields::FACTOR_SIZE;
 use crate::fields::LONG_MORE;
 use crate::fields::MOST_AREAS;
 use crate::fields::MOST_STOPS;
@@ -53,12 +54,12 @@ fn area_entry(b: &[u8], at: usize, so_far: Counts, kind: u16, body: usize) -> En
     if (body == AREA_BODY + LONG_MORE * long_of(kind))
         & (so_far.factors == 0)
         & (so_far.stops == 0)
-        & (so_far.areas < MOST_AREAS)
+        & ((so_far.areas as u16) < MOST_AREAS)
     {
         let f = area_fields(b, at);
         if prices_right(f)
             & caps_right(f)
-            & place_right(b, so_far, 0, kind, f)
+            & place_right(b, so_far, kind, f)
             & rest_right(b, at, kind, f)
         {
             Entry::Area(kind)
@@ -71,7 +72,7 @@ fn area_entry(b: &[u8], at: usize, so_far: Counts, kind: u16, body: usize) -> En
 }
 
 // A factor record with a whole frame, after those so far, of so many that are due.
-fn factor_entry(b: &[u8], at: usize, so_far: Counts, due: u16, body: usize) -> Entry
+fn factor_entry(b: &[u8], at: usize, so_far: Counts, due: u8, body: usize) -> Entry
     requires { ⌜ (due ≡ factorsDue (now b) «so_far») × (at + 4 + body ≤ length (now b)) ⌝ }
     ensures { λ r. ⌜ r ≡ factorEntry (now (b .entry)) at «so_far» body ⌝ }
 {
@@ -87,7 +88,7 @@ fn factor_entry(b: &[u8], at: usize, so_far: Counts, due: u16, body: usize) -> E
 }
 
 // A stop record with a whole frame, after those so far, with so many factor records due.
-fn stop_entry(b: &[u8], at: usize, so_far: Counts, due: u16, body: usize) -> Entry
+fn stop_entry(b: &[u8], at: usize, so_far: Counts, due: u8, body: usize) -> Entry
     requires { ⌜ (due ≡ factorsDue (now b) «so_far») × (at + 4 + body ≤ length (now b)) ⌝ }
     ensures { λ r. ⌜ r ≡ stopEntry (now (b .entry)) at «so_far» body ⌝ }
 {
@@ -107,7 +108,7 @@ fn stop_entry(b: &[u8], at: usize, so_far: Counts, due: u16, body: usize) -> Ent
 }
 
 // What stands at the place that the records so far reach, with so many factor records due.
-pub fn entry_at(b: &[u8], at: usize, so_far: Counts, due: u16) -> Entry
+pub fn entry_at(b: &[u8], at: usize, so_far: Counts, due: u8) -> Entry
     requires { ⌜ Reached (now b) at «so_far» × (due ≡ factorsDue (now b) «so_far») ⌝ }
     ensures { λ r. ⌜ r ≡ entryAt (now (b .entry)) at «so_far» ⌝ }
 {
@@ -150,9 +151,9 @@ pub fn read_tariff(tariff: &[u8]) -> Reading
     let mut at = 0;
     let mut so_far = Counts {
         areas: 0,
-        long: 0,
         factors: 0,
         stops: 0,
+        longs: 0,
     };
     let mut due = 0;
     loop {
@@ -170,8 +171,10 @@ pub fn read_tariff(tariff: &[u8]) -> Reading
                 due = run.due;
             }
             Entry::Factor => {
-                at += FACTOR_SIZE;
-                so_far.factors += 1;
+                let run = factors_found(tariff, after_factor(tariff, Run { at, so_far, due }));
+                at = run.at;
+                so_far = run.so_far;
+                due = run.due;
             }
             Entry::Stop => {
                 at += STOP_SIZE;
@@ -179,7 +182,7 @@ pub fn read_tariff(tariff: &[u8]) -> Reading
                 let stops = stops_standing(
                     tariff,
                     at,
-                    so_far.areas,
+                    so_far.areas as u16,
                     stops_due(tariff.len() - at, so_far.stops),
                 );
                 at += STOP_SIZE * stops;

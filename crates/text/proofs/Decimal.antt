@@ -52,6 +52,16 @@ decimal-digits n = ap (_++ (digit n ∷ [])) (enough n (n / 10) (n / 10) (omega 
 pub decimal-some : (n : ℕ) → 0 < n → decimal n ≡ digits n
 decimal-some n some = decimal-digits n ∙ sym (more-digits n some)
 
+pub one-digit : (n : ℕ) → n < 10 → decimal n ≡ (48 + n) ∷ []
+unfolding digit
+one-digit n few =
+    let last : n % 10 ≡ n = omega arith in
+    decimal-digits n ∙ rw (none-in (n / 10) (n / 10) (omega arith), last)
+
+-- the last digit stands behind those of the tenth
+pub last-digit : (n : ℕ) → 10 ≤ n → decimal n ≡ decimal (n / 10) ++ (digit n ∷ [])
+last-digit n more = decimal-digits n ∙ ap (_++ (digit n ∷ [])) (sym (decimal-some (n / 10) (omega arith)))
+
 -- ---- Digits in front of a place of a buffer.
 
 -- the bytes from the place before on, once its byte is set

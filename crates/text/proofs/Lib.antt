@@ -1,4 +1,5 @@
 pub mod Decimal
 pub mod Puts
 pub mod Values
-pub mod LastDigits
+pub mod Split
+pub mod Zeros

@@ -1,13 +1,14 @@
 -- Texts put one behind another.
 -- Assumes nothing.
-use Prim.Native.Nat.{ℕ, suc, _+_, _-_, _≤_, _<_}
+use Prim.Native.Nat.{ℕ, zero, suc, _+_, _-_, _/_, _%_, _≤_, _<_}
 use native.Mathlib.Numerals.{add-one}
 use native.Mathlib.Omega.{arith}
-use mathlib.Core.Path.{_≡_, refl, ap, _∙_}
+use mathlib.Core.Path.{_≡_, refl, sym, ap, _∙_}
 use mathlib.Core.List.{List, [], _∷_, _++_, append-nil, append-assoc}
-use lib.ListN.{length, getD, take, drop, set, length-drop, drop-of-length-le}
-use lib.Seq.{take-suc, take-suc-set, take-all, take-length}
+use lib.ListN.{length, getD, take, drop, set, length-set, length-drop, drop-of-length-le}
+use lib.Seq.{take-suc, take-suc-set, take-all, take-length, take-take, take-append-add, length-take-le}
 use Rattle.text.specs.Contracts.{Before, Behind}
+use Rattle.text.specs.Fours.{firstBytes}
 
 -- a text behind another
 pub behind-join :
@@ -27,6 +28,41 @@ pub byte-behind : (out : List ℕ) (place value : ℕ) → place < length out �
 byte-behind out place value within =
     let next : place + 1 ≡ suc place = omega arith in
     record { put = rw (next, take-suc-set out place value within); order = omega arith; room = omega arith }
+
+-- the first bytes of what was put
+pub shorter :
+    {text : List ℕ} {m : ℕ} {a b : List ℕ} {place end : ℕ}
+    → Behind text m a place b end → place ≤ length a → (n : ℕ) → place + n ≤ end → Behind (take n text) n a place b (place + n)
+shorter {text = text} {a = a} {b = b} {place = place} {end = end} x within n fewer =
+    let front : length (take place a) ≡ place = length-take-le place a within in
+    let first : take (place + n) (take place a ++ text) ≡ take place a ++ take n text =
+    ap (λ (k : ℕ). take (k + n) (take place a ++ text)) (sym front) ∙ take-append-add (take place a) text n
+    in
+    record { put = sym (take-take (place + n) end b fewer) ∙ ap (take (place + n)) (x .put) ∙ first; order = omega arith; room = omega arith }
+
+-- ---- A word put byte by byte, the lowest first.
+
+unfoldable pub putWord : ℕ → List ℕ → ℕ → ℕ → List ℕ
+putWord zero out place word = out
+putWord (suc count) out place word = putWord count (set out place (word % 256)) (place + 1) (word / 256)
+
+pub word-behind :
+    (count : ℕ) (out : List ℕ) (place word : ℕ) → place + count ≤ length out
+    → Behind (firstBytes count word) count out place (putWord count out place word) (place + count)
+unfolding putWord firstBytes
+word-behind zero out place word fits =
+    let none : place + 0 ≡ place = omega arith in
+    record { put = rw (none, append-nil (take place out)); order = omega arith; room = omega arith }
+word-behind (suc count) out place word fits =
+    let next : place + 1 + count ≡ place + suc count = omega arith in
+    let one = set out place (word % 256) in
+    let first = byte-behind out place (word % 256) (omega arith) in
+    let both = behind-join first (word-behind count one (place + 1) (word / 256) (omega (arith, length-set out place (word % 256)))) in
+    record {
+      put = ap (λ (end : ℕ). take end (putWord count one (place + 1) (word / 256))) (sym next) ∙ both .put;
+      order = omega arith;
+      room = omega arith;
+    }
 
 -- ---- A text copied byte by byte.
 

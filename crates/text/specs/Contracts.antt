@@ -1,9 +1,8 @@
 -- What the contracts say: a text was put in front of a place of a buffer, or behind one.
-use Prim.Native.Nat.{ℕ, _+_, _/_, _≤_}
+use Prim.Native.Nat.{ℕ, _+_, _≤_}
 use mathlib.Core.Path.{_≡_}
-use mathlib.Core.List.{List, [], _∷_, _++_}
+use mathlib.Core.List.{List, _++_}
 use lib.ListN.{take, drop}
-use Rattle.text.specs.Words.{digit}
 
 -- from `start` on stand the text, and behind it what stood from `end` on; it took at most so many places
 pub record Before (text : List ℕ) (most : ℕ) (before : List ℕ) (end : ℕ) (after : List ℕ) (start : ℕ) : Type 0 where
@@ -16,10 +15,3 @@ pub record Behind (text : List ℕ) (most : ℕ) (before : List ℕ) (place : �
   pub put : take end after ≡ take place before ++ text
   pub order : place ≤ end
   pub room : end ≤ place + most
-
--- a number's last two digits, and its last four
-abbrev pub lastTwo : ℕ → List ℕ
-lastTwo n = digit (n / 10) ∷ digit n ∷ []
-
-abbrev pub lastFour : ℕ → List ℕ
-lastFour n = digit (n / 10 / 10 / 10) ∷ digit (n / 10 / 10) ∷ digit (n / 10) ∷ digit n ∷ []

@@ -8,11 +8,9 @@ use mathlib.Core.Bool.{Bool, true, false, cond, _&&_, and-false, false≢true}
 use mathlib.Core.List.{List}
 use borrow.Author.Tests.{leb-false, lt-leb, ne-eqb}
 use lib.Dec.{leb}
-use Rattle.wire.specs.Number.{getLe}
 use Rattle.units.specs.declared.Minutes.{Minutes}
 use Rattle.calendar.specs.Stamps.{isDate, isClock, isOffset, localMinute, isStamp, stampOf, minuteNumber, lastMinute}
 use Rattle.calendar.specs.declared.Stamp.{Stamp}
-use Rattle.calendar.specs.declared.Made.{Made}
 use Rattle.calendar.specs.declared.Made.the-variants.{Good, Refused}
 use Rattle.calendar.proofs.Fields.{an-offset}
 use Rattle.calendar.proofs.Order.{within}
@@ -21,13 +19,9 @@ use Rattle.trip.specs.Record.{checkinPlace, checkoutPlace}
 use Rattle.trip.specs.Moments.{stampAt, momentAt, checkinOf, checkoutOf}
 use Rattle.trip.specs.Trips.{stampsRight}
 use Rattle.trip.specs.Conditions.{WrongStampAt, no-date, no-clock, other-offset, before-zero, WrongStamp, wrong-checkin, wrong-checkout}
-use Rattle.trip.specs.Contracts.{timesOf}
+use Rattle.trip.specs.Contracts.{madeAt, timesOf}
 use Rattle.trip.specs.declared.Moment.the-variants.{At, NoMoment}
 use Rattle.trip.specs.declared.Times.the-variants.{Of, NoTimes}
-
--- What the calendar makes of the fields at a place.
-abbrev pub madeAt : List ℕ → ℕ → Made
-madeAt b at = stampOf (getLe 2 b at) (getLe 1 b (at + 2)) (getLe 1 b (at + 3)) (getLe 1 b (at + 4)) (getLe 1 b (at + 5)) (getLe 1 b (at + 6))
 
 module _ (b : List ℕ) (at : ℕ) where
   -- It makes the stamp of these fields, where they are one.

@@ -1,8 +1,11 @@
 -- What the functions' contracts say beyond the rules.
-use Prim.Native.Nat.{ℕ, _<_}
+use Prim.Native.Nat.{ℕ, _+_, _<_}
 use mathlib.Core.Path.{_≡_}
 use mathlib.Core.List.{List}
 use mathlib.Core.Bool.{true, cond}
+use Rattle.wire.specs.Number.{getLe}
+use Rattle.calendar.specs.declared.Made.{Made}
+use Rattle.calendar.specs.Stamps.{stampOf}
 use Rattle.trip.specs.declared.Shape.{Shape}
 use Rattle.trip.specs.declared.Shape.the-variants.{Stops, NoTrip}
 use Rattle.trip.specs.declared.Times.{Times}
@@ -14,6 +17,10 @@ use Rattle.trip.specs.Trips.{isTrip, partyRight, stopsKnown, stampsRight
 -- a trip record that fills the slice, with its number of stops, or none
 unfoldable pub wholeTrip : List ℕ → Shape
 wholeTrip trip = cond (isTrip trip) (Stops (countAt trip 0)) NoTrip
+
+-- what the calendar makes of the fields of a stamp at a place
+abbrev pub madeAt : List ℕ → ℕ → Made
+madeAt b at = stampOf (getLe 2 b at) (getLe 1 b (at + 2)) (getLe 1 b (at + 3)) (getLe 1 b (at + 4)) (getLe 1 b (at + 5)) (getLe 1 b (at + 6))
 
 -- a trip's two minutes, or none where a stamp is wrong
 unfoldable pub timesOf : List ℕ → Times

@@ -3,3 +3,4 @@ pub mod Moments
 pub mod Trips
 pub mod Conditions
 pub mod Contracts
+pub mod OneDate

@@ -1,7 +1,9 @@
 // A trip record out of any byte string: for each of the refusals 5 to 9, and 17, a test of its own, in the order in which they are given.
-// The stops stay in the trip's bytes, where `stop_number` finds them.
+// The stops stay in the trip's bytes, where `stop_number` finds them. The file one_date.rt has a fast way to the times of a trip on one date.
 use calendar::Made;
 use calendar::Stamp;
+use one_date::is_one_date;
+use one_date::times_on_date;
 use tariff::levels::is_level;
 use units::DAY;
 use units::Minutes;
@@ -16,7 +18,9 @@ ghost use Rattle.calendar.specs.Stamps.{lastMinute};
 ghost use Rattle.trip.specs.Record.{tripSize, shapeAt, classAt, levelAt, partyAt};
 ghost use Rattle.trip.specs.Moments.{momentAt};
 ghost use Rattle.trip.specs.Trips.{partyRight, stopsKnown, inOrder, oneStop, isMistap};
-ghost use Rattle.trip.specs.Contracts.{wholeTrip, timesOf, StopNumber};
+ghost use Rattle.trip.specs.Contracts.{wholeTrip, madeAt, timesOf, StopNumber};
+
+mod one_date;
 
 pub const KIND: u16 = 7;
 
@@ -168,20 +172,27 @@ pub fn stops_known(trip: &[u8], stops: usize, known: usize) -> bool
     all
 }
 
-// The moment whose stamp stands at a place: the one way from a stamp's bytes, its offset with them, to its minute.
-pub fn moment_at(b: &[u8], at: usize) -> Moment
+// What the calendar makes of the fields of a stamp at a place, its offset with them.
+fn stamp_at(b: &[u8], at: usize) -> Made
     requires { ⌜ at + 7 ≤ length (now b) ⌝ }
-    ensures { λ r. ⌜ r ≡ momentAt (now (b .entry)) at ⌝ }
+    ensures { λ r. ⌜ r ≡ madeAt (now (b .entry)) at ⌝ }
 {
-    let made = Stamp::make(
+    Stamp::make(
         two_at(b, at),
         one_at(b, at + 2),
         one_at(b, at + 3),
         one_at(b, at + 4),
         one_at(b, at + 5),
         one_at(b, at + 6),
-    );
-    match made {
+    )
+}
+
+// The moment whose stamp stands at a place.
+pub fn moment_at(b: &[u8], at: usize) -> Moment
+    requires { ⌜ at + 7 ≤ length (now b) ⌝ }
+    ensures { λ r. ⌜ r ≡ momentAt (now (b .entry)) at ⌝ }
+{
+    match stamp_at(b, at) {
         Made::Good(stamp) => Moment::At(stamp.minutes()),
         Made::Refused => Moment::NoMoment,
     }
@@ -192,6 +203,9 @@ pub fn times_of(trip: &[u8]) -> Times
     requires { ⌜ tripSize 0 ≤ length (now trip) ⌝ }
     ensures { λ r. ⌜ r ≡ timesOf (now (trip .entry)) ⌝ }
 {
+    if is_one_date(trip) {
+        return times_on_date(trip);
+    }
     let Moment::At(checkin) = moment_at(trip, CHECK_IN) else {
         return Times::NoTimes;
     };

@@ -3,7 +3,7 @@
 use Prim.Native.Nat.{ℕ, zero, suc, _+_, _-_, _*_, _/_, _%_, _≤_, _<_, max}
 use native.Mathlib.Nat.{div-add-mod', mod-lt, add-mul, one-mul, zero-mul, pos-of-ne-zero, mul-le-mul-left, le-of-mul-le-mul-right, lt-of-mul-lt-mul-right, max-le, max-eq-right, le-max-left}
 use native.Mathlib.Omega.{arith}
-use mathlib.Core.Path.{_≡_, refl, subst}
+use mathlib.Core.Path.{_≡_, refl, sym, ap, subst}
 use mathlib.Core.Bool.{Bool, true, false, cond}
 use borrow.Author.Tests.{eqb-true, eqb-false}
 use lib.Dec.{eqb}
@@ -65,14 +65,15 @@ pub periods-least : (duration validity k : ℕ) → 0 < validity → 1 ≤ k →
 unfolding periods
 periods-least d v k pos one h = max-le one (least d v k pos h)
 
--- a rounded quotient of 0 counts as one period, any other as it is
-pub one-period-at-zero : (duration validity : ℕ) → dividedUp duration validity ≡ 0 → 1 ≡ periods duration validity
-unfolding periods
-one-period-at-zero d v e = rw e refl
+-- within the validity it is one period, and beyond it the rounded quotient
+pub one-period-within : (duration validity : ℕ) → 0 < validity → duration ≤ validity → 1 ≡ periods duration validity
+one-period-within d v pos h = omega (arith, one-period d v, periods-least d v 1 pos (omega arith) (omega (arith, one-mul v)))
 
-pub periods-above : (duration validity : ℕ) → (dividedUp duration validity ≡ 0 → ⊥) → periods duration validity ≡ dividedUp duration validity
+pub periods-beyond : (duration validity : ℕ) → 0 < validity → validity < duration → dividedUp duration validity ≡ periods duration validity
 unfolding periods
-periods-above d v ne = max-eq-right (pos-of-ne-zero ne)
+periods-beyond d v pos h =
+    let some : dividedUp d v ≡ 0 → ⊥ = λ none. let whole = not-below d v pos in absurd (omega (arith, ap (λ k. k * v) none, zero-mul v)) in
+    sym (max-eq-right (pos-of-ne-zero some))
 
 -- the contract of `started_periods`, from its value
 pub started : (duration validity r : ℕ) → 0 < validity → r ≡ periods duration validity → Started duration validity r

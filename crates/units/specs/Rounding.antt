@@ -21,9 +21,9 @@ raisedBy percent amount = hundredthsOf (100 + percent) amount
 abbrev pub reducedBy : ℕ → ℕ → ℕ
 reducedBy percent amount = hundredthsOf (100 - percent) amount
 
--- the largest amount whose double, in hundredths, is still a number of 32 bits: far above every price
+-- the largest amount whose double, in hundredths and with 99 more, is still a number of 32 bits: far above every price
 abbrev pub roundable : ℕ
-roundable = 21474836
+roundable = 21474835
 
 -- duration ÷ validity, rounded up, at least 1
 unfoldable pub periods : ℕ → ℕ → ℕ

@@ -32,7 +32,7 @@ pub fn capped(amount: Cents, cap: Cap) -> Cents
     }
 }
 
-// n ÷ d, rounded up: the one place where anything is rounded.
+// n ÷ d, rounded up. Everything that is rounded is rounded so, here or just below.
 fn divided_up(n: u32, d: u32) -> u32
     requires { ⌜ 0 < d ⌝ }
     ensures { λ r. ⌜ r ≡ dividedUp n d ⌝ }
@@ -41,12 +41,13 @@ fn divided_up(n: u32, d: u32) -> u32
     if n % d == 0 { whole } else { whole + 1 }
 }
 
-// amount × hundredths ÷ 100, rounded up: what both percentages come to.
+// amount × hundredths ÷ 100, rounded up: what both percentages come to. By a numeral a quotient is no division, and with 99 more it is rounded
+// up without a remainder.
 fn hundredths_of(amount: Cents, hundredths: u32) -> Cents
     requires { ⌜ (amount .0 ≤ roundable) × (hundredths ≤ 200) ⌝ }
     ensures { λ r. ⌜ r .0 ≡ hundredthsOf hundredths (amount .0) ⌝ }
 {
-    Cents(divided_up(amount.0 * hundredths, 100))
+    Cents((amount.0 * hundredths + 99) / 100)
 }
 
 // What first class costs: × (100 + percent) ÷ 100, rounded up.
@@ -65,11 +66,13 @@ pub fn reduced(amount: Cents, percent: u8) -> Cents
     hundredths_of(amount, 100 - percent as u32)
 }
 
-// Started periods: duration ÷ validity, rounded up, at least 1.
+// Started periods: duration ÷ validity, rounded up, at least 1. Most trips end within the validity, and nothing is divided.
 pub fn started_periods(duration: Minutes, validity: Minutes) -> u32
     requires { ⌜ 0 < validity .0 ⌝ }
     ensures { λ r. ⌜ Started (duration .0) (validity .0) r ⌝ }
 {
-    let periods = divided_up(duration.0, validity.0);
-    if periods == 0 { 1 } else { periods }
+    if duration.0 <= validity.0 {
+        return 1;
+    }
+    divided_up(duration.0, validity.0)
 }

@@ -8,6 +8,8 @@ use Rattle.book.specs.Words.{coverWord, paidWord}
 use Rattle.book.specs.Windows.{inWindow}
 use Rattle.book.specs.Charging.{bicycleCharge, bicycleCharges}
 use Rattle.book.specs.Posting.{wordsAfter}
+use Rattle.book.specs.Contracts.{FoundRight}
+use Rattle.tariff.proofs.Faultless.{faultless}
 use Rattle.book.proofs.SoundLaws.{sound-has}
 use Rattle.book.proofs.ChargeLaws.{Filled, filled-none, filled-size, filled-more, filled-all, bicycles-listed, cover-known, paid-known}
 use Rattle.book.proofs.EarlierLaws.{earlier-there, cover-after, paid-after}
@@ -15,12 +17,13 @@ use Rattle.book.proofs.charging.charge_bicycles.Statement.{statement}
 use Rattle.book.proofs.charging.charge_bicycles.Tie as tie
 
 abbrev Inv-loop : tie.InvT-loop
-Inv-loop tariff counts book current earlier amounts₀ from at count own i₀ amounts i =
+Inv-loop tariff counts book current earlier amounts₀ from at count own last₀ i₀ amounts last i =
     let after = wordsAfter tariff counts (inWindow current book) earlier in
     Filled (λ k. bicycleCharge tariff counts at (coverWord after k) (paidWord after k)) amounts₀ amounts from count i
+    × FoundRight tariff counts earlier at last
 
 abbrev μ-loop : tie.MeasureT-loop
-μ-loop tariff counts book current earlier amounts₀ from at count own i₀ amounts i = count - i
+μ-loop tariff counts book current earlier amounts₀ from at count own last₀ i₀ amounts last i = count - i
 
 cast-count : tie.Need-cast-count Inv-loop μ-loop
 cast-count c = omega (arith, c .before .before .before .before .before .pre .0 .rideable .bicycles)
@@ -33,7 +36,7 @@ terms-of-requires : tie.Need-terms-of-requires Inv-loop μ-loop
 terms-of-requires c κs = let p = c .before .before .before .before .before .before .pre .0 .rideable in (p .read, p .area)
 
 loop-holds : tie.Need-loop-holds Inv-loop μ-loop
-loop-holds c = filled-none _ _ _ _
+loop-holds c = (filled-none _ _ _ _, record { right = λ known. absurd (omega (arith, faultless _ _ (c .before .before .before .before .before .before .before .pre .0 .rideable .read) .few-areas)) })
 
 cover-requires : tie.Need-cover-requires Inv-loop μ-loop
 cover-requires c κs = omega (arith, c .before .before .before .before .before .before .before .before .before .pre .0 .rideable .bicycles)
@@ -64,44 +67,43 @@ old-known c =
     rw (c .before .before .get-in .ensures .value, c .before .before .before .cover .ensures .0)
     (cover-known (first .args .current) (sound-has _ _ (r .rideable .sound-book)) _ few)
 
-cover-after-requires : tie.Need-cover-after-requires Inv-loop μ-loop
-cover-after-requires c κs =
-    let r = c .before .before .before .before .before .before .before .before .before .before .before .before .before .pre .0 in
-    (r .rideable .read, (earlier-there r, old-known c))
-
-paid-after-requires : tie.Need-paid-after-requires Inv-loop μ-loop
-paid-after-requires c κs =
-    let s = c .before .before .before .before .before in
+charge-found-requires : tie.Need-charge-found-requires Inv-loop μ-loop
+charge-found-requires c κs =
+    let s = c .before .before .before .before in
     let first = s .before .before .before .before .before .before .before .before .before in
     let r = first .pre .0 in
     let few : s .before .loop .i < 10 = omega (arith, r .rideable .bicycles) in
     let known = paid-known (first .args .current) (sound-has _ _ (r .rideable .sound-book)) _ few in (
       r .rideable .read,
-      (earlier-there r, (old-known (c .before), rw (c .before .get-in2 .ensures .value, c .before .before .payments .ensures .0) known)),
+      (
+        s .before .before .terms-of .ensures,
+        (
+          r .rideable .area,
+          (
+            earlier-there r,
+            (old-known c, (rw (c .get-in2 .ensures .value, c .before .payments .ensures .0) known, s .before .loop .inv .1)),
+          ),
+        ),
+      ),
     )
-
-charge-bicycle-requires : tie.Need-charge-bicycle-requires Inv-loop μ-loop
-charge-bicycle-requires c κs =
-    let p = c .before .before .before .before .before .before .before .before .before .before .before .before .before .before .before .pre .0 .rideable in
-    (p .read, (c .before .before .before .before .before .before .before .before .terms-of .ensures, (p .area, c .before .cover-after .ensures .known)))
 
 add-amounts : tie.Need-add-amounts Inv-loop μ-loop
 add-amounts c =
-    let s = c .before .before .before .before .before .before .before .before in
+    let s = c .before .before .before .before .before .before in
     let first = s .before .before .before .before .before .before .before .before .before in
     omega (arith, s .loop-test .taken, first .pre .1, first .good)
 
 mul-amounts : tie.Need-mul-amounts Inv-loop μ-loop
 mul-amounts c =
-    let s = c .before .before .before .before .before .before .before .before in
+    let s = c .before .before .before .before .before .before in
     let first = s .before .before .before .before .before .before .before .before .before in
-    omega (arith, s .loop-test .taken, first .pre .1, first .good, filled-size (s .before .loop .inv))
+    omega (arith, s .loop-test .taken, first .pre .1, first .good, filled-size (s .before .loop .inv .0))
 
 slice-write-amounts : tie.Need-slice-write-amounts Inv-loop μ-loop
 slice-write-amounts c =
-    let s = c .before .before .before .before .before .before .before .before in
+    let s = c .before .before .before .before .before .before in
     let first = s .before .before .before .before .before .before .before .before .before in
-    omega (arith, s .loop-test .taken, first .pre .1, filled-size (s .before .loop .inv))
+    omega (arith, s .loop-test .taken, first .pre .1, filled-size (s .before .loop .inv .0))
 
 add-i : tie.Need-add-i Inv-loop μ-loop
 add-i c = omega arith
@@ -111,28 +113,29 @@ loop-less c = omega arith
 
 loop-again : tie.Need-loop-again Inv-loop μ-loop
 loop-again c =
-    let s = c .before .before .before .before .before .before .before .before in
+    let s = c .before .before .before .before .before .before in
     let r = s .before .before .before .before .before .before .before .before .before .pre .0 in
-    filled-more (s .before .loop .inv) _ (s .loop-test .taken)
-    (c .before .charge-bicycle .ensures .value
-    ∙ rw (
-      c .before .before .paid-after .ensures .value,
-      c .before .before .before .cover-after .ensures .value,
-      c .before .before .before .before .get-in2 .ensures .value,
-      c .before .before .before .before .before .payments .ensures .0,
-      c .before .before .before .before .before .before .get-in .ensures .value,
-      c .before .before .before .before .before .before .before .cover .ensures .0,
-      cover-after r _ (s .loop-test .taken),
-      paid-after r _ (s .loop-test .taken),
-    ))
+    let found = c .before .charge-found .ensures in (
+      filled-more (s .before .loop .inv .0) _ (s .loop-test .taken)
+          (found .charge
+          ∙ rw (
+            c .before .before .get-in2 .ensures .value,
+            c .before .before .before .payments .ensures .0,
+            c .before .before .before .before .get-in .ensures .value,
+            c .before .before .before .before .before .cover .ensures .0,
+            cover-after r _ (s .loop-test .taken),
+            paid-after r _ (s .loop-test .taken),
+          )),
+      record { right = λ known. rw (found .cover, found .payments) (found .charge) },
+    )
 
 same-length : tie.Need-same-length Inv-loop μ-loop
-same-length c = filled-size (c .before .loop .inv)
+same-length c = filled-size (c .before .loop .inv .0)
 
 returns-2 : tie.Need-returns-2 Inv-loop μ-loop
 returns-2 c =
     let a = c .before .before .before .before .before .before .before .before .before .args in
-    filled-all (c .before .loop .inv) (c .loop-test .left)
+    filled-all (c .before .loop .inv .0) (c .loop-test .left)
     ∙ rw (bicycles-listed (a .tariff .now) (a .counts) (wordsAfter (a .tariff .now) (a .counts) (inWindow (a .current) (a .book .now)) (a .earlier)) (a .ride) (a .ride .party .bicycles))
 
 pub charge-bicycles-spec : {M : Type 1} → statement M
@@ -150,9 +153,7 @@ charge-bicycles-spec =
     cast-found
     payments-requires
     get-in-requires-2
-    cover-after-requires
-    paid-after-requires
-    charge-bicycle-requires
+    charge-found-requires
     add-amounts
     mul-amounts
     slice-write-amounts

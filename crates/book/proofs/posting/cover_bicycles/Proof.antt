@@ -6,18 +6,18 @@ use mathlib.Core.Path.{sym, ap, _∙_}
 use lib.ListN.{length}
 use Rattle.tariff.proofs.Faultless.{faultless}
 use Rattle.book.specs.Words.{word}
-use Rattle.book.specs.Sound.{mostPaid}
-use Rattle.book.proofs.ChargeLaws.{paid-terms}
+use Rattle.book.specs.Contracts.{CoveredRight}
 use Rattle.book.proofs.WordLaws.{size-put}
 use Rattle.book.proofs.PostTurns.{BicyclesCovered, bicycles-start, bicycles-turn, bicycles-end, bicycles-none}
 use Rattle.book.proofs.posting.cover_bicycles.Statement.{statement}
 use Rattle.book.proofs.posting.cover_bicycles.Tie as tie
 
 abbrev Inv-loop : tie.InvT-loop
-Inv-loop tariff counts book₀ count at own i₀ book i = BicyclesCovered tariff counts book₀ book count at i
+Inv-loop tariff counts book₀ count at own last₀ i₀ book last i =
+    BicyclesCovered tariff counts book₀ book count at i × CoveredRight tariff counts at last
 
 abbrev μ-loop : tie.MeasureT-loop
-μ-loop tariff counts book₀ count at own i₀ book i = count - i
+μ-loop tariff counts book₀ count at own last₀ i₀ book last i = count - i
 
 returns : tie.Need-returns Inv-loop μ-loop
 returns c =
@@ -28,13 +28,17 @@ terms-of-requires : tie.Need-terms-of-requires Inv-loop μ-loop
 terms-of-requires c κs = let p = c .before .before .before .pre in (p .read, p .area)
 
 loop-holds : tie.Need-loop-holds Inv-loop μ-loop
-loop-holds c = let p = c .before .before .before .before .pre in bicycles-start (p .size) (p .few) (p .covers) (p .payments)
+loop-holds c =
+    let p = c .before .before .before .before .pre in (
+      bicycles-start (p .size) (p .few) (p .covers) (p .payments),
+      record { right = λ known. absurd (omega (arith, faultless _ _ (p .read) .few-areas)) },
+    )
 
 cover-requires : tie.Need-cover-requires Inv-loop μ-loop
 cover-requires c κs = omega (arith, c .before .before .before .before .before .before .pre .few)
 
 get-requires : tie.Need-get-requires Inv-loop μ-loop
-get-requires c κs = (c .before .before .before .loop .inv .size, c .before .cover .ensures .1)
+get-requires c κs = (c .before .before .before .loop .inv .0 .size, c .before .cover .ensures .1)
 
 cast-old : tie.Need-cast-old Inv-loop μ-loop
 cast-old c = omega (arith, c .get .ensures .range)
@@ -43,48 +47,48 @@ payments-requires : tie.Need-payments-requires Inv-loop μ-loop
 payments-requires c κs = omega (arith, c .before .before .before .before .before .before .before .before .before .pre .few)
 
 get-requires-2 : tie.Need-get-requires-2 Inv-loop μ-loop
-get-requires-2 c κs = (c .before .before .before .before .before .before .loop .inv .size, c .before .payments .ensures .1)
+get-requires-2 c κs = (c .before .before .before .before .before .before .loop .inv .0 .size, c .before .payments .ensures .1)
 
-new-cover-requires : tie.Need-new-cover-requires Inv-loop μ-loop
-new-cover-requires c κs =
+cover-found-requires : tie.Need-cover-found-requires Inv-loop μ-loop
+cover-found-requires c κs =
     let p = c .before .before .before .before .before .before .before .before .before .before .before .before .pre in
     let l = c .before .before .before .before .before .before .before .loop in
+    let more = c .before .before .before .before .before .before .loop-test .taken in
     let old = c .before .before .before .get .ensures .value ∙ ap (word (l .book)) (c .before .before .before .before .before .cover .ensures .0) in
-    (p .read, (p .area, omega (arith, old, l .inv .covers (l .i) (omega arith) (c .before .before .before .before .before .before .loop-test .taken))))
+    let paid = c .get2 .ensures .value ∙ ap (word (l .book)) (c .before .before .payments .ensures .0) in (
+      p .read,
+      (
+        c .before .before .before .before .before .before .before .before .terms-of .ensures,
+        (
+          p .area,
+          (
+            omega (arith, old, l .inv .0 .covers (l .i) (omega arith) more),
+            (omega (arith, paid, l .inv .0 .payments (l .i) (omega arith) more), l .inv .1),
+          ),
+        ),
+      ),
+    )
 
-terms-by-requires : tie.Need-terms-by-requires Inv-loop μ-loop
-terms-by-requires c κs = (c .before .before .before .before .before .before .before .before .before .before .before .before .before .pre .read, (c .before .before .before .before .before .before .before .before .before .terms-of .ensures, c .new-cover .ensures .there))
-
--- the bicycle's payments are in their range
-before-most : (c : tie.After-terms-by Inv-loop μ-loop) → c .before .before .get2 .result ≤ mostPaid
-before-most c =
-    let l = c .before .before .before .before .before .before .before .before .before .loop in
-    let paid = c .before .before .get2 .ensures .value ∙ ap (word (l .book)) (c .before .before .before .before .payments .ensures .0) in
-    omega (arith, paid, l .inv .payments (l .i) (omega arith) (c .before .before .before .before .before .before .before .before .loop-test .taken))
-
-paid-with-requires : tie.Need-paid-with-requires Inv-loop μ-loop
-paid-with-requires c κs = (c .terms-by .ensures .range, before-most c)
-
-few-areas : (c : tie.After-put-arg Inv-loop μ-loop) → c .before .before .before .before .before .before .before .before .before .before .before .before .before .before .before .before .args .counts .areas ≤ 32
-few-areas c = faultless _ _ (c .before .before .before .before .before .before .before .before .before .before .before .before .before .before .before .before .pre .read) .few-areas
+few-areas : (c : tie.After-struct-known Inv-loop μ-loop) → c .before .before .before .before .before .before .before .before .before .before .before .before .before .before .before .args .counts .areas ≤ 32
+few-areas c = faultless _ _ (c .before .before .before .before .before .before .before .before .before .before .before .before .before .before .before .pre .read) .few-areas
 
 cast-put : tie.Need-cast-put Inv-loop μ-loop
-cast-put c = omega (arith, c .before .before .before .new-cover .ensures .there, few-areas c)
+cast-put c = omega (arith, c .before .before .cover-found .ensures .renewed .there, few-areas c)
 
 add-put : tie.Need-add-put Inv-loop μ-loop
-add-put c = omega (arith, c .before .before .before .new-cover .ensures .there, few-areas c)
+add-put c = omega (arith, c .before .before .cover-found .ensures .renewed .there, few-areas c)
 
 put-requires : tie.Need-put-requires Inv-loop μ-loop
-put-requires c κs = let s = c .before .before .before .before .before .before .before .before .before in (s .before .before .loop .inv .size, s .cover .ensures .1)
+put-requires c κs = let s = c .before .before .before .before .before .before .before .before in (s .before .before .loop .inv .0 .size, s .cover .ensures .1)
 
 put-requires-2 : tie.Need-put-requires-2 Inv-loop μ-loop
 put-requires-2 c κs =
-    let s = c .before .before .before .before .before .before .before .before .before .before in
-    (ap length (c .before .before .before .put .ensures) ∙ size-put _ _ _ ∙ s .before .before .before .before .before .loop .inv .size, s .payments .ensures .1)
+    let s = c .before .before .before .before .before .before .before .before .before in
+    (ap length (c .before .before .before .put .ensures) ∙ size-put _ _ _ ∙ s .before .before .before .before .before .loop .inv .0 .size, s .payments .ensures .1)
 
 -- a turn, from its end
 abbrev turn : tie.After-slice-known3 Inv-loop μ-loop → tie.In-loop Inv-loop μ-loop
-turn c = c .before .before .before .before .before .before .before .before .before .before .before .before .before .before .before .before .before
+turn c = c .before .before .before .before .before .before .before .before .before .before .before .before .before .before .before .before
 
 add-i : tie.Need-add-i Inv-loop μ-loop
 add-i c = omega (arith, turn c .loop-test .taken, turn c .before .before .before .before .before .before .pre .few)
@@ -95,22 +99,22 @@ loop-less c = omega (arith, turn c .loop-test .taken)
 loop-again : tie.Need-loop-again Inv-loop μ-loop
 loop-again c =
     let put = c .before .before .before .before .before .before in
-    let s = put .before .before .before .before .before in
-    let cover = put .before .before .before .before .new-cover .ensures in
-    let asked = put .before .before .before in
-    let paid =
-    paid-terms (faultless _ _ (turn c .before .before .before .before .before .before .pre .read)) _ (cover .there) (asked .terms-by .ensures)
-    (before-most asked) (put .before .before .paid-with .ensures)
-    in
-    bicycles-turn (turn c .before .loop .inv) (turn c .loop-test .taken) (s .before .before .before .before .before .cover .ensures .0)
-    (s .before .before .before .get .ensures .value) (s .before .before .payments .ensures .0) (s .get2 .ensures .value) (cover .value)
-    (paid .value) (put .put .ensures) (c .before .before .put2 .ensures)
+    let found = put .before .before .before .cover-found .ensures in
+    let s = put .before .before .before .before in (
+      bicycles-turn (turn c .before .loop .inv .0) (turn c .loop-test .taken) (s .before .before .before .before .before .cover .ensures .0)
+          (s .before .before .before .get .ensures .value) (s .before .before .payments .ensures .0) (s .get2 .ensures .value)
+          (found .renewed .cover)
+          (found .renewed .payments)
+          (put .put .ensures)
+          (c .before .before .put2 .ensures),
+      record { right = λ known. rw (found .found, found .found-paid) (found .renewed) },
+    )
 
 same-length : tie.Need-same-length Inv-loop μ-loop
-same-length c = c .before .loop .inv .size ∙ sym (c .before .before .before .before .before .before .pre .size)
+same-length c = c .before .loop .inv .0 .size ∙ sym (c .before .before .before .before .before .before .pre .size)
 
 returns-2 : tie.Need-returns-2 Inv-loop μ-loop
-returns-2 c = bicycles-end _ (c .before .loop .inv) (c .loop-test .left)
+returns-2 c = bicycles-end _ (c .before .loop .inv .0) (c .loop-test .left)
 
 pub cover-bicycles-spec : {M : Type 1} → statement M
 cover-bicycles-spec =
@@ -126,9 +130,7 @@ cover-bicycles-spec =
     cast-old
     payments-requires
     get-requires-2
-    new-cover-requires
-    terms-by-requires
-    paid-with-requires
+    cover-found-requires
     cast-put
     add-put
     put-requires

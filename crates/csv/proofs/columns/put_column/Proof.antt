@@ -8,15 +8,15 @@ use Rattle.csv.proofs.columns.put_column.Tie as tie
 put-text-requires : tie.Need-put-text-requires
 put-text-requires c κs = search needs
 
-put-short-requires : tie.Need-put-short-requires
-put-short-requires c κs = search needs
+put-small-requires : tie.Need-put-small-requires
+put-small-requires c κs = search needs
 
 same-length : tie.Need-same-length
 same-length c = search needs
 
 returns : tie.Need-returns
 returns c =
-    behind-join (c .before .before .before .before .before .before .put-text .ensures) (c .before .before .put-short .ensures)
+    behind-join (c .before .before .before .before .before .before .put-text .ensures) (c .before .before .put-small .ensures)
 
 pub put-column-spec : {M : Type 1} → statement M
-put-column-spec = tie.close (tie.spec put-text-requires put-short-requires same-length returns)
+put-column-spec = tie.close (tie.spec put-text-requires put-small-requires same-length returns)

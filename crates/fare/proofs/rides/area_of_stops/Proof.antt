@@ -11,11 +11,11 @@ use Rattle.fare.proofs.rides.area_of_stops.Statement.{statement}
 use Rattle.fare.proofs.rides.area_of_stops.Tie as tie
 
 abbrev Inv-loop : tie.InvT-loop
-Inv-loop tariff counts trip stops first last area₀ i₀ area i =
+Inv-loop tariff counts trip stops first last tariff₁ trip₁ area₀ i₀ area i =
     (first ≤ i) × ((i ≤ last) × AreaOfStops tariff counts trip first i area)
 
 abbrev μ-loop : tie.MeasureT-loop
-μ-loop tariff counts trip stops first last area₀ i₀ area i = last - i
+μ-loop tariff counts trip stops first last tariff₁ trip₁ area₀ i₀ area i = last - i
 
 stop-of-requires : tie.Need-stop-of-requires Inv-loop μ-loop
 stop-of-requires c κs = search needs

@@ -1,6 +1,8 @@
 -- `turns::take_line` meets its contract: behind the last record's line stands the tail, and behind any other nothing.
 -- Assumes nothing.
+use mathlib.Core.Bool.{false}
 use borrow.Author.Needs.{needs}
+use borrow.Author.Tests.{eq-eqb, ne-eqb}
 use Rattle.lines.proofs.Taken.{last-taken, on-taken}
 use Rattle.lines.proofs.turns.take_line.Statement.{statement}
 use Rattle.lines.proofs.turns.take_line.Tie as tie
@@ -24,7 +26,7 @@ returns : tie.Need-returns
 returns c =
     let args = c .before .before .before .before .before .before .before .before .before .before .before .before .args in
     let after = c .before .before .before .before .before .before .before .before .before .before .count in
-    last-taken (args .tally) (args .line) (args .used) (args .last) (after .result) (after .ensures) (c .before .before .before .before .if1 .taken)
+    last-taken (args .tally) (args .line) (args .used) false (after .result) (after .ensures) (eq-eqb _ _ (c .before .before .before .before .if1 .taken))
     (c .before .before .before .before .before .before .before .put-line .ensures) (c .before .before .put-tail .ensures)
 
 same-length-2 : tie.Need-same-length-2
@@ -34,7 +36,7 @@ returns-2 : tie.Need-returns-2
 returns-2 c =
     let args = c .before .before .before .before .before .before .before .before .args in
     let after = c .before .before .before .before .before .before .count in
-    on-taken (args .tally) (args .line) (args .used) (args .last) (after .result) (after .ensures) (c .if1 .left) (c .before .before .before .put-line .ensures)
+    on-taken (args .tally) (args .line) (args .used) false (after .result) (after .ensures) (ne-eqb _ _ (c .if1 .left)) (c .before .before .before .put-line .ensures)
 
 pub take-line-spec : {M : Type 1} → statement M
 take-line-spec =

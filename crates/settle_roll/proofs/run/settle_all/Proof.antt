@@ -6,6 +6,7 @@ use mathlib.Core.Path.{_≡_, refl}
 use borrow.Author.Needs.{needs}
 use lib.ListN.{length}
 use Rattle.streams.specs.Flows.{InRange, left}
+use Rattle.roll.specs.Contracts.{Room}
 use Rattle.lines.specs.Contracts.{mostTurn}
 use Rattle.settle_roll.specs.Contracts.{Running, recordsLeft}
 use Rattle.settle_roll.proofs.Turns.{on-by, last-by, counting-by}
@@ -13,17 +14,17 @@ use Rattle.settle_roll.proofs.run.settle_all.Statement.{statement}
 use Rattle.settle_roll.proofs.run.settle_all.Tie as tie
 
 abbrev Inv-loop : tie.InvT-loop
-Inv-loop tariff counts book₀ input₀ out₀ run₀ book input out run =
-    Running tariff counts book input out run × (length book ≡ length book₀)
+Inv-loop tariff counts book₀ input₀ out₀ statement₀ run₀ book input out statement run =
+    Running tariff counts book input out run × (length book ≡ length book₀) × Room statement
 
 abbrev μ-loop : tie.MeasureT-loop
-μ-loop tariff counts book₀ input₀ out₀ run₀ book input out run = left recordsLeft (run .flow) (record { book = book; tally = run .tally })
+μ-loop tariff counts book₀ input₀ out₀ statement₀ run₀ book input out statement run = left recordsLeft (run .flow) (record { book = book; tally = run .tally })
 
 loop-holds : tie.Need-loop-holds Inv-loop μ-loop
-loop-holds c = (c .before .before .before .before .pre .running, refl)
+loop-holds c = (c .before .before .before .before .before .pre .0 .running, refl, c .before .before .before .before .before .pre .1)
 
 take-step-requires : tie.Need-take-step-requires Inv-loop μ-loop
-take-step-requires c κs = c .before .before .before .loop .inv .0
+take-step-requires c κs = let now = c .before .before .before .before .loop .inv in (now .0, now .2)
 
 enum-known-on : tie.Need-enum-known-on Inv-loop μ-loop
 enum-known-on c = search needs
@@ -32,22 +33,24 @@ enum-known-on c = search needs
 onward :
     (c : tie.After-known-told Inv-loop μ-loop)
     → InRange mostTurn (c .before .on .given .0 .0 .flow)
-    × (left recordsLeft (c .before .on .given .0 .0 .flow) (record { book = c .before .before .before .before .before .before .before .before .before .take-step .last .1 .1 .0; tally = c .before .on .given .0 .0 .tally })
-    < left recordsLeft (c .before .before .before .before .before .before .before .before .before .before .before .before .before .loop .run .flow) (record { book = c .before .before .before .before .before .before .before .before .before .before .before .before .before .loop .book; tally = c .before .before .before .before .before .before .before .before .before .before .before .before .before .loop .run .tally }))
-onward c = on-by _ _ (c .before .before .before .before .before .before .before .before .before .take-step .ensures .advanced) (c .before .on .given .1)
+    × (left recordsLeft (c .before .on .given .0 .0 .flow) (record { book = c .before .before .before .before .before .before .before .before .before .before .before .take-step .last .1 .1 .0; tally = c .before .on .given .0 .0 .tally })
+    < left recordsLeft (c .before .before .before .before .before .before .before .before .before .before .before .before .before .before .before .before .loop .run .flow) (record { book = c .before .before .before .before .before .before .before .before .before .before .before .before .before .before .before .before .loop .book; tally = c .before .before .before .before .before .before .before .before .before .before .before .before .before .before .before .before .loop .run .tally }))
+onward c = on-by _ _ (c .before .before .before .before .before .before .before .before .before .before .before .take-step .ensures .advanced) (c .before .on .given .1)
 
 loop-less : tie.Need-loop-less Inv-loop μ-loop
 loop-less c = onward c .1
 
 loop-again : tie.Need-loop-again Inv-loop μ-loop
 loop-again c =
-    let step = c .before .before .before .before .before .before .before .before .before .take-step in (
+    let sizes = c .before .before .before .before .before .before .before .before .before .before .before .before .before .before .before .before .loop .inv .0 .sizes in
+    let step = c .before .before .before .before .before .before .before .before .before .before .before .take-step in (
       record {
         ready = step .ensures .again;
-        sizes = record { of-input = omega arith; of-out = omega arith };
+        sizes = record { of-input = omega (arith, sizes .of-input); of-out = omega (arith, sizes .of-out) };
         range = onward c .0;
         counting = counting-by (step .ensures .counting) (c .before .on .given .1);
       },
+      omega arith,
       omega arith,
     )
 
@@ -55,7 +58,7 @@ enum-known-end : tie.Need-enum-known-end Inv-loop μ-loop
 enum-known-end c = search needs
 
 write-requires : tie.Need-write-requires Inv-loop μ-loop
-write-requires c κs = omega (arith, last-by _ _ (c .before .before .before .before .before .before .before .before .before .before .take-step .ensures .advanced) (c .before .before .end .given .1), c .before .before .before .before .before .before .before .before .before .before .before .before .before .before .loop .inv .0 .sizes .of-out)
+write-requires c κs = omega (arith, last-by _ _ (c .before .before .before .before .before .before .before .before .before .before .before .before .take-step .ensures .advanced) (c .before .before .end .given .1), c .before .before .before .before .before .before .before .before .before .before .before .before .before .before .before .before .before .loop .inv .0 .sizes .of-out)
 
 same-length : tie.Need-same-length Inv-loop μ-loop
 same-length c = omega arith
@@ -66,20 +69,26 @@ same-length-2 c = omega arith
 same-length-3 : tie.Need-same-length-3 Inv-loop μ-loop
 same-length-3 c = omega arith
 
+same-length-4 : tie.Need-same-length-4 Inv-loop μ-loop
+same-length-4 c = omega arith
+
 returns : tie.Need-returns Inv-loop μ-loop
 returns c = tt
 
 enum-told : tie.Need-enum-told Inv-loop μ-loop
 enum-told c = search needs
 
-same-length-4 : tie.Need-same-length-4 Inv-loop μ-loop
-same-length-4 c = omega arith
-
 same-length-5 : tie.Need-same-length-5 Inv-loop μ-loop
 same-length-5 c = omega arith
 
 same-length-6 : tie.Need-same-length-6 Inv-loop μ-loop
 same-length-6 c = omega arith
+
+same-length-7 : tie.Need-same-length-7 Inv-loop μ-loop
+same-length-7 c = omega arith
+
+same-length-8 : tie.Need-same-length-8 Inv-loop μ-loop
+same-length-8 c = omega arith
 
 returns-2 : tie.Need-returns-2 Inv-loop μ-loop
 returns-2 c = tt
@@ -101,8 +110,10 @@ settle-all-spec =
     same-length
     same-length-2
     same-length-3
-    returns
     same-length-4
+    returns
     same-length-5
     same-length-6
+    same-length-7
+    same-length-8
     returns-2)

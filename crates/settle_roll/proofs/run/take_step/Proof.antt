@@ -23,12 +23,12 @@ enum-told c = search needs
 
 read-more-requires : tie.Need-read-more-requires
 read-more-requires c κs =
-    let start = c .before .before .before .before .before .before .before .before .before .before .before .before .before .before .before .before .before .before in
-    let turned = c .before .before .before .before .before .before .before .before .take-turn in
-    let room = room-for-more (start .args .input .now) (start .pre .range) (start .pre .sizes .of-input) (turned .ensures) (c .before .before .enum-told .given .1) in
+    let start = c .before .before .before .before .before .before .before .before .before .before .before .before .before .before .before .before .before .before .before .before .before .before in
+    let turned = c .before .before .before .before .before .before .before .before .before .before .take-turn in
+    let room = room-for-more (start .args .input .now) (start .pre .0 .range) (start .pre .0 .sizes .of-input) (turned .ensures) (c .before .before .enum-told .given .1) in
     record {
-      sizes = record { of-input = start .pre .sizes .of-input; of-out = omega (arith, start .pre .sizes .of-out) };
-      range = record { order = start .pre .range .order; inside = start .pre .range .inside; fits = omega (arith, start .pre .range .room-left) };
+      sizes = record { of-input = start .pre .0 .sizes .of-input; of-out = omega (arith, start .pre .0 .sizes .of-out) };
+      range = record { order = start .pre .0 .range .order; inside = start .pre .0 .range .inside; fits = omega (arith, start .pre .0 .range .room-left) };
       more = room .0;
       room = room .1;
     }
@@ -39,17 +39,17 @@ go-on-requires c κs = search needs
 enum-known-used : tie.Need-enum-known-used
 enum-known-used c = search needs
 
-add-t31 : tie.Need-add-t31
-add-t31 c =
-    let start = c .before .before .before .before .before .before .before .before .before .before .before .before .before .before .before .before .before in
-    let turned = c .before .before .before .before .before .before .before .take-turn in
-    omega (arith, start .pre .range .inside, fits (start .args .input .now) (start .pre .range) (start .pre .sizes .of-input) (turned .ensures) (c .before .used .given .1))
+add-t34 : tie.Need-add-t34
+add-t34 c =
+    let start = c .before .before .before .before .before .before .before .before .before .before .before .before .before .before .before .before .before .before .before .before .before in
+    let turned = c .before .before .before .before .before .before .before .before .before .take-turn in
+    omega (arith, start .pre .0 .range .inside, fits (start .args .input .now) (start .pre .0 .range) (start .pre .0 .sizes .of-input) (turned .ensures) (c .before .used .given .1))
 
 make-room-requires : tie.Need-make-room-requires
 make-room-requires c κs =
-    let start = c .before .before .before .before .before .before .before .before .before .before .before .before .before .before .before .before .before .before in
-    let turned = c .before .before .before .before .before .before .before .before .take-turn in
-    (omega (arith, start .pre .sizes .of-out), (on-inside (start .args .input .now) (start .pre .range) (start .pre .sizes .of-input) (turned .ensures) (c .before .before .used .given .1), omega arith))
+    let start = c .before .before .before .before .before .before .before .before .before .before .before .before .before .before .before .before .before .before .before .before .before .before in
+    let turned = c .before .before .before .before .before .before .before .before .before .before .take-turn in
+    (omega (arith, start .pre .0 .sizes .of-out), (on-inside (start .args .input .now) (start .pre .0 .range) (start .pre .0 .sizes .of-input) (turned .ensures) (c .before .before .used .given .1), omega arith))
 
 go-on-requires-2 : tie.Need-go-on-requires-2
 go-on-requires-2 c κs = search needs
@@ -66,20 +66,20 @@ same-length-2 c = search needs
 same-length-3 : tie.Need-same-length-3
 same-length-3 c = search needs
 
+same-length-4 : tie.Need-same-length-4
+same-length-4 c = search needs
+
 returns : tie.Need-returns
 returns c =
-    let start = c .before .before .before .before .before .before .before .before .before .before .before .before .before .before .before .before .before .before .before .before .before .before in
-    let turned = c .before .before .before .before .before .before .before .before .before .before .before .before .take-turn in
+    let start = c .before .before .before .before .before .before .before .before .before .before .before .before .before .before .before .before .before .before .before .before .before .before .before .before .before .before in
+    let turned = c .before .before .before .before .before .before .before .before .before .before .before .before .before .before .take-turn in
     let read = c .before .before .before .read-more in
     rw (c .go-on .ensures)
     (record {
       again = turned .ensures .again;
-      counting = still-counting (read .result) (start .args .run .tally) (start .pre .counting);
-      advanced = asked-on (start .args .input .now) (start .pre .range) (start .pre .sizes .of-input) (turned .ensures) _ (read .result) (c .before .before .before .before .before .before .enum-told .given .1) (read .ensures);
+      counting = still-counting (read .result) (start .args .run .tally) (start .pre .0 .counting);
+      advanced = asked-on (start .args .input .now) (start .pre .0 .range) (start .pre .0 .sizes .of-input) (turned .ensures) _ (read .result) (c .before .before .before .before .before .before .enum-told .given .1) (read .ensures);
     })
-
-same-length-4 : tie.Need-same-length-4
-same-length-4 c = search needs
 
 same-length-5 : tie.Need-same-length-5
 same-length-5 c = search needs
@@ -87,32 +87,41 @@ same-length-5 c = search needs
 same-length-6 : tie.Need-same-length-6
 same-length-6 c = search needs
 
-returns-2 : tie.Need-returns-2
-returns-2 c =
-    let start = c .before .before .before .before .before .before .before .before .before .before .before .before .before .before .before .before .before .before .before .before in
-    let turned = c .before .before .before .before .before .before .before .before .before .before .take-turn in
-    let made = c .before .make-room in
-    rw (c .go-on2 .ensures)
-    (record {
-      again = turned .ensures .again;
-      counting = on-counting (start .args .input .now) (start .pre .range) (start .pre .sizes .of-input) (turned .ensures) (c .before .before .before .before .used .given .1) (made .result);
-      advanced = on-made (start .args .input .now) (start .pre .range) (start .pre .sizes .of-input) (turned .ensures) (c .before .before .before .before .used .given .1) (made .result) (made .ensures);
-    })
-
 same-length-7 : tie.Need-same-length-7
 same-length-7 c = search needs
 
 same-length-8 : tie.Need-same-length-8
 same-length-8 c = search needs
 
+returns-2 : tie.Need-returns-2
+returns-2 c =
+    let start = c .before .before .before .before .before .before .before .before .before .before .before .before .before .before .before .before .before .before .before .before .before .before .before .before in
+    let turned = c .before .before .before .before .before .before .before .before .before .before .before .before .take-turn in
+    let made = c .before .make-room in
+    rw (c .go-on2 .ensures)
+    (record {
+      again = turned .ensures .again;
+      counting = on-counting (start .args .input .now) (start .pre .0 .range) (start .pre .0 .sizes .of-input) (turned .ensures) (c .before .before .before .before .used .given .1) (made .result);
+      advanced = on-made (start .args .input .now) (start .pre .0 .range) (start .pre .0 .sizes .of-input) (turned .ensures) (c .before .before .before .before .used .given .1) (made .result) (made .ensures);
+    })
+
 same-length-9 : tie.Need-same-length-9
 same-length-9 c = search needs
 
+same-length-10 : tie.Need-same-length-10
+same-length-10 c = search needs
+
+same-length-11 : tie.Need-same-length-11
+same-length-11 c = search needs
+
+same-length-12 : tie.Need-same-length-12
+same-length-12 c = search needs
+
 returns-3 : tie.Need-returns-3
 returns-3 c =
-    let start = c .before .before .before .before .before .before .before .before .before .before .before .before .before .before .before .before .before in
-    let turned = c .before .before .before .before .before .before .before .take-turn in
-    record { again = turned .ensures .again; counting = tt; advanced = over (start .args .input .now) (start .pre .range) (start .pre .sizes .of-input) (turned .ensures) (c .before .end .given .1) }
+    let start = c .before .before .before .before .before .before .before .before .before .before .before .before .before .before .before .before .before .before .before .before .before in
+    let turned = c .before .before .before .before .before .before .before .before .before .take-turn in
+    record { again = turned .ensures .again; counting = tt; advanced = over (start .args .input .now) (start .pre .0 .range) (start .pre .0 .sizes .of-input) (turned .ensures) (c .before .end .given .1) }
 
 pub take-step-spec : {M : Type 1} → statement M
 take-step-spec =
@@ -126,19 +135,22 @@ take-step-spec =
     read-more-requires
     go-on-requires
     enum-known-used
-    add-t31
+    add-t34
     make-room-requires
     go-on-requires-2
     enum-known-end
     same-length
     same-length-2
     same-length-3
-    returns
     same-length-4
+    returns
     same-length-5
     same-length-6
-    returns-2
     same-length-7
     same-length-8
+    returns-2
     same-length-9
+    same-length-10
+    same-length-11
+    same-length-12
     returns-3)

@@ -1,10 +1,15 @@
--- `tariff::area_run::area_found` meets its contract: the kind that was found tells the frame, and its tests are those of `areaRight`.
+-- `tariff::area_run::area_found` meets its contract: the kind that was found tells the frame, and what was found of its values is `areaRight`.
 -- Assumes nothing.
 use native.Mathlib.Omega.{arith}
-use mathlib.Core.Path.{sym, _∙_}
-use mathlib.Core.Bool.{false≢true}
-use borrow.Author.Needs.{needs}
-use borrow.Author.Tests.{not-false}
+use mathlib.Core.Path.{_≡_, sym, _∙_}
+use mathlib.Core.Logic.{⊎-elim}
+use mathlib.Core.Bool.{true, cond, false≢true}
+use borrow.Author.Tests.{eq-eqb, ne-eqb, not-false}
+use lib.Dec.{eqb}
+use Rattle.tariff.specs.Layout.{aachenKind}
+use Rattle.tariff.specs.Fields.{areaFields, longFields}
+use Rattle.tariff.specs.Rules.{longRight}
+use Rattle.tariff.proofs.Places.{long-is}
 use Rattle.tariff.proofs.AreaRunLaws.{areas-there, found-fits, found-faultless}
 use Rattle.tariff.proofs.area_run.area_found.Statement.{statement}
 use Rattle.tariff.proofs.area_run.area_found.Tie as tie
@@ -15,53 +20,64 @@ returns c = record { told = λ e. absurd (false≢true e) }
 prices-found-requires : tie.Need-prices-found-requires
 prices-found-requires c κs =
     let start = c .before .before .before in
-    omega (arith, found-fits _ (start .args .run) _ (start .pre .3) (omega arith))
+    omega (arith, found-fits _ (start .args .run) _ (start .pre .2) (omega arith))
 
 returns-2 : tie.Need-returns-2
 returns-2 c = record { told = λ e. absurd (false≢true e) }
 
-area-fields-requires : tie.Need-area-fields-requires
-area-fields-requires c κs =
-    let start = c .before .before .before .before .before in
-    omega (arith, found-fits _ (start .args .run) _ (start .pre .3) (omega (arith, c .before .before .before .if1 .left)))
-
-caps-right-requires : tie.Need-caps-right-requires
-caps-right-requires c κs = search needs
+caps-found-requires : tie.Need-caps-found-requires
+caps-found-requires c κs =
+    let found = c .before .before .before in
+    let start = found .before .before in
+    omega (arith, found-fits _ (start .args .run) _ (start .pre .2) (omega (arith, found .if1 .left)))
 
 returns-3 : tie.Need-returns-3
 returns-3 c = record { told = λ e. absurd (false≢true e) }
 
-rest-right-requires : tie.Need-rest-right-requires
-rest-right-requires c κs =
-    let start = c .before .before .before .before .before .before .before .before in
-    found-fits _ (start .args .run) _ (start .pre .3) (omega (arith, c .before .before .before .before .before .before .if1 .left))
+area-fields-requires : tie.Need-area-fields-requires
+area-fields-requires c κs =
+    let found = c .before .before .before .before .before in
+    let start = found .before .before in
+    omega (arith, found-fits _ (start .args .run) _ (start .pre .2) (omega (arith, found .if1 .left)))
+
+long-found-requires : tie.Need-long-found-requires
+long-found-requires c κs =
+    let found = c .before .before .before .before .before .before .before in
+    let start = found .before .before in
+    omega (arith, found-fits _ (start .args .run) _ (start .pre .2) (omega (arith, found .if1 .left)), long-is (start .args .kind) (c .if4 .taken))
 
 returns-4 : tie.Need-returns-4
 returns-4 c = record { told = λ e. absurd (false≢true e) }
 
 place-right-requires : tie.Need-place-right-requires
 place-right-requires c κs =
-    let start = c .before .before .before .before .before .before .before .before .before .before in
-    (areas-there _ _ _ (start .pre .0 .passed .reached), start .pre .2)
+    let start = c .before .before .before .before .before .before .before .before .before in
+    areas-there _ _ _ (start .pre .0 .passed .reached)
 
 returns-5 : tie.Need-returns-5
 returns-5 c =
-    let rest = c .before .before in
-    let caps = rest .before .before in
-    let fields = caps .before in
-    let prices = fields .before .before in
-    let start = prices .before .before .before .before in
+    let fields = c .before .before in
+    let caps = fields .before .before in
+    let prices = caps .before .before in
+    let found = prices .before .before in
+    let start = found .before .before in
+    let b = start .args .b .now in
+    let at = start .args .run .at in
+    let kind = start .args .kind in
+    let besides : cond (eqb kind aachenKind) (longRight (areaFields b at) (longFields b at)) true ≡ true =
+    ⊎-elim (λ w. rw (eq-eqb kind aachenKind (w .0 .taken)) (w .1 .ensures .told (not-false _ (w .2 .left)))) (λ w. rw (ne-eqb kind aachenKind (w .left)))
+    (c .before .if4 .came)
+    in
     record {
       told =
           λ e.
-          found-faultless (start .args .b .now) (start .args .run) (start .args .kind) (start .pre .3) (omega (arith, prices .before .before .if1 .left))
-          (start .pre .0) (start .pre .1)
+          found-faultless b (start .args .run) kind (start .pre .2) (omega (arith, found .if1 .left)) (start .pre .0) (start .pre .1)
           (rw (
-            prices .prices-found .ensures .told (not-false _ (fields .before .if2 .left)),
+            prices .prices-found .ensures .told (not-false _ (caps .before .if2 .left)),
+            caps .caps-found .ensures .told (not-false _ (fields .before .if3 .left)),
+            besides,
             sym (fields .area-fields .ensures),
-            sym (caps .caps-right .ensures) ∙ not-false _ (rest .before .if3 .left),
             sym (c .place-right .ensures) ∙ e,
-            sym (rest .rest-right .ensures) ∙ not-false _ (c .before .if4 .left),
           ));
     }
 
@@ -72,10 +88,10 @@ area-found-spec =
     returns
     prices-found-requires
     returns-2
-    area-fields-requires
-    caps-right-requires
+    caps-found-requires
     returns-3
-    rest-right-requires
+    area-fields-requires
+    long-found-requires
     returns-4
     place-right-requires
     returns-5)

@@ -1,65 +1,76 @@
--- `tariff::areas::area_place` meets its contract. Where no area is of kind 8, none before this one is, and each has 29 bytes. Else the loop's
--- invariant: the place is that of area `i`. The measure is the areas left.
+-- `tariff::areas::area_place` meets its contract: each area before it has 29 bytes, and 13 more where it is of kind 8.
 -- Assumes nothing.
-use Prim.Native.Nat.{_-_, _≤_}
+use Prim.Native.Nat.{_≤_}
 use native.Mathlib.Omega.{arith}
-use mathlib.Core.Path.{_≡_, sym}
-use Rattle.tariff.specs.Layout.{areaPlace}
-use Rattle.tariff.proofs.Places.{place-none, place-next, place-is, place-before}
+use native.Mathlib.Nat.{mod-eq-of-lt}
+use mathlib.Core.Path.{_≡_, sym, ap, _∙_}
+use borrow.Author.Needs.{needs}
+use lib.Pow.{pow-pos}
+use lib.Count.{ones}
+use Rattle.tariff.proofs.Places.{longAreas, place-is, place-plain, long-few}
 use Rattle.tariff.proofs.areas.area_place.Statement.{statement}
 use Rattle.tariff.proofs.areas.area_place.Tie as tie
 
-abbrev Inv-loop : tie.InvT-loop
-Inv-loop b number at₀ i₀ at i = (at ≡ areaPlace b i) × (i ≤ number)
+mul-result : tie.Need-mul-result
+mul-result c = search needs
 
-abbrev μ-loop : tie.MeasureT-loop
-μ-loop b number at₀ i₀ at i = number - i
-
-mul-result : tie.Need-mul-result Inv-loop μ-loop
-mul-result c = omega (arith, c .before .before .before .pre)
-
-returns : tie.Need-returns Inv-loop μ-loop
+-- no area is of kind 8
+returns : tie.Need-returns
 returns c =
     let start = c .before .before .before in
-    omega (arith, c .if1 .taken, start .pre .long, place-is (start .args .b .now) (start .args .number))
+    let none = sym (rw (c .if1 .taken) at (start .pre .longs)) ∙ mod-eq-of-lt (pow-pos (start .args .number)) in
+    sym (place-plain (start .args .b .now) (start .args .number) none)
 
-loop-holds : tie.Need-loop-holds Inv-loop μ-loop
-loop-holds c = (sym (place-none _), omega arith)
+long-before-requires : tie.Need-long-before-requires
+long-before-requires c κs = search needs
 
-area-end-requires : tie.Need-area-end-requires Inv-loop μ-loop
-area-end-requires c κs =
-    let start = c .before .before .before .before .before in
-    let (here, _) = c .before .loop .inv in
-    rw here (omega (arith, start .pre .inside, place-before (start .args .b .now) (c .before .loop .i) (start .args .number) (c .loop-test .taken)))
+mul-result-2 : tie.Need-mul-result-2
+mul-result-2 c = search needs
 
-add-i : tie.Need-add-i Inv-loop μ-loop
-add-i c = omega arith
-
-loop-less : tie.Need-loop-less Inv-loop μ-loop
-loop-less c = omega arith
-
-loop-again : tie.Need-loop-again Inv-loop μ-loop
-loop-again c =
-    let start = c .before .before .before .before .before .before in
-    (rw (c .area-end .ensures, c .before .before .loop .inv .0) (sym (place-next (start .args .b .now) (c .before .before .loop .i))), omega arith)
-
-returns-2 : tie.Need-returns-2 Inv-loop μ-loop
+-- none before it is
+returns-2 : tie.Need-returns-2
 returns-2 c =
     let start = c .before .before .before .before .before in
-    let over : c .before .loop .i ≡ start .args .number = omega (arith, c .before .loop .inv .1, c .loop-test .left) in
-    rw over at (c .before .loop .inv .0)
+    let none = sym (start .pre .longs) ∙ sym (c .before .long-before .ensures) ∙ c .if2 .taken in
+    sym (place-plain (start .args .b .now) (start .args .number) none)
+
+-- so many before it are
+counted :
+    (c : tie.After-long-before)
+    → ones (c .long-before .result) ≡ longAreas (c .before .before .before .before .args .b .now) (c .before .before .before .before .args .number)
+counted c = ap ones (c .long-before .ensures ∙ c .before .before .before .before .pre .longs)
+
+few : (c : tie.After-long-before) → ones (c .long-before .result) ≤ c .before .before .before .before .args .number
+few c = let start = c .before .before .before .before in omega (arith, counted c, long-few (start .args .b .now) (start .args .number))
+
+mul-result-3 : tie.Need-mul-result-3
+mul-result-3 c = search needs
+
+cast-result : tie.Need-cast-result
+cast-result c = omega (arith, few (c .before))
+
+mul-result-4 : tie.Need-mul-result-4
+mul-result-4 c = omega (arith, few (c .before))
+
+add-result : tie.Need-add-result
+add-result c = omega (arith, few (c .before))
+
+returns-3 : tie.Need-returns-3
+returns-3 c =
+    let start = c .before .before .before .before .before in
+    omega (arith, counted (c .before), place-is (start .args .b .now) (start .args .number))
 
 pub area-place-spec : {M : Type 1} → statement M
 area-place-spec =
     tie.close
     (tie.spec
-    Inv-loop
-    μ-loop
     mul-result
     returns
-    loop-holds
-    area-end-requires
-    add-i
-    loop-less
-    loop-again
-    returns-2)
+    long-before-requires
+    mul-result-2
+    returns-2
+    mul-result-3
+    cast-result
+    mul-result-4
+    add-result
+    returns-3)

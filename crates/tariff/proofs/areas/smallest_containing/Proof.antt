@@ -4,56 +4,82 @@ use mathlib.Core.Path.{sym, _∙_}
 use borrow.Author.Needs.{needs}
 use Rattle.tariff.specs.Areas.{FaultlessTariff}
 use Rattle.tariff.proofs.Faultless.{faultless}
-use Rattle.tariff.proofs.Within.{smallest-own, smallest-parent, smallest-top}
+use Rattle.tariff.proofs.Within.{
+  within-self,
+  within-parent,
+  within-state,
+  smallest-own,
+  meets-other,
+  meets-parent,
+  meets-state,
+}
 use Rattle.tariff.proofs.areas.smallest_containing.Statement.{statement}
 use Rattle.tariff.proofs.areas.smallest_containing.Tie as tie
-
-lies-within-requires : tie.Need-lies-within-requires
-lies-within-requires c κs = search needs
-
-parent-requires : tie.Need-parent-requires
-parent-requires c κs = search needs
-
-lies-within-requires-2 : tie.Need-lies-within-requires-2
-lies-within-requires-2 c κs = search needs
-
-parent-requires-2 : tie.Need-parent-requires-2
-parent-requires-2 c κs = search needs
 
 tariff : (c : tie.Start) → FaultlessTariff (c .args .tariff .now) (c .args .counts)
 tariff c = faultless (c .args .tariff .now) (c .args .counts) (c .pre .0)
 
 returns : tie.Need-returns
 returns c =
-    let start = c .before .before .before in
+    let start = c .before .before in
     smallest-own (tariff start) (start .args .a) (start .args .b) (start .pre .1 .0)
-    (sym (c .before .lies-within .ensures) ∙ c .if1 .taken)
+    (within-self (start .args .tariff .now) (start .args .counts) (start .args .b) (start .args .a) (sym (c .if1 .taken)))
 
 returns-2 : tie.Need-returns-2
 returns-2 c =
-    let start = c .before .before .before .before .before .before in
-    smallest-parent (tariff start) (start .args .a) (start .args .b) (start .pre .1 .0) (c .before .before .parent .result)
-    (c .before .before .parent .ensures .value)
-    (sym (c .before .before .before .before .lies-within .ensures) ∙ c .before .before .before .if1 .left)
-    (sym (c .before .lies-within2 .ensures) ∙ c .if2 .taken)
+    let start = c .before .before .before in
+    smallest-own (tariff start) (start .args .a) (start .args .b) (start .pre .1 .0)
+    (rw (c .if2 .taken) (within-state (tariff start) (start .args .b) (start .pre .1 .1)))
+
+parent-requires : tie.Need-parent-requires
+parent-requires c κs = search needs
 
 returns-3 : tie.Need-returns-3
 returns-3 c =
-    let start = c .before .before .before .before .before .before .before in
-    smallest-top (tariff start) (start .args .a) (start .args .b) (start .pre .1 .0)
-    (c .before .before .before .parent .result) (c .parent2 .result)
-    (c .before .before .before .parent .ensures .value) (c .parent2 .ensures .value) (start .pre .1 .1)
-    (sym (c .before .before .before .before .before .lies-within .ensures) ∙ c .before .before .before .before .if1 .left)
-    (sym (c .before .before .lies-within2 .ensures) ∙ c .before .if2 .left)
+    let start = c .before .before .before .before .before in
+    smallest-own (tariff start) (start .args .a) (start .args .b) (start .pre .1 .0)
+    (within-parent (start .args .tariff .now) (start .args .counts) (start .args .b) (start .args .a)
+    (sym (c .before .parent .ensures .value) ∙ c .if3 .taken))
+
+parent-requires-2 : tie.Need-parent-requires-2
+parent-requires-2 c κs = search needs
+
+returns-4 : tie.Need-returns-4
+returns-4 c =
+    let found = c .before in
+    let start = found .before .before .before .before .before .before in
+    meets-other (tariff start) (start .args .a) (start .args .b) (start .pre .1 .0) (start .pre .1 .1)
+    (found .before .before .parent .result) (found .parent2 .result) (found .before .before .parent .ensures .value) (found .parent2 .ensures .value)
+    (found .before .before .before .before .if1 .left) (found .before .before .before .if2 .left) (found .before .if3 .left)
+    (c .if4 .taken)
+
+returns-5 : tie.Need-returns-5
+returns-5 c =
+    let found = c .before .before in
+    let start = found .before .before .before .before .before .before in
+    meets-parent (tariff start) (start .args .a) (start .args .b) (start .pre .1 .0) (start .pre .1 .1)
+    (found .before .before .parent .result) (found .parent2 .result) (found .before .before .parent .ensures .value) (found .parent2 .ensures .value)
+    (found .before .before .before .before .if1 .left) (found .before .before .before .if2 .left) (found .before .if3 .left)
+    (c .if5 .taken)
+
+returns-6 : tie.Need-returns-6
+returns-6 c =
+    let found = c .before .before in
+    let start = found .before .before .before .before .before .before in
+    meets-state (tariff start) (start .args .a) (start .args .b) (start .pre .1 .0) (start .pre .1 .1)
+    (found .before .before .parent .result) (found .parent2 .result) (found .before .before .parent .ensures .value) (found .parent2 .ensures .value)
+    (found .before .before .before .before .if1 .left) (found .before .before .before .if2 .left) (found .before .if3 .left)
+    (c .before .if4 .left) (c .if5 .left)
 
 pub smallest-containing-spec : {M : Type 1} → statement M
 smallest-containing-spec =
     tie.close
     (tie.spec
-    lies-within-requires
     returns
-    parent-requires
-    lies-within-requires-2
     returns-2
+    parent-requires
+    returns-3
     parent-requires-2
-    returns-3)
+    returns-4
+    returns-5
+    returns-6)

@@ -1,4 +1,4 @@
--- A stop of a faultless tariff is read at its place behind the factor records, which lies within the tariff, and put in its units.
+-- A stop of a faultless tariff is read at its place before the tariff's end, which lies within the tariff, and put in its units.
 -- Assumes nothing.
 use native.Mathlib.Omega.{arith}
 use Rattle.tariff.specs.Areas.{stopAt}
@@ -8,8 +8,7 @@ use Rattle.tariff.proofs.areas.stop.Tie as tie
 
 stop-place-requires : tie.Need-stop-place-requires
 stop-place-requires c κs =
-    let t = faultless (c .before .args .tariff .now) (c .before .args .counts) (c .before .pre .0) in
-    (t .few-areas, omega (arith, t .few-long, t .few-areas), t .few-factors, omega (arith, t .few-stops, c .before .pre .1))
+    (faultless (c .before .args .tariff .now) (c .before .args .counts) (c .before .pre .0) .size, c .before .pre .1)
 
 stop-fields-requires : tie.Need-stop-fields-requires
 stop-fields-requires c κs = omega (arith, c .stop-place .ensures, stop-inside _ (c .before .before .args .counts) _ (c .before .before .pre))

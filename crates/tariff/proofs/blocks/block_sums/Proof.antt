@@ -1,8 +1,7 @@
--- `tariff::blocks::block_sums` meets its contract: it joins the words of three runs of stops, one after another.
+-- `tariff::blocks::block_sums` meets its contract: it joins the words of two runs of stops, one after another.
 -- Assumes nothing.
-use native.Mathlib.Omega.{arith}
 use borrow.Author.Needs.{needs}
-use Rattle.tariff.proofs.BlockLaws.{tells-three}
+use Rattle.tariff.proofs.BlockLaws.{tells-joined}
 use Rattle.tariff.proofs.blocks.block_sums.Statement.{statement}
 use Rattle.tariff.proofs.blocks.block_sums.Tie as tie
 
@@ -21,28 +20,13 @@ nine-sums-requires-2 c κs = search needs
 joined-requires : tie.Need-joined-requires
 joined-requires c κs = search needs
 
-mul-nine-sums-2 : tie.Need-mul-nine-sums-2
-mul-nine-sums-2 c = search needs
-
-mul-nine-sums-3 : tie.Need-mul-nine-sums-3
-mul-nine-sums-3 c = search needs
-
-add-nine-sums-2 : tie.Need-add-nine-sums-2
-add-nine-sums-2 c = search needs
-
-nine-sums-requires-3 : tie.Need-nine-sums-requires-3
-nine-sums-requires-3 c κs = search needs
-
-joined-requires-2 : tie.Need-joined-requires-2
-joined-requires-2 c κs = search needs
-
 returns : tie.Need-returns
 returns c =
-    let first = c .before .before .before .before in
+    let first = c .before .before in
     let a = first .before .before .args in
-    tells-three (a .b .now) (a .at) _ _ (a .areas) 9 (first .nine-sums .result) (c .before .before .before .nine-sums2 .result) (c .before .nine-sums3 .result)
-    (c .before .before .joined .result) (c .joined2 .result) (omega arith) (omega arith) (first .nine-sums .ensures)
-    (c .before .before .before .nine-sums2 .ensures) (c .before .nine-sums3 .ensures) (c .before .before .joined .ensures) (c .joined2 .ensures)
+    rw (c .joined .ensures)
+    (tells-joined (a .b .now) (a .at) (a .areas) 9 9 (first .nine-sums .result) (c .before .nine-sums2 .result) (first .nine-sums .ensures)
+    (c .before .nine-sums2 .ensures))
 
 pub block-sums-spec : {M : Type 1} → statement M
 block-sums-spec =
@@ -53,9 +37,4 @@ block-sums-spec =
     add-nine-sums
     nine-sums-requires-2
     joined-requires
-    mul-nine-sums-2
-    mul-nine-sums-3
-    add-nine-sums-2
-    nine-sums-requires-3
-    joined-requires-2
     returns)

@@ -1,4 +1,4 @@
--- `tariff::factors::factor_of` meets its contract: the region's factor record is there, and is read at its place behind the areas.
+-- `tariff::factors::factor_of` meets its contract: the region's factor record is there, and is read at its place before the stops.
 -- Assumes nothing.
 use Prim.Native.Nat.{_<_}
 use native.Mathlib.Omega.{arith}
@@ -31,8 +31,7 @@ cast-factor-place c = search needs
 
 factor-place-requires : tie.Need-factor-place-requires
 factor-place-requires c κs =
-    let t = tariff (c .before .before .before) in
-    (t .few-areas, omega (arith, t .few-long, t .few-areas), omega (arith, t .few-factors, there c))
+    (tariff (c .before .before .before) .size, there c)
 
 factor-fields-requires : tie.Need-factor-fields-requires
 factor-fields-requires c κs =

@@ -9,7 +9,7 @@ use lib.ListN.{length}
 use Rattle.tariff.specs.Layout.{areaSize}
 use Rattle.tariff.specs.Rules.{placeRight}
 use Rattle.tariff.specs.Contracts.{AreaThere}
-use Rattle.tariff.proofs.Places.{place-none, long-up, place-before}
+use Rattle.tariff.proofs.Places.{place-none, bits-cut, place-before}
 use Rattle.tariff.proofs.PlaceLaws.{place-of-region, place-of-none}
 use Rattle.tariff.proofs.rules.place_right.Statement.{statement}
 use Rattle.tariff.proofs.rules.place_right.Tie as tie
@@ -23,7 +23,7 @@ flat-at-requires : tie.Need-flat-at-requires
 flat-at-requires c κs =
     let start = c .before .before .before in
     let b = start .args .b .now in
-    omega (arith, start .pre .0 .inside, place-before b 0 (start .args .so-far .areas) (omega arith), place-none b)
+    omega (arith, start .pre .inside, place-before b 0 (start .args .so-far .areas) (omega arith), place-none b)
 
 returns-2 : tie.Need-returns-2
 returns-2 c =
@@ -35,9 +35,6 @@ returns-3 : tie.Need-returns-3
 returns-3 c =
     let a = c .before .before .before .before .args in
     place-of-none (a .b .now) (a .so-far) (a .kind) (a .f) (omega arith) (c .before .if2 .left) (c .if3 .taken)
-
-cast-if4 : tie.Need-cast-if4
-cast-if4 c = search needs
 
 returns-4 : tie.Need-returns-4
 unfolding placeRight
@@ -57,18 +54,21 @@ there c =
     let earlier : parent < areas = omega arith in
     record {
       few = omega arith;
-      inside = omega (arith, start .pre .0 .inside, place-before (start .args .b .now) parent areas earlier);
-      long = omega (arith, start .pre .0 .long, long-up (start .args .b .now) parent areas (omega arith));
+      inside = omega (arith, start .pre .inside, place-before (start .args .b .now) parent areas earlier);
+      longs = rw (start .pre .longs) (bits-cut (start .args .b .now) parent areas (omega arith));
     }
 
-parent-place-requires : tie.Need-parent-place-requires
-parent-place-requires c κs = (there c, c .before .before .before .before .before .pre .1)
+cast-area-place : tie.Need-cast-area-place
+cast-area-place c = search needs
+
+area-place-requires : tie.Need-area-place-requires
+area-place-requires c κs = there c
 
 -- and its level, kind and flat are
 parent-fits :
-    (c : tie.After-parent-place)
-    → c .parent-place .result + areaSize ≤ length (c .before .before .before .before .before .before .args .b .now)
-parent-fits c = omega (arith, c .parent-place .ensures, there (c .before) .inside)
+    (c : tie.After-area-place)
+    → c .area-place .result + areaSize ≤ length (c .before .before .before .before .before .before .args .b .now)
+parent-fits c = omega (arith, c .area-place .ensures, there (c .before) .inside)
 
 level-at-requires : tie.Need-level-at-requires
 level-at-requires c κs = parent-fits c
@@ -93,7 +93,7 @@ returns-5 c =
       c .before .before .before .level-at .ensures,
       c .before .before .kind-at .ensures,
       c .before .flat-at2 .ensures,
-      placed .parent-place .ensures,
+      placed .area-place .ensures,
     )
 
 pub place-right-spec : {M : Type 1} → statement M
@@ -104,9 +104,9 @@ place-right-spec =
     flat-at-requires
     returns-2
     returns-3
-    cast-if4
     returns-4
-    parent-place-requires
+    cast-area-place
+    area-place-requires
     level-at-requires
     kind-at-requires
     flat-at-requires-2

@@ -7,7 +7,6 @@ use mathlib.Core.Bool.{true, _&&_}
 use borrow.Author.Needs.{needs}
 use Rattle.tariff.specs.Fields.{areaFields, longFields}
 use Rattle.tariff.specs.Rules.{areaRight}
-use Rattle.tariff.proofs.Places.{long-none}
 use Rattle.tariff.proofs.AreaRunLaws.{areas-there}
 use Rattle.tariff.proofs.Entries.{areaDue, area-tests, area-is-due, area-not-due}
 use Rattle.tariff.proofs.scan.area_entry.Statement.{statement}
@@ -30,6 +29,9 @@ due :
     ≡ true
 due c = rw (c .before .before .before .before .long-of .ensures .0) at (c .if1 .taken)
 
+cast-if1 : tie.Need-cast-if1
+cast-if1 c = search needs
+
 area-fields-requires : tie.Need-area-fields-requires
 area-fields-requires c κs =
     let a = c .before .before .before .before .before .before .args in
@@ -45,7 +47,7 @@ caps-right-requires c κs = search needs
 place-right-requires : tie.Need-place-right-requires
 place-right-requires c κs =
     let start = c .before .before .before .before .before .before .before .before .before in
-    (areas-there (start .args .b .now) (start .args .at) (start .args .so-far) (start .pre .0), long-none (start .args .b .now))
+    areas-there (start .args .b .now) (start .args .at) (start .args .so-far) (start .pre .0)
 
 rest-right-requires : tie.Need-rest-right-requires
 rest-right-requires c κs =
@@ -90,6 +92,7 @@ area-entry-spec =
     long-of-requires
     mul-if1
     add-if1
+    cast-if1
     area-fields-requires
     prices-right-requires
     caps-right-requires

@@ -1,20 +1,20 @@
 -- `tariff::scan::read_tariff` meets its contract. The loop's invariant: every record before the place is faultless, so many areas, factor
 -- records and stops reach it, and so many factor records are due; so a fault met there is the first, and at the end the counts are finished.
--- An area and a stop are passed with those that are found to stand after them. The measure is the bytes left.
+-- Areas, factor records and stops are passed with those that are found to stand after them. The measure is the bytes left.
 -- Assumes nothing.
 use Prim.Native.Nat.{_-_}
 use native.Mathlib.Omega.{arith}
 use mathlib.Core.Path.{_≡_, sym, _∙_}
 use borrow.Author.Needs.{needs}
 use lib.ListN.{length}
-use Rattle.tariff.specs.Layout.{longAreas}
-use Rattle.tariff.specs.Rules.{levelOf, factorsDue}
+use Rattle.tariff.specs.Layout.{longBits}
+use Rattle.tariff.specs.Rules.{factorsDue}
 use Rattle.tariff.specs.Scan.{entryAt, Passed}
 use Rattle.tariff.specs.declared.scan.Entry.the-variants.{Area, Factor, Stop}
-use Rattle.tariff.proofs.Entries.{factor-entry, stop-entry}
-use Rattle.tariff.proofs.Passed.{passed-none, passed-factor, passed-stop, at-end, at-fault}
+use Rattle.tariff.proofs.Entries.{stop-entry}
+use Rattle.tariff.proofs.Passed.{passed-none, passed-stop, at-end, at-fault}
 use Rattle.tariff.proofs.StopLaws.{passed-stops}
-use Rattle.tariff.proofs.Wide.{wide-none, wide-most}
+use Rattle.tariff.proofs.Wide.{wide-none}
 use Rattle.tariff.proofs.scan.read_tariff.Statement.{statement}
 use Rattle.tariff.proofs.scan.read_tariff.Tie as tie
 
@@ -25,7 +25,7 @@ abbrev μ-loop : tie.MeasureT-loop
 μ-loop tariff at₀ soFar₀ due₀ at soFar due = length tariff - at
 
 loop-holds : tie.Need-loop-holds Inv-loop μ-loop
-unfolding longAreas
+unfolding longBits
 loop-holds c = (passed-none _, sym (wide-none _))
 
 entry-at-requires : tie.Need-entry-at-requires Inv-loop μ-loop
@@ -73,23 +73,21 @@ factor-there c = sym (c .before .before .entry-at .ensures) ∙ c .enum-told2 .g
 enum-told-2 : tie.Need-enum-told-2 Inv-loop μ-loop
 enum-told-2 c = search needs
 
-add-at : tie.Need-add-at Inv-loop μ-loop
-add-at c = omega (arith, factor-entry _ _ _ (factor-there c))
+after-factor-requires : tie.Need-after-factor-requires Inv-loop μ-loop
+after-factor-requires c κs =
+    let loop = c .before .before .before .loop in
+    record { passed = loop .inv .0; due = loop .inv .1; here = factor-there c }
 
-add-so-far : tie.Need-add-so-far Inv-loop μ-loop
-add-so-far c =
-    let start = c .before .before .before .before .before .before in
-    let loop = c .before .before .before .before .loop in
-    let most = wide-most (levelOf (start .args .tariff .now) (loop .so-far)) (loop .so-far .areas) in
-    omega (arith, factor-entry _ _ _ (factor-there (c .before)), loop .inv .1, most, loop .inv .0 .reached .few)
+factors-found-requires : tie.Need-factors-found-requires Inv-loop μ-loop
+factors-found-requires c κs = c .after-factor .ensures .0
 
 loop-less-2 : tie.Need-loop-less-2 Inv-loop μ-loop
-loop-less-2 c = omega (arith, factor-entry _ _ _ (factor-there (c .before)))
+loop-less-2 c =
+    let found = c .before .factors-found in
+    omega (arith, found .ensures .1, found .ensures .0 .passed .reached .inside, c .before .before .after-factor .ensures .1)
 
 loop-again-2 : tie.Need-loop-again-2 Inv-loop μ-loop
-loop-again-2 c =
-    let (p, due) = c .before .before .before .before .loop .inv in
-    (passed-factor _ _ _ p (factor-there (c .before)), due)
+loop-again-2 c = (c .before .factors-found .ensures .0 .passed, c .before .factors-found .ensures .0 .due)
 
 -- a stop stands at the loop's place
 stop-there :
@@ -101,40 +99,43 @@ stop-there c = sym (c .before .before .entry-at .ensures) ∙ c .enum-told3 .giv
 enum-told-3 : tie.Need-enum-told-3 Inv-loop μ-loop
 enum-told-3 c = search needs
 
-add-at-2 : tie.Need-add-at-2 Inv-loop μ-loop
-add-at-2 c = omega (arith, stop-entry _ _ _ (stop-there c))
+add-at : tie.Need-add-at Inv-loop μ-loop
+add-at c = omega (arith, stop-entry _ _ _ (stop-there c))
 
-add-so-far-2 : tie.Need-add-so-far-2 Inv-loop μ-loop
-add-so-far-2 c = omega (arith, stop-entry _ _ _ (stop-there (c .before)))
+add-so-far : tie.Need-add-so-far Inv-loop μ-loop
+add-so-far c = omega (arith, stop-entry _ _ _ (stop-there (c .before)))
+
+cast-stops-standing : tie.Need-cast-stops-standing Inv-loop μ-loop
+cast-stops-standing c = search needs
 
 sub-stops-due : tie.Need-sub-stops-due Inv-loop μ-loop
-sub-stops-due c = omega (arith, stop-entry _ _ _ (stop-there (c .before)))
+sub-stops-due c = omega (arith, stop-entry _ _ _ (stop-there (c .before .before)))
 
 stops-due-requires : tie.Need-stops-due-requires Inv-loop μ-loop
-stops-due-requires c κs = omega (arith, stop-entry _ _ _ (stop-there (c .before)))
+stops-due-requires c κs = omega (arith, stop-entry _ _ _ (stop-there (c .before .before)))
 
 stops-standing-requires : tie.Need-stops-standing-requires Inv-loop μ-loop
-stops-standing-requires c κs = omega (arith, stop-entry _ _ _ (stop-there (c .before .before)))
+stops-standing-requires c κs = omega (arith, stop-entry _ _ _ (stop-there (c .before .before .before)))
 
 mul-at : tie.Need-mul-at Inv-loop μ-loop
-mul-at c = omega (arith, stop-entry _ _ _ (stop-there (c .before .before .before)))
+mul-at c = omega (arith, stop-entry _ _ _ (stop-there (c .before .before .before .before)))
 
-add-at-3 : tie.Need-add-at-3 Inv-loop μ-loop
-add-at-3 c = omega (arith, stop-entry _ _ _ (stop-there (c .before .before .before)))
+add-at-2 : tie.Need-add-at-2 Inv-loop μ-loop
+add-at-2 c = omega (arith, stop-entry _ _ _ (stop-there (c .before .before .before .before)))
 
 cast-so-far : tie.Need-cast-so-far Inv-loop μ-loop
-cast-so-far c = omega (arith, stop-entry _ _ _ (stop-there (c .before .before .before)))
+cast-so-far c = omega (arith, stop-entry _ _ _ (stop-there (c .before .before .before .before)))
 
-add-so-far-3 : tie.Need-add-so-far-3 Inv-loop μ-loop
-add-so-far-3 c = omega (arith, stop-entry _ _ _ (stop-there (c .before .before .before .before)))
+add-so-far-2 : tie.Need-add-so-far-2 Inv-loop μ-loop
+add-so-far-2 c = omega (arith, stop-entry _ _ _ (stop-there (c .before .before .before .before .before)))
 
 loop-less-3 : tie.Need-loop-less-3 Inv-loop μ-loop
-loop-less-3 c = omega (arith, stop-entry _ _ _ (stop-there (c .before .before .before .before)))
+loop-less-3 c = omega (arith, stop-entry _ _ _ (stop-there (c .before .before .before .before .before)))
 
 loop-again-3 : tie.Need-loop-again-3 Inv-loop μ-loop
 loop-again-3 c =
-    let (p, due) = c .before .before .before .before .before .before .before .loop .inv in
-    let here = stop-there (c .before .before .before .before) in
+    let (p, due) = c .before .before .before .before .before .before .before .before .loop .inv in
+    let here = stop-there (c .before .before .before .before .before) in
     let facts = stop-entry _ _ _ here in (
       passed-stops _ (c .before .stops-standing .result) _ _ (facts .some) (facts .all) (omega arith) (omega arith) (c .before .stops-standing .ensures .0)
           (passed-stop _ _ _ p here),
@@ -166,20 +167,21 @@ read-tariff-spec =
     loop-less
     loop-again
     enum-told-2
-    add-at
-    add-so-far
+    after-factor-requires
+    factors-found-requires
     loop-less-2
     loop-again-2
     enum-told-3
-    add-at-2
-    add-so-far-2
+    add-at
+    add-so-far
+    cast-stops-standing
     sub-stops-due
     stops-due-requires
     stops-standing-requires
     mul-at
-    add-at-3
+    add-at-2
     cast-so-far
-    add-so-far-3
+    add-so-far-2
     loop-less-3
     loop-again-3
     returns

@@ -1,18 +1,15 @@
--- `fours::put_small` meets its contract: a number's last four digits stand behind its ten-thousandth's, once or twice.
+-- `fours::put_small` meets its contract: a number of eight digits at most is put at once; the digits of a longer one are put in front of an
+-- array's end, and copied from where they begin.
 -- Assumes nothing.
 use native.Mathlib.Omega.{arith}
 use borrow.Author.Needs.{needs}
-use Prim.Native.Nat.{_/_, _%_}
-use mathlib.Core.Path.{ap, _∙_}
-use mathlib.Core.List.{_++_}
-use Rattle.text.specs.Contracts.{lastFour}
-use Rattle.text.proofs.Puts.{behind-join, behind-same}
-use Rattle.text.proofs.LastDigits.{more-and-four}
+use mathlib.Core.Path.{_∙_}
+use Rattle.text.proofs.Puts.{rest, rest-short, from-end, behind-same}
 use Rattle.text.proofs.fours.put_small.Statement.{statement}
 use Rattle.text.proofs.fours.put_small.Tie as tie
 
-put-up-to-four-requires : tie.Need-put-up-to-four-requires
-put-up-to-four-requires c κs = search needs
+put-up-to-eight-requires : tie.Need-put-up-to-eight-requires
+put-up-to-eight-requires c κs = search needs
 
 same-length : tie.Need-same-length
 same-length c = search needs
@@ -20,62 +17,45 @@ same-length c = search needs
 returns : tie.Need-returns
 returns c = search needs
 
-put-up-to-four-requires-2 : tie.Need-put-up-to-four-requires-2
-put-up-to-four-requires-2 c κs = search needs
+slice-aggregate-put-before : tie.Need-slice-aggregate-put-before
+slice-aggregate-put-before c = search needs
 
-put-four-requires : tie.Need-put-four-requires
-put-four-requires c κs = search needs
+put-before-requires : tie.Need-put-before-requires
+put-before-requires c κs = search needs
+
+sub-put-text : tie.Need-sub-put-text
+sub-put-text c = search needs
+
+part-put-text-start : tie.Need-part-put-text-start
+part-put-text-start c = search needs
+
+part-put-text-end : tie.Need-part-put-text-end
+part-put-text-end c = search needs
+
+put-text-requires : tie.Need-put-text-requires
+put-text-requires c κs = search needs
 
 same-length-2 : tie.Need-same-length-2
 same-length-2 c = search needs
 
 returns-2 : tie.Need-returns-2
 returns-2 c =
-    let second = c .before .before in
-    let first = second .before .before .before .before in
-    let n = first .before .before .before .before .before .args .number in
-    behind-same (behind-join (first .put-up-to-four2 .ensures) (second .put-four .ensures)) (more-and-four n (omega arith)) (omega arith)
-
-put-up-to-two-requires : tie.Need-put-up-to-two-requires
-put-up-to-two-requires c κs = search needs
-
-put-four-requires-2 : tie.Need-put-four-requires-2
-put-four-requires-2 c κs = search needs
-
-put-four-requires-3 : tie.Need-put-four-requires-3
-put-four-requires-3 c κs =
-    let second = c .before .before .before in
-    let first = second .before .before .before .before in
-    (omega arith, omega (arith, first .put-up-to-two .ensures .room, second .put-four2 .ensures .room))
-
-same-length-3 : tie.Need-same-length-3
-same-length-3 c = search needs
-
-returns-3 : tie.Need-returns-3
-returns-3 c =
-    let third = c .before .before in
-    let second = third .before .before .before .before in
-    let first = second .before .before .before .before in
-    let n = first .before .before .before .before .before .args .number in
-    let far = first .before .before .if2 .left in
-    behind-same
-    (behind-join (behind-join (first .put-up-to-two .ensures) (second .put-four2 .ensures)) (third .put-four3 .ensures))
-    (ap (_++ lastFour (n % 10000)) (more-and-four (n / 10000) (omega (arith, far))) ∙ more-and-four n (omega arith))
-    (omega arith)
+    let digits = c .before .before .before .before .before .before .before .put-before in
+    behind-same (c .before .before .put-text .ensures) (rest (digits .last .0) (digits .result) 10 (omega arith) ∙ from-end (digits .ensures) (omega arith))
+    (rest-short (digits .last .0) (digits .result) 10 (omega arith))
 
 pub put-small-spec : {M : Type 1} → statement M
 put-small-spec =
     tie.close
     (tie.spec
-    put-up-to-four-requires
+    put-up-to-eight-requires
     same-length
     returns
-    put-up-to-four-requires-2
-    put-four-requires
+    slice-aggregate-put-before
+    put-before-requires
+    sub-put-text
+    part-put-text-start
+    part-put-text-end
+    put-text-requires
     same-length-2
-    returns-2
-    put-up-to-two-requires
-    put-four-requires-2
-    put-four-requires-3
-    same-length-3
-    returns-3)
+    returns-2)
