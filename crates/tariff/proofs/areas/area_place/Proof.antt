@@ -18,7 +18,8 @@ mul-result c = search needs
 returns : tie.Need-returns
 returns c =
     let start = c .before .before .before in
-    let none = sym (rw (c .if1 .taken) at (start .pre .longs)) ∙ mod-eq-of-lt (pow-pos (start .args .number)) in
+    let no-bits : start .args .counts .longs ≡ 0 = omega (arith, c .if1 .taken) in
+    let none = sym (rw no-bits at (start .pre .longs)) ∙ mod-eq-of-lt (pow-pos (start .args .number)) in
     sym (place-plain (start .args .b .now) (start .args .number) none)
 
 long-before-requires : tie.Need-long-before-requires
