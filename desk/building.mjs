@@ -4,36 +4,15 @@ import fs from 'node:fs';
 import path from 'node:path';
 import { createInterface } from 'node:readline';
 
-const WASM = 'target/native/milecopper.wasm';
-const MADE_OF = ['crates', 'crates.txt', 'include/milecopper.h', 'host/built', 'host/machine'];
-
 /** The path of milecopper.wasm, built where it is not there or not of this state; null where that failed. */
 export async function builtWasm(root, words, tell) {
-    const older = isOlder(root);
-    if (older) await proved(root, words, tell);
+    const builder = path.join(root, 'host/built');
     const lines = [];
-    const status = await run(root, path.join(root, 'host/built'), ['wasm'], 'inherit', (line) => lines.push(line));
-    if (status !== 0) return null;
-    if (older) touch(path.join(root, WASM));
-    return lines.at(-1);
-}
-
-/** Whether the engine is not there, or something that it is made of was written after it. */
-function isOlder(root) {
-    const written = (name) => fs.statSync(path.join(root, name), { throwIfNoEntry: false })?.mtimeMs ?? 0;
-    const built = written(WASM);
-    const crates = fs.readdirSync(path.join(root, 'crates'), { recursive: true });
-    const all = [...MADE_OF, ...crates.map((name) => path.join('crates', name))];
-    return built === 0 || all.some((name) => written(name) > built);
-}
-
-/** The builder, which looks at what stands in the files, may have found that it is of this state all the same. */
-function touch(file) {
-    try {
-        fs.utimesSync(file, new Date(), new Date());
-    } catch {
-        // where nothing can be written, it is looked at again the next time
-    }
+    const had = await run(root, builder, ['--have', 'wasm'], 'ignore', (line) => lines.push(line));
+    if (had === 0) return lines.at(-1);
+    await proved(root, words, tell);
+    const status = await run(root, builder, ['wasm'], 'inherit', (line) => lines.push(line));
+    return status === 0 ? lines.at(-1) : null;
 }
 
 /** Proves the library's crates, which takes the time, and tells of each. Whether it went well, the building shows. */

@@ -34,33 +34,24 @@ async function told(root) {
     }
 }
 
+/** A builder that has it already where `had` is 0, and else builds it with this status. */
+const builder = (had, status) =>
+    `[ "$1" = --have ] && exit_with=${had} || exit_with=${status}\n[ $exit_with -ne 0 ] || echo /some/milecopper.wasm\nexit $exit_with`;
+
 test('the first time each crate that is proved is told, of how many', async () => {
-    assert.deepEqual(await told(checkout('echo /some/milecopper.wasm')), {
+    assert.deepEqual(await told(checkout(builder(3, 0))), {
         wasm: '/some/milecopper.wasm',
         lines: ['building', '2 of 3: wire', '3 of 3: milecopper'],
     });
 });
 
-/** A moment that is so many seconds from now. */
-const inSeconds = (seconds) => new Date(Date.now() + 1000 * seconds);
-
-function built(seconds) {
-    const root = checkout('echo /some/milecopper.wasm');
-    const wasm = path.join(root, 'target/native/milecopper.wasm');
-    fs.writeFileSync(wasm, '');
-    fs.utimesSync(wasm, inSeconds(seconds), inSeconds(seconds));
-    return root;
-}
-
-test('where it is there, nothing is told, however long looking takes', async () => {
-    const root = built(60);
-    fs.writeFileSync(path.join(root, 'host/built'), '#!/bin/sh\nsleep 3\necho /some/milecopper.wasm\n');
+test('where it is there, nothing is told and nothing proved, and no prover is asked for', async () => {
+    const root = checkout(builder(0, 1));
+    fs.rmSync(path.join(root, 'rt'));
     assert.deepEqual(await told(root), { wasm: '/some/milecopper.wasm', lines: [] });
 });
 
-test('where a crate was changed since, it is told again; and a building that fails gives nothing', async () => {
-    const root = built(60);
-    fs.utimesSync(path.join(root, 'crates/units/src/lib.rt'), inSeconds(120), inSeconds(120));
-    assert.deepEqual((await told(root)).lines, ['building', '2 of 3: wire', '3 of 3: milecopper']);
-    assert.equal((await told(checkout('exit 1'))).wasm, null);
+test('where it is not of this state, it is told again; and a building that fails gives nothing', async () => {
+    assert.deepEqual((await told(checkout(builder(3, 0)))).lines, ['building', '2 of 3: wire', '3 of 3: milecopper']);
+    assert.equal((await told(checkout(builder(3, 1)))).wasm, null);
 });
