@@ -15,17 +15,24 @@ export async function builtWasm(root, words, tell) {
     return status === 0 ? lines.at(-1) : null;
 }
 
-/** Proves the library's crates, which takes the time, and tells of each. Whether it went well, the building shows. */
+/** Proves the library's crates, which takes the time, and tells of each as it is proved, with the time since the start. Whether it went well, the building shows. */
 async function proved(root, words, tell) {
     const all = cratesBelow(root, 'milecopper').size;
+    const start = Date.now();
     let crate = 0;
     tell(words.building);
     await run(root, 'rt', ['check', 'milecopper'], 'ignore', (line) => {
         const found = /^rt: (\S+) proved \((unchanged)?/.exec(line);
         if (!found) return;
         crate += 1;
-        if (!found[2]) tell(words.proved(crate, all, found[1]));
+        if (!found[2]) tell(`${minutesSince(start)} ${words.proved(crate, all, found[1])}`);
     });
+}
+
+/** Minutes and seconds since then, '2:05'. */
+function minutesSince(start) {
+    const seconds = Math.floor((Date.now() - start) / 1000);
+    return `${Math.floor(seconds / 60)}:${String(seconds % 60).padStart(2, '0')}`;
 }
 
 /** A crate and all that it stands on: crates.txt has each below those. */

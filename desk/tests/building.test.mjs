@@ -27,7 +27,7 @@ async function told(root) {
     const before = process.env.PATH;
     process.env.PATH = `${root}:${before}`;
     try {
-        return { wasm: await builtWasm(root, WORDS, (line) => lines.push(line)), lines };
+        return { wasm: await builtWasm(root, WORDS, (line) => lines.push(line.replace(/^\d+:\d\d /, '0:00 '))), lines };
     } finally {
         process.env.PATH = before;
         fs.rmSync(root, { recursive: true });
@@ -41,7 +41,7 @@ const builder = (had, status) =>
 test('the first time each crate that is proved is told, of how many', async () => {
     assert.deepEqual(await told(checkout(builder(3, 0))), {
         wasm: '/some/milecopper.wasm',
-        lines: ['building', '2 of 3: wire', '3 of 3: milecopper'],
+        lines: ['building', '0:00 2 of 3: wire', '0:00 3 of 3: milecopper'],
     });
 });
 
@@ -52,6 +52,6 @@ test('where it is there, nothing is told and nothing proved, and no prover is as
 });
 
 test('where it is not of this state, it is told again; and a building that fails gives nothing', async () => {
-    assert.deepEqual((await told(checkout(builder(3, 0)))).lines, ['building', '2 of 3: wire', '3 of 3: milecopper']);
+    assert.deepEqual((await told(checkout(builder(3, 0)))).lines, ['building', '0:00 2 of 3: wire', '0:00 3 of 3: milecopper']);
     assert.equal((await told(checkout(builder(3, 1)))).wasm, null);
 });

@@ -22,7 +22,8 @@ pub mod maker;
 pub mod model;
 pub mod numbers;
 pub mod offered;
-#[cfg(feature = "planted")]
+// not where the library's own tests are compiled: they do not need the copies, whose compiling takes most of the time
+#[cfg(all(feature = "planted", not(test)))]
 pub mod planted;
 #[cfg(feature = "library")]
 pub mod stack;
