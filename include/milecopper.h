@@ -426,7 +426,8 @@ uint64_t milecopper_quote(const uint8_t *tariff, size_t tariff_len,
  * Accepted: the number of bytes written, which is the book's length, MILECOPPER_BOOK_BYTES. Refused: as by
  * milecopper_settle, by 1 to 11 or 17, as all is checked again; then by 13, MILECOPPER_OTHER_RECORD, where the record is not
  * exactly the bytes that a quote on this book would write now, but has a byte more, a byte less or a byte off, or is one
- * of two records or the two swapped. There is no 12, as no statement is written. A refusal leaves the book as it was.
+ * of two records, or the two swapped where they differ. There is no 12, as no statement is written. A refusal leaves the
+ * book as it was.
  *
  * Only the bytes count. A quote from before another trip was posted is accepted if this trip still costs the same, is cut
  * by the same caps and lies in the same window. If not, 13 says so: quote again, and show the new price. A quote and at
