@@ -4,27 +4,29 @@ import { windowPicture } from './picture.mjs';
 import { membersOf, statementOf } from './statement.mjs';
 import { STATEMENT, monthText } from './words.mjs';
 
-/** A member's statement as an element that can stand in any page. */
+/** A member's statement as an element that can stand in any page. Printed, its header is at the top of each sheet. */
 export function statementHtml(member, result, language) {
     const { title, counts, total, words, windows, foot } = statementOf(member, result, language);
     return `<article class="statement" lang="${language}">
-<header><h2>${escaped(member.name)}</h2><p>${escaped(title)}</p>
-<p class="sum"><span>${escaped(counts)}</span> <strong>${escaped(words.total)} ${escaped(total)}</strong></p></header>
-${windows.map((window) => windowHtml(member.name, window, words)).join('\n')}
+<header><h2>${escaped(member.name)}</h2><p>${escaped(title)}</p></header>
+<div class="sheet">
+<p class="sum"><span>${escaped(counts)}</span> <strong>${escaped(words.total)} ${escaped(total)}</strong></p>
+${windows.map((window) => windowHtml(window, words)).join('\n')}
 <footer><p>${escaped(foot.tariff)}. ${escaped(foot.version)}.</p><p class="hash">${escaped(foot.hash)}</p></footer>
-</article>`;
+</div></article>`;
 }
 
-/** A window as a section. Its heading says the member's name again, for whoever sorts the sheets of several. */
-function windowHtml(name, { heading, until, trips, notes, sum, total, drawn }, words) {
-    const title = `${escaped(heading)} <small>${escaped(until)}</small><small class="of">${escaped(name)}</small>`;
+/** A window as a section. Its sum is no `tfoot`, since browsers print that again on each sheet, and sums would add up. */
+function windowHtml({ heading, until, trips, notes, sum, total, drawn }, words) {
+    const title = `${escaped(heading)} <small>${escaped(until)}</small>`;
     const columns = Object.entries(words.columns);
     const head = columns.map(([column, word]) => `<th scope="col" class="${column}">${escaped(word)}</th>`).join('');
     return `<section class="window"><h3>${title}</h3>
 ${notes.map((note) => `<p class="note">${escaped(note)}</p>`).join('')}${drawn ? windowPicture(drawn) : ''}
 <table aria-label="${escaped(heading)}"><thead><tr>${head}</tr></thead>
 ${trips.map((trip) => tripHtml(trip, words)).join('\n')}
-<tfoot><tr><th scope="row" colspan="5">${escaped(sum)}</th><td>${escaped(total)}</td></tr></tfoot></table></section>`;
+<tbody class="total"><tr><th scope="row" colspan="5">${escaped(sum)}</th><td>${escaped(total)}</td></tr></tbody>
+</table></section>`;
 }
 
 function tripHtml({ number, when, where, how, refused, parts, counts }, words) {

@@ -1,0 +1,100 @@
+// Statements on paper: what a browser prints, read back from its PDF sheet by sheet.
+import assert from 'node:assert/strict';
+import { execFileSync, spawnSync } from 'node:child_process';
+import { readFileSync, writeFileSync } from 'node:fs';
+import path from 'node:path';
+import { after, before, test } from 'node:test';
+import { pathToFileURL } from 'node:url';
+import { statementsDocument } from '../sheets.mjs';
+import { membersOf } from '../statement.mjs';
+import { startBrowser } from './browser.mjs';
+import { FIREFOX, startFirefox } from './firefox.mjs';
+import { ROOT, run, sample } from './support.mjs';
+
+const READER = spawnSync('pdftotext', ['-v']).error ? 'pdftotext is not here (the package poppler-utils)' : false;
+const CSS = readFileSync(path.join(ROOT, 'desk/page/statement.css'), 'utf8');
+
+let [browser, firefox] = [];
+
+before(async () => {
+    browser = await startBrowser();
+    if (FIREFOX) firefox = await startFirefox();
+});
+after(() => Promise.all([browser?.close(), firefox?.close()]));
+
+/** Trips of a member whose one window takes several sheets, and then of one whose windows fit. */
+function longTrips() {
+    const two = (number) => String(number).padStart(2, '0');
+    const trip = (_, i) => `Zoe Lang;2026-10-06;${two(6 + Math.floor(i / 5))}:${two(10 * (i % 5))};` +
+        `${two(6 + Math.floor(i / 5))}:${two(10 * (i % 5) + 8)};Hamm Hbf;Hamm Betriebshof;;;;;;`;
+    return `${sample('trips.csv')}${Array.from({ length: 60 }, trip).join('\n')}\n`;
+}
+
+function written(result, language) {
+    const file = path.join(browser.folder, `statements-${language}.html`);
+    writeFileSync(file, statementsDocument(result, language, CSS));
+    return pathToFileURL(file).href;
+}
+
+async function printedByChromium(url) {
+    const page = await browser.page(url);
+    await page.until('document.readyState === "complete" && document.querySelector(".statement") !== null');
+    const { data } = await page.send('Page.printToPDF', { preferCSSPageSize: true, printBackground: true });
+    return Buffer.from(data, 'base64');
+}
+
+/** The text of each sheet of a PDF. */
+function sheetsOf(pdf) {
+    const text = execFileSync('pdftotext', ['-layout', '-', '-'], { input: pdf, encoding: 'utf8' });
+    return text.replaceAll('\u00a0', ' ').split('\f').slice(0, -1);
+}
+
+/** All amounts in cents behind the word, sheet by sheet. */
+function centsBehind(sheets, word) {
+    const found = sheets.flatMap((sheet) => [...sheet.matchAll(new RegExp(`^\\s*${word}\\b.*?(€?[\\d.,]+)\\s*€?$`, 'gm'))]);
+    return found.map(([, amount]) => Number(amount.replace(/\D/g, '')));
+}
+
+const SUMS = { de: 'Summe', en: 'Sum' };
+
+/** Every sheet is one member's, by its first line; the windows' sums on a member's sheets are the amount due. */
+function addsUp(sheets, result, language, month) {
+    const members = membersOf(result);
+    const owners = sheets.map((sheet) => members.find(({ name }) => sheet.trimStart().startsWith(name))?.name);
+    assert.ok(!owners.includes(undefined), `a sheet without a name: ${sheets[owners.indexOf(undefined)]}`);
+    for (const sheet of sheets) assert.match(sheet.split('\n').slice(0, 4).join('\n'), month);
+    for (const { name } of members) {
+        const own = sheets.filter((_, i) => owners[i] === name);
+        const due = result.wages.find(({ member }) => member === name).cents;
+        assert.equal(centsBehind(own, SUMS[language]).reduce((sum, cents) => sum + cents, 0), due, name);
+    }
+    assert.ok(owners.filter((name) => name === 'Zoe Lang').length > 1, 'one window breaks over sheets');
+}
+
+test('printed by Chromium, each window has one sum, and each sheet name, month and number', { skip: READER }, async () => {
+    for (const [language, month, number] of [
+        ['de', /Abrechnung Oktober 2026/, (i, all) => `Seite ${i} von ${all}`],
+        ['en', /Statement for October 2026/, (i, all) => `Page ${i} of ${all}`],
+    ]) {
+        const result = run(longTrips(), { period: '2026-10', language });
+        const sheets = sheetsOf(await printedByChromium(written(result, language)));
+        addsUp(sheets, result, language, month);
+        sheets.forEach((sheet, i) => assert.ok(sheet.includes(number(i + 1, sheets.length)), number(i + 1, sheets.length)));
+    }
+});
+
+const noFirefox = FIREFOX ? READER : 'Firefox is not here (firefox-esr or firefox)';
+test('printed by Firefox, each window has one sum, and each sheet name and month', { skip: noFirefox }, async () => {
+    const result = run(longTrips(), { period: '2026-10', language: 'de' });
+    const page = await firefox.page(written(result, 'de'));
+    addsUp(sheetsOf(await page.printed()), result, 'de', /Abrechnung Oktober 2026/);
+});
+
+test('a window that fits on a sheet is kept together', { skip: READER }, async () => {
+    const result = run(sample('trips.csv'), { period: '2026-10', language: 'de' });
+    const sheets = sheetsOf(await printedByChromium(written(result, 'de')));
+    for (const sheet of sheets) {
+        const [begun, ended] = [/^\s*(24-Stunden-Fenster ab|Außerhalb)/gm, /^\s*Summe\b/gm].map((mark) => sheet.match(mark));
+        assert.equal(begun.length, ended.length, sheet);
+    }
+});
