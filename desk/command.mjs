@@ -11,7 +11,7 @@ import { mistakeLine, mistakeText } from './mistakes.mjs';
 import { fileSafe, writeFiles } from './output.mjs';
 import { runDesk } from './run.mjs';
 import { agreeStatements, membersOf, statementText } from './statement.mjs';
-import { HELP, USAGE, WORDS } from './usage.mjs';
+import { HELP, USAGE, WORDS, reasonText } from './usage.mjs';
 import { chargesText, wagesText } from './wages.mjs';
 
 const ROOT = path.dirname(path.dirname(fileURLToPath(import.meta.url)));
@@ -34,10 +34,10 @@ const tell = (text) => process.stderr.write(`./milecopper: ${text}\n`);
 
 /** Runs the command, and answers its status. */
 export async function main(words) {
-    // a reader that has enough, such as head, is no mistake
-    process.stdout.on('error', (error) => process.exit(error.code === 'EPIPE' ? ALL_PRICED : MISTAKEN));
+    process.stdout.on('error', endUnprinted);
+    process.stderr.on('error', () => {}); // nobody listens: what is told is lost, and the status stays
     try {
-        const call = callOf(words);
+        const call = await callOf(words);
         if (call.said !== undefined) {
             process.stdout.write(call.said);
             return ALL_PRICED;
@@ -48,6 +48,22 @@ export async function main(words) {
         tell(error.message);
         if (error.usage) process.stderr.write(USAGE);
         return MISTAKEN;
+    }
+}
+
+/** A reader that has enough, such as head, is no mistake; a full disk is. */
+function endUnprinted(error) {
+    if (error.code === 'EPIPE') process.exit(ALL_PRICED);
+    tell(LANGUAGES.map((language) => WORDS[language].unprinted(reasonText(error, language))).join(' / '));
+    process.exit(MISTAKEN);
+}
+
+/** What `make` gives. Its failure ends the run with the sentence that `say` makes of the reason. */
+async function orMistaken(language, make, say) {
+    try {
+        return await make();
+    } catch (error) {
+        throw error instanceof Mistaken ? error : new Mistaken(say(reasonText(error, language)));
     }
 }
 
@@ -62,13 +78,13 @@ const OPTIONS = {
 
 const ACTIONS = { check: checked, settle: settled, statement: stated, wages: waged, close: closed };
 
-function callOf(args) {
+async function callOf(args) {
     const { values, positionals } = parsed(args);
     const language = values.language ?? 'de';
     if (!LANGUAGES.includes(language)) throw new Mistaken(WORDS.de.allowed('language', LANGUAGES), true);
     if (values.help) return { said: USAGE + HELP[language] };
-    if (values.version) return { said: `milecopper ${versionNumber()}\n` };
     const words = WORDS[language];
+    if (values.version) return { said: await orMistaken(language, versionLine, words.versionless) };
     const [action, folder = '.', more] = positionals;
     if (action === undefined) throw new Mistaken(words.none, true);
     if (!Object.hasOwn(ACTIONS, action)) throw new Mistaken(words.action(action), true);
@@ -84,58 +100,65 @@ function parsed(args) {
     try {
         return parseArgs({ args, options: OPTIONS, allowPositionals: true });
     } catch (error) {
-        throw new Mistaken(error.message.split('. ')[0], true);
+        throw new Mistaken(error.message.split(/\.\s/)[0], true);
     }
 }
 
 /** The version's number, which stands in the C header alone. */
-function versionNumber() {
+function versionLine() {
     const header = fs.readFileSync(path.join(ROOT, 'include/milecopper.h'), 'utf8');
     const part = (name) => new RegExp(`^#define MILECOPPER_VERSION_${name} (\\d+)`, 'm').exec(header)[1];
-    return ['MAJOR', 'MINOR', 'PATCH'].map(part).join('.');
+    return `milecopper ${['MAJOR', 'MINOR', 'PATCH'].map(part).join('.')}\n`;
 }
 
 // ---- What is done
 
 async function perform(call) {
-    const files = filesOf(call);
+    const { period, language, words } = call;
+    const found = await orMistaken(language, () => fs.readdirSync(call.folder), (why) => words.folder(call.folder, why));
+    const files = filesOf(call, found);
     if (call.action === 'close') refuseSecondClosing(call);
-    const wasm = await builtWasm(ROOT, call.words, tell);
-    if (wasm === null) throw new Mistaken(call.words.unbuilt);
-    const engine = await loadEngine(fs.readFileSync(wasm));
-    const { period, language } = call;
-    const result = runDesk({ engine, files, period, language, progress: progressLine(call.words) });
+    const engine = await orMistaken(language, () => engineOf(words), words.engineless);
+    const result = runDesk({ engine, files, period, language, progress: progressLine(words) });
     agreed(call, () => agreeStatements(result));
-    ACTIONS[call.action](call, result);
+    await ACTIONS[call.action](call, result);
     if (result.errors > 0) return MISTAKEN;
     return result.refused > 0 ? TRIP_REFUSED : ALL_PRICED;
 }
 
-function filesOf(call) {
+/** The engine, built where it is not there: the toolchain is asked for only then. */
+async function engineOf(words) {
+    const wasm = await builtWasm(ROOT, words, tell);
+    if (wasm === null) throw new Mistaken(words.unbuilt);
+    return loadEngine(fs.readFileSync(wasm));
+}
+
+/** The files of the call, those that are not named from the folder, in which `found` lies. */
+function filesOf(call, found) {
     const placeOf = (sort) => call[sort] ?? path.join(call.folder, `${sort}.csv`);
     const named = ['areas', 'stops', 'trips'].map((sort) => [sort, placeOf(sort)]);
-    const books = call.books ?? lastBooks(call);
+    const books = call.books ?? lastBooks(call, found);
     if (books !== null) {
         tell(call.words.books(books));
         named.push(['books', books]);
     }
-    const read = named.map(([sort, name]) => [sort, { name: path.basename(name), bytes: bytesOf(name) }]);
-    const missing = named.filter((_, i) => read[i][1].bytes === null);
-    if (missing.length > 0) throw new Mistaken(call.words.missing(missing.map(([, name]) => name)));
+    const read = named.map(([sort, name]) => [sort, fileAt(name, call.language)]);
+    const unread = read.filter(([, { why }]) => why !== undefined).map(([, file]) => file);
+    if (unread.length > 0) throw new Mistaken(call.words.unread(unread));
     return Object.fromEntries(read);
 }
 
-function bytesOf(name) {
+/** A file's name and bytes; `why` they cannot be read, and where it is. */
+function fileAt(place, language) {
     try {
-        return new Uint8Array(fs.readFileSync(name));
-    } catch {
-        return null;
+        return { name: path.basename(place), bytes: new Uint8Array(fs.readFileSync(place)) };
+    } catch (error) {
+        return { place, why: reasonText(error, language) };
     }
 }
 
 /** The folder's books of the last closing before the period; null where there are none. */
-function lastBooks({ folder, period }) {
-    const found = fs.existsSync(folder) ? fs.readdirSync(folder) : [];
+function lastBooks({ folder, period }, found) {
     const periods = found.flatMap((name) => /^books-(\d{4}-\d{2})\.json$/.exec(name)?.[1] ?? []);
     const before = periods.filter((month) => period === null || month < period).sort();
     return before.length === 0 ? null : path.join(folder, booksName(before.at(-1)));
@@ -172,21 +195,21 @@ function isClean(result) {
     return result.errors === 0;
 }
 
-function settled(call, result) {
-    if (isClean(result)) put(call, [[`charges.${call.format}`, chargesText(result, call.format, call.language)]]);
+async function settled(call, result) {
+    if (isClean(result)) await put(call, [[`charges.${call.format}`, chargesText(result, call.format, call.language)]]);
 }
 
-function waged(call, result) {
-    if (isClean(result)) put(call, [[`wages.${call.format}`, wagesText(result, call.format, call.language)]]);
+async function waged(call, result) {
+    if (isClean(result)) await put(call, [[`wages.${call.format}`, wagesText(result, call.format, call.language)]]);
 }
 
-function stated(call, result) {
+async function stated(call, result) {
     if (!isClean(result)) return;
     const due = membersOf(result).filter(({ name }) => call.member === undefined || name === call.member);
     if (call.member !== undefined && due.length === 0) throw new Mistaken(call.words.member(call.member));
     const names = fileSafe(due.map(({ name }) => name));
     const texts = agreed(call, () => due.map((member) => statementText(member, result, call.language)));
-    put(call, texts.map((text, i) => [`statement-${names[i]}.txt`, text]));
+    await put(call, texts.map((text, i) => [`statement-${names[i]}.txt`, text]));
 }
 
 /** What is made; where sums disagree, nothing. */
@@ -199,8 +222,9 @@ function agreed({ language }, make) {
     }
 }
 
-function closed(call, result) {
-    if (isClean(result)) put({ ...call, out: call.out ?? call.folder }, [[booksName(call.period), booksText(result)]]);
+async function closed(call, result) {
+    if (!isClean(result)) return;
+    await put({ ...call, out: call.out ?? call.folder }, [[booksName(call.period), booksText(result)]]);
 }
 
 function refuseSecondClosing({ out, folder, period, words }) {
@@ -209,14 +233,11 @@ function refuseSecondClosing({ out, folder, period, words }) {
 }
 
 /** Texts with their files' names: into the folder that is asked for, or printed. */
-function put({ out, words }, files) {
+async function put({ out, words, language }, files) {
     if (out === undefined) {
         process.stdout.write(files.map(([, text]) => text).join('\n'));
         return;
     }
-    try {
-        for (const file of writeFiles(out, files)) process.stdout.write(`${words.wrote(file)}\n`);
-    } catch (error) {
-        throw new Mistaken(words.unwritten(out, error.message));
-    }
+    const written = await orMistaken(language, () => writeFiles(out, files), (why) => words.unwritten(out, why));
+    for (const file of written) process.stdout.write(`${words.wrote(file)}\n`);
 }

@@ -43,12 +43,16 @@ export const WORDS = {
         allowed: (option, words) => `--${option}: erlaubt ist ${words.join(', ')}`,
         month: (word) => `--period '${word}': kein Monat wie 2026-10`,
         due: 'zum Abschließen gehört --period',
-        missing: (files) => `fehlt oder ist nicht lesbar: ${files.join(', ')}`,
+        folder: (folder, why) => `der Ordner ${folder} ist nicht lesbar: ${why}`,
+        unread: (files) => `nicht lesbar: ${files.map(({ place, why }) => `${place} (${why})`).join(', ')}`,
         there: (file) => `${file} ist schon da: ein Monat wird einmal abgeschlossen`,
         member: (name) => `kein Mitglied '${name}' mit Fahrten in diesem Zeitraum`,
         building: 'der Rechenkern wird gebaut und dabei bewiesen; das dauert einige Minuten',
         proved: (crate, all, name) => `Teil ${crate} von ${all} ist bewiesen, ${name}`,
         unbuilt: 'der Rechenkern wurde nicht gebaut',
+        engineless: (why) => `der Rechenkern lässt sich nicht laden: ${why}`,
+        versionless: (why) => `die Versionsnummer in include/milecopper.h ist nicht lesbar: ${why}`,
+        unprinted: (why) => `die Ausgabe ist nicht zu schreiben: ${why}`,
         unwritten: (folder, why) => `in ${folder} kann nicht geschrieben werden: ${why}`,
         books: (file) => `Bücher: ${file}`,
         wrote: (file) => `geschrieben: ${file}`,
@@ -63,12 +67,16 @@ export const WORDS = {
         allowed: (option, words) => `--${option}: allowed is ${words.join(', ')}`,
         month: (word) => `--period '${word}': not a month like 2026-10`,
         due: 'closing needs --period',
-        missing: (files) => `missing or not to be read: ${files.join(', ')}`,
+        folder: (folder, why) => `the folder ${folder} cannot be read: ${why}`,
+        unread: (files) => `cannot be read: ${files.map(({ place, why }) => `${place} (${why})`).join(', ')}`,
         there: (file) => `${file} is there already: a month is closed once`,
         member: (name) => `no member '${name}' with trips in this period`,
         building: 'the engine is being built, which proves it; that takes some minutes',
         proved: (crate, all, name) => `crate ${crate} of ${all} is proved, ${name}`,
         unbuilt: 'the engine was not built',
+        engineless: (why) => `the engine cannot be loaded: ${why}`,
+        versionless: (why) => `the version's number in include/milecopper.h cannot be read: ${why}`,
+        unprinted: (why) => `what is put out cannot be written: ${why}`,
         unwritten: (folder, why) => `cannot write in ${folder}: ${why}`,
         books: (file) => `books: ${file}`,
         wrote: (file) => `written: ${file}`,
@@ -77,3 +85,24 @@ export const WORDS = {
         priced: (trips, members) => `trips priced: ${trips}, members: ${members}`,
     },
 };
+
+// ---- Why the system refuses
+
+const ABSENT = { de: 'nicht da', en: 'not there' };
+const NO_FOLDER = { de: 'kein Ordner, sondern eine Datei', en: 'not a folder but a file' };
+const NO_FILE = { de: 'keine Datei, sondern ein Ordner', en: 'not a file but a folder' };
+const FORBIDDEN = { de: 'keine Berechtigung', en: 'no permission' };
+const FULL = { de: 'kein Platz mehr', en: 'no space left' };
+const READ_ONLY = { de: 'hier kann nur gelesen werden', en: 'this can only be read' };
+const LONG_NAME = { de: 'der Name ist zu lang', en: 'the name is too long' };
+const TOO_LARGE = { de: 'zu groß', en: 'too large' };
+
+const REASONS = {
+    ...{ ENOENT: ABSENT, ENOTDIR: NO_FOLDER, EEXIST: NO_FOLDER, EISDIR: NO_FILE, EACCES: FORBIDDEN, EPERM: FORBIDDEN },
+    ...{ ENOSPC: FULL, EDQUOT: FULL, EROFS: READ_ONLY, ENAMETOOLONG: LONG_NAME, ERR_FS_FILE_TOO_LARGE: TOO_LARGE },
+};
+
+/** Why something failed, as a few words in one line; in the system's own where there are none here. */
+export function reasonText(error, language) {
+    return REASONS[error.code]?.[language] ?? String(error.message).split('\n')[0];
+}
