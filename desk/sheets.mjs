@@ -1,6 +1,6 @@
 // Statements as HTML: for the page, for print, and as a file to keep.
 import { escaped } from './html.mjs';
-import { windowPicture } from './picture.mjs';
+import { levelPicture, sampleBar, windowPicture } from './picture.mjs';
 import { membersOf, statementOf } from './statement.mjs';
 import { STATEMENT, monthText } from './words.mjs';
 
@@ -12,30 +12,30 @@ export function statementHtml(member, result, language) {
 <div class="sheet">
 <p class="sum"><span>${escaped(counts)}</span> <strong>${escaped(words.total)} ${escaped(total)}</strong></p>
 ${windows.map((window) => windowHtml(window, words)).join('\n')}
-<footer><p>${escaped(foot.tariff)}. ${escaped(foot.version)}.</p><p class="hash">${escaped(foot.hash)}</p></footer>
+<footer>${legendHtml(windows, words)}
+<p>${escaped(foot.tariff)}. ${escaped(foot.version)}.</p><p class="hash">${escaped(foot.hash)}</p></footer>
 </div></article>`;
 }
 
-/** A window as a section. Its sum is no `tfoot`, since browsers print that again on each sheet, and sums would add up. */
-function windowHtml({ heading, until, trips, notes, sum, total, drawn }, words) {
-    const title = `${escaped(heading)} <small>${escaped(until)}</small>`;
+/** A window as a section. Its sum is no `tfoot`, since browsers print that on each sheet, and the sums would add up. */
+function windowHtml({ heading, until, trips, notes, sum, total, caps, drawn }, words) {
     const columns = Object.entries(words.columns);
     const head = columns.map(([column, word]) => `<th scope="col" class="${column}">${escaped(word)}</th>`).join('');
-    return `<section class="window"><h3>${title}</h3>
+    return `<section class="window"><h3>${escaped(heading)} <small>${escaped(until)}</small></h3>
 ${notes.map((note) => `<p class="note">${escaped(note)}</p>`).join('')}${drawn ? windowPicture(drawn) : ''}
 <table aria-label="${escaped(heading)}"><thead><tr>${head}</tr></thead>
 ${trips.map((trip) => tripHtml(trip, words)).join('\n')}
-<tbody class="total"><tr><th scope="row" colspan="5">${escaped(sum)}</th><td>${escaped(total)}</td></tr></tbody>
-</table></section>`;
+<tbody class="total"><tr><th scope="row" colspan="5">${escaped(sum)}</th>
+<td class="charge">${escaped(total)}</td></tr></tbody></table>${capsHtml(caps, words)}</section>`;
 }
 
 function tripHtml({ number, when, where, how, refused, parts, counts }, words) {
     const rows = parts.reduce((sum, { riders }) => sum + riders.length, 0);
-    const first = `<th scope="rowgroup" rowspan="${Math.max(1, rows)}">${number}</th>`;
+    const first = `<th scope="rowgroup" class="number" rowspan="${Math.max(1, rows)}">${number}</th>`;
     const trip = `<b>${escaped(when)}</b><br>${escaped(where)}<br><small>${escaped(how)}`;
     const lead = parts.length > 1 ? `${trip}</small><br>${escaped(words.outAndBack)}<br>` : `${trip} · `;
     const body = refused
-        ? `<tr>${first}<td colspan="5">${trip}</small><br><strong>${escaped(refused)}</strong></td></tr>`
+        ? `<tr>${first}<td class="trip" colspan="5">${trip}</small><br><strong>${escaped(refused)}</strong></td></tr>`
         : parts.map((part, i) => partHtml(part, ...(i === 0 ? [first, lead] : ['', '']))).join('');
     return `<tbody class="trip${counts ? '' : ' elsewhere'}${refused ? ' refused' : ''}">${body}</tbody>`;
 }
@@ -43,13 +43,37 @@ function tripHtml({ number, when, where, how, refused, parts, counts }, words) {
 /** A part's rows. The first begins with the trip's number and lead, which an unbroken trip's measure goes on. */
 function partHtml({ heading, measure, riders }, first, lead) {
     const own = heading ? `${escaped(heading)}<br><small>${escaped(measure)}</small>` : `${escaped(measure)}</small>`;
-    const cell = `<td rowspan="${riders.length}">${lead}${own}</td>`;
-    return riders.map((rider, i) => `<tr>${i === 0 ? first + cell : ''}${riderHtml(rider)}</tr>`).join('');
+    const cell = `<td class="trip" rowspan="${riders.length}">${lead}${own}</td>`;
+    return riders.map((rider, i) => riderHtml(rider, i === 0 ? first + cell : '')).join('');
 }
 
-function riderHtml({ who, price, off, cap, charge }) {
-    const taken = off ? `−${escaped(off)}<br><small>${escaped(cap)}</small>` : '';
-    return `<td>${escaped(who)}</td><td>${escaped(price)}</td><td>${taken}</td><td>${escaped(charge)}</td>`;
+/** A rider's row. What was taken off has the letter of the cap that did it. */
+function riderHtml({ who, price, off, mark, charge }, first) {
+    const taken = off ? `−${escaped(off)}<sup>${mark}</sup>` : '';
+    const cells = { who: escaped(who), price: escaped(price), off: taken, charge: escaped(charge) };
+    const row = Object.entries(cells).map(([name, cell]) => `<td class="${name}">${cell}</td>`);
+    return `<tr${off ? ' class="cut"' : ''}>${first}${row.join('')}</tr>`;
+}
+
+/** The caps, each named once with its letter, and how full every rider has it at the window's end. */
+function capsHtml(caps, words) {
+    if (caps.length === 0) return '';
+    const level = ({ who, amount, cap: most, share, full }) => {
+        const text = full ? `${words.full}, ${most}` : amount;
+        return `<dd><span>${escaped(who)}</span>${levelPicture(share)}<span>${escaped(text)}</span></dd>`;
+    };
+    const cap = ({ mark, words: name, fills }) => {
+        return `<div><dt>${mark ? `<sup>${mark}</sup> ` : ''}${escaped(name)}</dt>${fills.map(level).join('')}</div>`;
+    };
+    return `<h4>${escaped(words.caps)}</h4><dl class="caps">${caps.map(cap).join('\n')}</dl>`;
+}
+
+/** What the bars mean, where not all are of the plainest sort: once a statement. */
+function legendHtml(windows, { legend }) {
+    const trips = windows.flatMap((window) => window.trips);
+    const states = Object.keys(legend).filter((state) => trips.some((trip) => trip.state === state));
+    if (states.join() === 'priced') return '';
+    return `<p>${states.map((state) => `<span>${sampleBar(state)} ${escaped(legend[state])}</span>`).join(' ')}</p>`;
 }
 
 /** All statements as a file of its own, one member a page when printed. */
@@ -58,9 +82,10 @@ export function statementsDocument(result, language, css) {
     const articles = membersOf(result).map((member) => statementHtml(member, result, language));
     return `<!DOCTYPE html>
 <html lang="${language}"><head><meta charset="utf-8">
+<meta name="viewport" content="width=device-width, initial-scale=1">
 <meta http-equiv="Content-Security-Policy" content="default-src 'none'; style-src 'unsafe-inline'">
 <title>${escaped(title)}</title><style>${css}</style></head>
-<body>
+<body class="statements">
 ${articles.join('\n')}
 </body></html>
 `;

@@ -53,8 +53,12 @@ function agree(name, shown, due) {
 }
 
 function totalOf(entries) {
-    const riders = entries.flatMap(({ parts }) => (parts ?? []).flatMap((part) => part.riders));
-    return riders.reduce((sum, { charge }) => sum + charge, 0);
+    return ridersOf(entries).reduce((sum, { charge }) => sum + charge, 0);
+}
+
+/** All that was charged to anyone in the entries. */
+function ridersOf(entries) {
+    return entries.flatMap(({ parts }) => (parts ?? []).flatMap((part) => part.riders));
 }
 
 function footOf({ language, words, result: { tariff, version } }) {
@@ -70,24 +74,24 @@ function footOf({ language, words, result: { tariff, version } }) {
 
 function windowOf(window, saying) {
     const { language, words, result, clock } = saying;
-    const trips = window.entries.map((entry, i) => tripOf(entry, i + 1, saying));
+    const fills = fillsOf(window.sums, saying);
+    const caps = capsIn(window.entries, fills, saying);
+    const trips = window.entries.map((entry, i) => tripOf(entry, i + 1, { ...saying, caps }));
     const counts = window.entries.filter(({ inPeriod }) => inPeriod);
     const mixed = counts.length < window.entries.length;
     const common = {
-        trips,
+        ...{ trips, fills, caps },
         sum: words.sum(mixed && monthText(result.period, language)),
         total: moneyText(totalOf(counts), language),
     };
-    if (window.opening === null) return { ...common, heading: words.noWindow, until: '', notes: [], fills: [] };
+    if (window.opening === null) return { ...common, heading: words.noWindow, until: '', notes: [] };
     const [from, to] = [window.openingLocal, momentIn(clock, window.opening + WINDOW)];
-    const fills = fillsOf(window.sums, saying);
     return {
         ...common,
         heading: words.window(stampText(from, saying)),
         until: words.until(stampText(to, saying)),
         notes: notesOf(window, to, saying),
-        fills,
-        drawn: { opening: window.opening, clock, trips, fills, language },
+        drawn: { opening: window.opening, clock, trips, language },
     };
 }
 
@@ -100,17 +104,39 @@ function notesOf({ opening, entries }, to, { language, words, result: { period }
     return [...(earlier ? [words.earlier] : []), ...(later ? [words.later(monthText(month, language))] : [])];
 }
 
-/** How full each cap is that a rider paid under; that of all classes only where first class was among the charges. */
+// ---- Caps
+
+const capKey = (area, capClass) => 2 * area - capClass; // in the tariff's order, the second class before all classes
+const letterOf = (i) => 'abcdefghijklmnopqrstuvwxyz'[i % 26].repeat(1 + Math.floor(i / 26));
+
+/** A window's caps, each once: how full every rider has it, and a letter where it took something off. */
+function capsIn(entries, fills, { language, result: { tariff } }) {
+    const cuts = ridersOf(entries).filter(({ cap }) => cap).map(({ cap }) => ({ area: cap.area, capClass: cap.class }));
+    const keyed = (caps) => new Map(caps.map((cap) => [capKey(cap.area, cap.capClass), cap]));
+    const cutting = [...keyed(cuts).keys()].sort((one, other) => one - other);
+    const all = [...keyed([...fills, ...cuts])].sort(([one], [other]) => one - other);
+    return all.map(([key, { area, capClass }]) => ({
+        key,
+        mark: cutting.includes(key) ? letterOf(cutting.indexOf(key)) : '',
+        words: capText(tariff.areas[area].name, capClass, language),
+        fills: fills.filter((fill) => capKey(fill.area, fill.capClass) === key),
+    }));
+}
+
+/** How full each rider has each cap. */
 function fillsOf(sums, saying) {
     return sums.flatMap((rider) => rider.areas.flatMap((own) => areaFills(rider, own, saying)));
 }
 
+/** How full a rider has an area's caps; that of all classes only where first class was among the charges. */
 function areaFills(rider, { area, second, all }, { language, words, result: { tariff } }) {
     const caps = tariff.caps[area]?.[rider.sort === 'child' ? 'child' : 'adult'];
     if (!caps) return [];
     const fill = (capClass, sum, cap) => ({
-        label: `${riderText(rider, language)}: ${tariff.areas[area].name}, ${capClassText(capClass, language)}`,
+        ...{ area, capClass, who: riderText(rider, language) },
+        name: `${tariff.areas[area].name}, ${capClassText(capClass, language)}`,
         amount: words.of(moneyText(sum, language), moneyText(cap, language)),
+        cap: moneyText(cap, language),
         share: Math.min(1, sum / cap),
         full: sum >= cap,
     });
@@ -141,7 +167,7 @@ function stateOf({ accepted, parts }) {
     return parts.some(({ riders }) => riders.some(({ off }) => off > 0)) ? 'cut' : 'priced';
 }
 
-function partOf(entry, { area, km, minutes, riders }, i, { language, words, result: { tariff } }) {
+function partOf(entry, { area, km, minutes, riders }, i, { language, words, caps, result: { tariff } }) {
     const broken = entry.parts.length > 1;
     const turn = broken ? farthestChange(entry, tariff.stops) : null;
     const [from, to] = i === 0 ? [entry.from, turn] : [turn, entry.to];
@@ -153,10 +179,16 @@ function partOf(entry, { area, km, minutes, riders }, i, { language, words, resu
             who: riderText(rider, language),
             price: rider.price === null ? '' : moneyText(rider.price, language),
             off: rider.cap ? moneyText(rider.off, language) : '',
-            cap: rider.cap ? capText(tariff.areas[rider.cap.area].name, rider.cap.class, language) : '',
+            ...capOf(rider, caps),
             charge: moneyText(rider.charge, language),
         })),
     };
+}
+
+function capOf({ cap }, caps) {
+    if (!cap) return { cap: '', mark: '' };
+    const { words, mark } = caps.find(({ key }) => key === capKey(cap.area, cap.class));
+    return { cap: words, mark };
 }
 
 /** Where a ride that comes back is broken: at the change farthest from the start, the first of equals. */
@@ -216,14 +248,14 @@ function wrapped(text, blanks) {
 }
 
 function windowLines({ heading, until, trips, notes, sum, total, fills }, words) {
-    const caps = fills.map(({ label, amount, full }) => {
-        return amountLine(`    ${label}`, full ? `${words.full}, ${amount}` : amount);
+    const levels = fills.map(({ who, name, amount, full }) => {
+        return amountLine(`    ${who}: ${name}`, full ? `${words.full}, ${amount}` : amount);
     });
     return [
         ...[`${heading} ${until}`.trim(), '-'.repeat(WIDTH), ...notes.flatMap((note) => wrapped(note, 0))],
         ...trips.flatMap((trip) => tripLines(trip, words)),
         amountLine(sum, total),
-        ...(caps.length > 0 ? [`${words.caps}:`, ...caps] : []),
+        ...(levels.length > 0 ? [`${words.caps}:`, ...levels] : []),
     ];
 }
 

@@ -165,12 +165,10 @@ test('the HTML says what the text says', () => {
         const { total, windows, foot } = statementOf(member, result, 'de');
         const said = [member.name, total, foot.tariff, foot.hash, foot.version];
         for (const text of said) assert.ok(html.includes(text), text);
-        assert.equal([...html.matchAll(/<svg /g)].length, windows.length);
+        assert.equal([...html.matchAll(/<svg class="picture" /g)].length, windows.length);
         const ridersOf = (window) => window.trips.flatMap(({ parts }) => parts.flatMap(({ riders }) => riders));
         const due = windows.flatMap((window) => [...ridersOf(window).map(({ charge }) => charge), window.total]);
-        assert.deepEqual([...html.matchAll(/<td>([^<]+)<\/td><\/tr>/g)].map(([, charge]) => charge), due);
-        const caps = windows.flatMap(ridersOf).map(({ cap }) => cap).filter((cap) => cap !== '');
-        assert.deepEqual([...html.matchAll(/<small>(24-Stunden-Deckel[^<]*)/g)].map(([, cap]) => cap), caps);
+        assert.deepEqual([...html.matchAll(/<td class="charge">([^<]+)<\/td>/g)].map(([, charge]) => charge), due);
     }
     assert.match(statementsDocument(result, 'de', ''), /<title>Abrechnung Oktober 2026<\/title>/);
 });
@@ -191,21 +189,42 @@ test('a statement whose total is not that of the wages is none', () => {
     agreeStatements(result);
 });
 
-test('the picture: a bar for each trip, how full each cap is, and words for who cannot see it', () => {
+test('a cap is named once a window, and a letter leads to it from each amount that it took off', () => {
+    const result = settled([BACK, 'Eva,2026-10-20,20:00,21:00,Dortmund Hbf,Essen Hbf,,1,,1,2']);
+    const html = statementHtml(result.members[0], result, 'de');
+    const [window] = statementOf(result.members[0], result, 'de').windows;
+    const riders = window.trips.flatMap(({ parts }) => parts.flatMap((part) => part.riders)).filter(({ cap }) => cap);
+    assert.ok(riders.length > new Set(riders.map(({ cap }) => cap)).size, 'a cap cuts twice');
+    for (const { words } of window.caps) assert.equal(html.split(`${words}</dt>`).length, 2, words);
+    assert.equal(html.match(/24-Stunden-Deckel/g).length, window.caps.length);
+    const marks = [...html.matchAll(/€<sup>(\w)<\/sup>/g)].map(([, mark]) => mark);
+    const meant = new Map([...html.matchAll(/<dt><sup>(\w)<\/sup> ([^<]*)/g)].map(([, mark, words]) => [mark, words]));
+    assert.deepEqual(marks.map((mark) => meant.get(mark)), riders.map(({ cap }) => cap));
+    const { fills } = window.caps.find(({ words }) => words.endsWith('NRW, alle Klassen'));
+    assert.deepEqual(fills.map(({ who }) => who), ['Mitglied', 'Erwachsene/r 1', 'Kind 1', 'Kind 2']);
+});
+
+test('the picture: a bar for each trip and how full each cap is, at any width, and words for who cannot see it', () => {
     const result = settled([...NIGHT, 'Eva,2026-11-01,06:00,06:10,Bielefeld Hbf,Bielefeld Rathaus']);
-    const svg = statementHtml(result.members[0], result, 'de').match(/<svg[^]*?<\/svg>/)[0];
-    assert.match(svg, /role="img"/);
+    const html = statementHtml(result.members[0], result, 'de');
+    const svg = html.match(/<svg[^]*?<\/svg>/)[0];
+    assert.match(svg, /role="img" width="100%"/);
     assert.match(svg, /<title>Die 24 Stunden des Fensters mit den Fahrten<\/title>/);
-    assert.match(svg, /<desc>[^<]*Mitglied: Westfalen, 2\. Klasse: 25,00\u00a0€ von 25,00\u00a0€, voll<\/desc>/);
-    assert.ok(!/NaN|undefined|Infinity/.test(svg));
-    const bars = svg.matchAll(/<rect x="([\d.]+)" y="[\d.]+" width="([\d.]+)" height="12"([^/]*)\/>/g);
-    assert.deepEqual([...bars].slice(0, 3).map(([, x, width, rest]) => [x, width, rest.trim()]), [
-        ['20.0', '35.4', ''], // 75 of 1,440 minutes on a line of 680
-        ['213.6', '35.4', 'fill="none" stroke="currentColor"'], // 410 minutes later, cut
-        ['227.8', '4.7', 'fill="none" stroke="currentColor" stroke-dasharray="2 2"'], // refused
+    assert.ok(!/NaN|undefined|Infinity/.test(html));
+    const bars = svg.matchAll(/<rect class="(\w+)" x="([\d.]+)%" y="\d+" width="([\d.]+)%" height="8"/g);
+    assert.deepEqual([...bars].map(([, state, x, width]) => [state, x, width]), [
+        ['priced', '0.00', '5.21'], // 75 of 1,440 minutes
+        ['cut', '28.47', '5.21'], // 410 minutes later
+        ['refused', '30.56', '0.69'],
     ]);
-    const shares = [...svg.matchAll(/width="([\d.]+)" height="9"\/>/g)].map(([, width]) => Number(width));
-    assert.deepEqual(shares, [166.7, 200]);
+    assert.match(svg, /<text x="5\.56%" y="\d+">So<\/text>/); // midnight, 80 minutes on
+    const levels = html.matchAll(/<dd><span>([^<]*)<\/span><svg class="level"[^]*?width="([\d.]+)%" height="100%" rx="2"\/><\/svg><span>([^<]*)/g);
+    assert.deepEqual([...levels].map(([, ...level]) => level), [
+        ['Mitglied', '83.33', '25,00\u00a0€ von 30,00\u00a0€'],
+        ['Mitglied', '100.00', 'voll, 25,00\u00a0€'],
+    ]);
+    const legend = html.match(/<footer>[^]*<\/footer>/)[0];
+    assert.deepEqual([...legend.matchAll(/class="(priced|cut|refused)"/g)].map(([, state]) => state), ['priced', 'cut', 'refused']);
 });
 
 test('a window of very many trips has a picture, too', () => {
@@ -214,7 +233,7 @@ test('a window of very many trips has a picture, too', () => {
     const trip = (_, i) => `Eva,2026-10-06,${clock(5 * i)},${clock(5 * i + 4)},Hamm Hbf,Hamm Betriebshof`;
     const result = settled(Array.from({ length: 250 }, trip));
     const html = statementHtml(result.members[0], result, 'en');
-    assert.equal([...html.matchAll(/<tbody/g)].length, 250);
+    assert.equal([...html.matchAll(/<tbody class="trip/g)].length, 250);
 });
 
 test('what the caps come to is the library’s: the examples of docs/RULES.md', () => {
