@@ -140,13 +140,14 @@ function accept(account, entry, parts, book) {
 
 /** The window, the last check-out, and what every rider and bicycle has paid in it: the book has to say the same. */
 function agree({ name, view, paid, areas }, entry) {
-    if (openingIn(view) !== entry.window) throw new Disagreement(name, `opening, line ${entry.line}`);
-    if (lastCheckOutIn(view) !== entry.checkOut.minute) throw new Disagreement(name, `check-out, line ${entry.line}`);
+    const place = `${entry.file}:${entry.line}`;
+    if (openingIn(view) !== entry.window) throw new Disagreement(name, `opening, ${place}`);
+    if (lastCheckOutIn(view) !== entry.checkOut.minute) throw new Disagreement(name, `check-out, ${place}`);
     paid.forEach((cents, slot) => {
         const due = paidByBook(view, areas, slot);
         if (cents === due) return;
         const { sort, number } = PARTY[slot];
-        throw new Disagreement(name, `${sort} ${number}, line ${entry.line}: ${cents} and ${due} cents`);
+        throw new Disagreement(name, `${sort} ${number}, ${place}: ${cents} and ${due} cents`);
     });
 }
 

@@ -69,9 +69,10 @@ async function orMistaken(language, make, say) {
 
 // ---- The call
 
-const TEXTS = ['areas', 'stops', 'trips', 'books', 'period', 'format', 'out', 'language', 'member'];
+const TEXTS = ['areas', 'stops', 'books', 'period', 'format', 'out', 'language', 'member'];
 const OPTIONS = {
     ...Object.fromEntries(TEXTS.map((name) => [name, { type: 'string' }])),
+    trips: { type: 'string', multiple: true },
     help: { type: 'boolean', short: 'h' },
     version: { type: 'boolean' },
 };
@@ -114,8 +115,8 @@ function versionLine() {
 // ---- What is done
 
 async function perform(call) {
-    const { period, language, words } = call;
-    const found = await orMistaken(language, () => fs.readdirSync(call.folder), (why) => words.folder(call.folder, why));
+    const { folder, period, language, words } = call;
+    const found = await orMistaken(language, () => fs.readdirSync(folder), (why) => words.folder(folder, why));
     const files = filesOf(call, found);
     if (call.action === 'close') refuseSecondClosing(call);
     const engine = await orMistaken(language, () => engineOf(words), words.engineless);
@@ -135,23 +136,36 @@ async function engineOf(words) {
 
 /** The files of the call, those that are not named from the folder, in which `found` lies. */
 function filesOf(call, found) {
-    const placeOf = (sort) => call[sort] ?? path.join(call.folder, `${sort}.csv`);
-    const named = ['areas', 'stops', 'trips'].map((sort) => [sort, placeOf(sort)]);
+    const { folder, words, language } = call;
+    const [areas, stops] = ['areas', 'stops'].map((sort) => call[sort] ?? path.join(folder, `${sort}.csv`));
+    const trips = call.trips ?? tripsIn(found).map((name) => path.join(folder, name));
     const books = call.books ?? lastBooks(call, found);
-    if (books !== null) {
-        tell(call.words.books(books));
-        named.push(['books', books]);
-    }
-    const read = named.map(([sort, name]) => [sort, fileAt(name, call.language)]);
-    const unread = read.filter(([, { why }]) => why !== undefined).map(([, file]) => file);
-    if (unread.length > 0) throw new Mistaken(call.words.unread(unread));
-    return Object.fromEntries(read);
+    if (trips.length > 1) tell(words.trips(trips));
+    if (books !== null) tell(words.books(books));
+    const read = [areas, stops, ...trips, ...(books === null ? [] : [books])].map((place) => fileAt(place, language));
+    const unread = read.filter(({ why }) => why !== undefined);
+    if (unread.length > 0) throw new Mistaken(words.unread(unread));
+    const [areasFile, stopsFile, ...rest] = read;
+    const tripFiles = toldApart(rest.splice(0, trips.length));
+    return { areas: areasFile, stops: stopsFile, trips: tripFiles, books: rest[0] ?? null };
 }
 
-/** A file's name and bytes; `why` they cannot be read, and where it is. */
+/** The names of a folder's files of trips, in their order; where there is none, of the one that is due. */
+function tripsIn(found) {
+    const names = found.filter((name) => /^trips.*\.csv$/i.test(name)).sort();
+    return names.length > 0 ? names : ['trips.csv'];
+}
+
+/** Files of one name are known by their places. */
+function toldApart(files) {
+    const same = ({ name }) => files.filter((other) => other.name === name).length > 1;
+    return files.map((file) => (same(file) ? { ...file, name: file.place } : file));
+}
+
+/** A file's place, name and bytes, or `why` these cannot be read. */
 function fileAt(place, language) {
     try {
-        return { name: path.basename(place), bytes: new Uint8Array(fs.readFileSync(place)) };
+        return { place, name: path.basename(place), bytes: new Uint8Array(fs.readFileSync(place)) };
     } catch (error) {
         return { place, why: reasonText(error, language) };
     }

@@ -6,6 +6,12 @@ const meant = {
     en: (near) => (near ? `; did you mean '${near}'?` : ''),
 };
 
+/** Where another row stands: in a file that is named, where there are several. */
+const place = {
+    de: ({ file, line }) => (file ? `${file}:${line}` : `Zeile ${line}`),
+    en: ({ file, line }) => (file ? `${file}:${line}` : `line ${line}`),
+};
+
 const TEXTS = {
     // a file as a whole
     missing: {
@@ -154,18 +160,22 @@ const TEXTS = {
     },
     // trips beside each other
     overlaps: {
-        de: ({ line }) => `überschneidet sich mit der Fahrt in Zeile ${line}; wird abgelehnt (10)`,
-        en: ({ line }) => `overlaps the trip in line ${line}; refused (10)`,
+        de: (other) => `überschneidet sich mit der Fahrt in ${place.de(other)}; wird abgelehnt (10)`,
+        en: (other) => `overlaps the trip in ${place.en(other)}; refused (10)`,
+    },
+    tripTwice: {
+        de: (other) => `dieselbe Fahrt wie in ${place.de(other)}; doppelt eingetragen?`,
+        en: (other) => `the same trip as in ${place.en(other)}; entered twice?`,
     },
     refused: {
         de: ({ number, text }) => `wird abgelehnt (${number}): ${text}`,
         en: ({ number, text }) => `refused (${number}): ${text}`,
     },
     nearMembers: {
-        de: ({ value, near, line }) =>
-            `member '${value}': dieselbe Person wie '${near}' in Zeile ${line}? Hier sind es zwei`,
-        en: ({ value, near, line }) =>
-            `member '${value}': the same person as '${near}' in line ${line}? Here they are two`,
+        de: ({ value, near, ...other }) =>
+            `member '${value}': dieselbe Person wie '${near}' in ${place.de(other)}? Hier sind es zwei`,
+        en: ({ value, near, ...other }) =>
+            `member '${value}': the same person as '${near}' in ${place.en(other)}? Here they are two`,
     },
     nearBook: {
         de: ({ value, near }) => `member '${value}': dieselbe Person wie '${near}' in den Büchern? Hier sind es zwei`,
@@ -216,8 +226,10 @@ export function mistakeText({ key, values }, language) {
 
 /** Collects the mistakes of all files. `error` and `warning` answer null, for whoever has no value then. */
 export class Mistakes {
-    constructor(language) {
+    /** `files` are the files' names in the order in which their mistakes are told. */
+    constructor(language, files) {
         this.language = language;
+        this.files = files;
         this.all = [];
     }
 
@@ -238,10 +250,9 @@ export class Mistakes {
         return this.all.filter((mistake) => mistake.kind === kind).length;
     }
 
-    /** All of them, file by file in the order in which the files were read, and by line. */
+    /** All of them, file by file and by line. */
     sorted() {
-        const files = [...new Set(this.all.map(({ file }) => file))];
-        const rank = new Map(files.map((file, i) => [file, i]));
+        const rank = new Map(this.files.map((file, i) => [file, i]));
         return [...this.all].sort((a, b) => rank.get(a.file) - rank.get(b.file) || a.line - b.line);
     }
 }

@@ -3,6 +3,7 @@ import { Disagreement, lastCheckOut, settleMember } from './account.mjs';
 import { isPeriod, readBooks } from './books.mjs';
 import { capsOf } from './caps.mjs';
 import { clockOf } from './clock.mjs';
+import { placeOf } from './doubts.mjs';
 import { BOOK_BYTES } from './engine.mjs';
 import { Mistakes } from './mistakes.mjs';
 import { folded } from './names.mjs';
@@ -13,15 +14,16 @@ import { agreeWages, chargesOf, wagesOf } from './wages.mjs';
 const NAMES = { areas: 'areas.csv', stops: 'stops.csv', trips: 'trips.csv', books: 'books' };
 
 /**
- * Reads the files, each as bytes, as text or as {name, bytes}; settles every member's trips; makes the tables. All
- * mistakes of all files are told at once, and with an error among them there are no members and no tables.
+ * Reads the files, each as bytes, as text or as {name, bytes}, and of trips one or several in a list; settles every
+ * member's trips; makes the tables. All mistakes of all files are told at once, and with an error among them there are
+ * no members and no tables.
  *
  * `period`, '2026-10': what counts. Trips before it are settled too, since a window may reach over the month's end;
  * what comes after it is not looked at. Without one, all trips count. `progress(done, all)` is told of settled trips.
  */
 export function runDesk({ engine, files, period = null, zone = 'Europe/Berlin', language = 'de', progress }) {
     if (period !== null && !isPeriod(period)) throw new RangeError(`${period} is no month`);
-    const desk = { engine, period, zone, progress, mistakes: new Mistakes(language), files: filesOf(files) };
+    const desk = deskOf({ engine, period, zone, progress }, files, language);
     const tariff = tariffIn(desk);
     const books = booksIn(desk, tariff);
     const trips = readTrips(desk.files.trips, tariff.stops, zone, desk.mistakes);
@@ -34,10 +36,11 @@ export function runDesk({ engine, files, period = null, zone = 'Europe/Berlin', 
         warnings: desk.mistakes.count('warning'),
         tariff: tariffOf(desk, tariff),
         ...{ period, zone, language, version: engine.version, booksPeriod: books?.period ?? null },
+        tripFiles: desk.files.trips.map(({ name }) => name),
         ...{ members, wages, refused, books: kept },
         /** The largest table, made when it is asked for. */
         get charges() {
-            return (charges ??= chargesOf(members, tariff));
+            return (charges ??= chargesOf(this));
         },
     };
 }
@@ -49,9 +52,25 @@ function tariffOf({ engine, mistakes }, { bytes, hash, areas, stops }) {
 
 const NOTHING = { members: [], wages: [], refused: 0, books: new Map() };
 
+function deskOf(rest, given, language) {
+    const files = filesOf(given);
+    const names = Object.values(files).flat().map(({ name }) => name);
+    return { ...rest, files, several: files.trips.length > 1, mistakes: new Mistakes(language, names) };
+}
+
 function filesOf(files) {
     const named = Object.entries(NAMES).map(([sort, name]) => [sort, fileOf(files[sort], name)]);
-    return Object.fromEntries(named);
+    return { ...Object.fromEntries(named), trips: tripFilesOf(files.trips) };
+}
+
+/** The files of trips, each with a name of its own; of none the one that is missing. */
+function tripFilesOf(given) {
+    const list = Array.isArray(given) ? given : [given];
+    const files = (list.length > 0 ? list : [null]).map((file) => fileOf(file, NAMES.trips));
+    return files.map((file, i) => {
+        const before = files.slice(0, i).filter(({ name }) => name === file.name).length;
+        return before === 0 ? file : { ...file, name: `${file.name} (${before + 1})` };
+    });
 }
 
 function fileOf(given, name) {
@@ -94,7 +113,7 @@ function settledOrNot(desk, tariff, books, trips) {
     } catch (error) {
         if (!(error instanceof Disagreement)) throw error;
         const { member, what } = error;
-        return desk.mistakes.error(desk.files.trips.name, 1, 'disagreement', { member, what });
+        return desk.mistakes.error(desk.files.trips[0].name, 1, 'disagreement', { member, what });
     }
 }
 
@@ -124,35 +143,35 @@ function settleAll(desk, tariff, books, trips) {
 }
 
 /** Those trips that are neither in the books already nor behind the period. */
-function dueTrips({ period, mistakes, files }, books, trips) {
+function dueTrips({ period, mistakes }, books, trips) {
     const closed = books?.period ?? '';
     const old = trips.filter(({ month }) => month <= closed);
-    if (old.length > 0) mistakes.warning(files.trips.name, old[0].line, 'inBooks', { count: old.length, closed });
+    if (old.length > 0) mistakes.warning(old[0].file, old[0].line, 'inBooks', { count: old.length, closed });
     return trips.filter(({ month }) => month > closed && (period === null || month <= period));
 }
 
 /** Tells of each refused trip, and of one that begins too early what it runs into. */
-function warnOfRefused({ engine, zone, mistakes, files }, member, book) {
+function warnOfRefused({ engine, zone, mistakes, several }, member, book) {
     let last = null;
     for (const entry of member.entries) {
         if (entry.accepted) last = entry;
         if (entry.accepted || !entry.inPeriod) continue;
-        const note = (key, values) => mistakes.warning(files.trips.name, entry.line, key, values);
+        const note = (key, values) => mistakes.warning(entry.file, entry.line, key, values);
         const number = entry.refusal.number;
         if (number !== 10) note('refused', { number, text: engine.refusalText(number, mistakes.language) });
-        else if (last) note('overlaps', { line: last.line });
+        else if (last) note('overlaps', placeOf(last, several));
         else note('beforeBooks', { until: momentIn(clockOf(zone), lastCheckOut(book)).local.replace('T', ' ') });
     }
 }
 
 /** A member spelt otherwise than in the books would go on from a fresh one: told once a name. */
-function warnOfNearBooks({ mistakes, files }, kept, trips) {
+function warnOfNearBooks({ mistakes }, kept, trips) {
     const names = new Map(kept.map((name) => [folded(name), name]));
     const seen = new Set(kept);
-    for (const { member, line } of trips) {
+    for (const { file, member, line } of trips) {
         if (seen.has(member)) continue;
         seen.add(member);
         const near = names.get(folded(member));
-        if (near) mistakes.warning(files.trips.name, line, 'nearBook', { value: member, near });
+        if (near) mistakes.warning(file, line, 'nearBook', { value: member, near });
     }
 }

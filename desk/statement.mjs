@@ -157,9 +157,15 @@ function tripOf(entry, number, saying) {
         when: whenText(entry, saying),
         where: `${stop(entry.from)} → ${stop(entry.to)}`,
         how: [...via, classText(entry.class, language), ...level, ...elsewhere].join(', '),
-        refused: entry.accepted ? null : words.refused(refusalText(entry.refusal.number, language), entry.line),
+        refused: entry.accepted ? null : refusedText(entry, saying),
         parts: (entry.parts ?? []).map((part, i) => partOf(entry, part, i, saying)),
     };
+}
+
+/** Why a trip is refused, and where it stands; its file is named where there are several. */
+function refusedText({ refusal, line, file }, { language, words, result: { tripFiles } }) {
+    const place = words.place(line, tripFiles.length > 1 ? file : null);
+    return words.refused(refusalText(refusal.number, language), place);
 }
 
 function stateOf({ accepted, parts }) {

@@ -1,6 +1,7 @@
 // Trips from trips.csv: names become stops, clock times minutes, and each is made a trip record (docs/FORMAT.md).
 import { clockOf, dayOf, localOf, monthOf, offsetText, timeOf, tripTimes } from './clock.mjs';
 import { readTable } from './csv.mjs';
+import { placeOf, warnOfTwins } from './doubts.mjs';
 import { wholeIn, wordIn } from './fields.mjs';
 import { folded, tidy } from './names.mjs';
 import { directory, nearThing, recordBytes } from './tariff.mjs';
@@ -14,20 +15,34 @@ export const TRIP_COLUMNS = {
     via: false, class: false, level: false, adults: false, children: false, bicycles: false,
 };
 
-/** The file's trips, in its order. `stops` is null where the stops could not be read: names are then not looked for. */
-export function readTrips(file, stops, zone, mistakes) {
-    const rows = readTable(file, TRIP_COLUMNS, mistakes) ?? [];
+/**
+ * The trips of all files, in the files' order and by line. `stops` is null where the stops could not be read: names are
+ * then not looked for. A row with a mistake is none of the trips.
+ */
+export function readTrips(files, stops, zone, mistakes) {
+    const several = files.length > 1;
     const clock = clockOf(zone);
     const stopIn = stopFinder(stops);
-    const trips = rows.map((row) => {
-        const note = (key, values) => mistakes.error(file.name, row.line, key, values);
-        return readTrip(row, stopIn, clock, note);
-    });
-    warnOfNearMembers(file.name, trips, mistakes);
+    const trips = files.flatMap((file) => tripsIn(file, stopIn, clock, mistakes));
+    warnOfNearMembers(trips, several, mistakes);
+    if (stops) warnOfTwins(tripsByMember(trips), several, mistakes);
     return trips;
 }
 
-function readTrip(row, stopIn, clock, note) {
+function tripsIn(file, stopIn, clock, mistakes) {
+    const rows = readTable(file, TRIP_COLUMNS, mistakes) ?? [];
+    return rows.flatMap((row) => {
+        let right = true;
+        const note = (key, values) => {
+            right = false;
+            return mistakes.error(file.name, row.line, key, values);
+        };
+        const trip = readTrip(file.name, row, stopIn, clock, note);
+        return right ? [trip] : [];
+    });
+}
+
+function readTrip(file, row, stopIn, clock, note) {
     const member = tidy(row.member);
     if (member === '') note('blank', { column: 'member' });
     const times = timesIn(row, clock, note);
@@ -38,7 +53,7 @@ function readTrip(row, stopIn, clock, note) {
         return text === '' ? note('blank', { column }) : stopIn(column, text, note);
     });
     const rest = { class: classIn(row, note), level: levelIn(row, note), party: partyIn(row, note) };
-    return { line: row.line, member, ...times, from, to, via, ...rest };
+    return { file, line: row.line, member, ...times, from, to, via, ...rest };
 }
 
 // ---- Stops
@@ -124,28 +139,33 @@ function partyIn(row, note) {
 }
 
 /** Two spellings of one name would be two members, each with caps of their own: told once a name. */
-function warnOfNearMembers(file, trips, mistakes) {
+function warnOfNearMembers(trips, several, mistakes) {
     const seen = new Map();
     const names = new Set();
-    for (const { member, line } of trips) {
+    for (const trip of trips) {
+        const { file, line, member } = trip;
         if (names.has(member)) continue;
         names.add(member);
         const near = seen.get(folded(member));
-        if (near) mistakes.warning(file, line, 'nearMembers', { value: member, near: near.member, line: near.line });
-        else seen.set(folded(member), { member, line });
+        const values = near && { value: member, near: near.member, ...placeOf(near, several) };
+        if (near) mistakes.warning(file, line, 'nearMembers', values);
+        else seen.set(folded(member), trip);
     }
 }
 
 // ---- Order and bytes
 
-/** The trips of each member, members in the file's order, a member's trips by check-in and then by line. */
+/**
+ * The trips of each member, members in the files' order, a member's trips by check-in, then as they came: in the files'
+ * order and by line.
+ */
 export function tripsByMember(trips) {
     const members = new Map();
     for (const trip of trips) {
         if (!members.has(trip.member)) members.set(trip.member, []);
         members.get(trip.member).push(trip);
     }
-    for (const own of members.values()) own.sort((a, b) => a.checkIn.minute - b.checkIn.minute || a.line - b.line);
+    for (const own of members.values()) own.sort((a, b) => a.checkIn.minute - b.checkIn.minute);
     return members;
 }
 

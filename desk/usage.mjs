@@ -2,7 +2,7 @@
 
 export const USAGE = `usage: ./milecopper check|settle|statement|wages|close [FOLDER] [--period 2026-10]
                     [--format csv|json] [--out FOLDER] [--member NAME] [--language de|en]
-                    [--areas FILE] [--stops FILE] [--trips FILE] [--books FILE]
+                    [--areas FILE] [--stops FILE] [--trips FILE]... [--books FILE]
 `;
 
 export const HELP = {
@@ -14,7 +14,8 @@ wages      für das Lohnbüro: eine Zeile je Mitglied und Monat
 close      schließt den Monat ab und schreibt die Bücher, books-2026-10.json; einmal je Monat
 
 Im Ordner (ohne Angabe: hier) liegen areas.csv, stops.csv und trips.csv, dazu gegebenenfalls die Bücher des letzten
-Abschlusses vor dem Monat; einzelne Dateien lassen sich stattdessen nennen. --out schreibt Dateien, statt zu drucken.
+Abschlusses vor dem Monat; einzelne Dateien lassen sich stattdessen nennen. Die Fahrten können in mehreren Dateien
+stehen: genommen wird jede trips*.csv des Ordners, oder --trips mehrmals. --out schreibt Dateien, statt zu drucken.
 Der Rechenkern wird beim ersten Mal gebaut, was ihn beweist und einige Minuten dauert.
 
 Status 0: alle Fahrten sind berechnet. 1: eine Fahrt wurde abgelehnt. 2: Fehler in Dateien oder Aufruf; dann wird
@@ -28,7 +29,8 @@ wages      for the wage office: a row for each member and month
 close      closes the month and writes the books, books-2026-10.json; once a month
 
 The folder (none: the present one) holds areas.csv, stops.csv and trips.csv and, if there are, the books of the last
-closing before the month; single files can be named instead. --out writes files instead of printing.
+closing before the month; single files can be named instead. The trips may stand in several files: every trips*.csv
+of the folder is taken, or --trips more than once. --out writes files instead of printing.
 The engine is built the first time, which proves it and takes some minutes.
 
 Status 0: all trips are priced. 1: a trip is refused. 2: mistakes in files or call; nothing is written then.
@@ -54,6 +56,7 @@ export const WORDS = {
         versionless: (why) => `die Versionsnummer in include/milecopper.h ist nicht lesbar: ${why}`,
         unprinted: (why) => `die Ausgabe ist nicht zu schreiben: ${why}`,
         unwritten: (folder, why) => `in ${folder} kann nicht geschrieben werden: ${why}`,
+        trips: (files) => `Fahrten: ${files.join(', ')}`,
         books: (file) => `Bücher: ${file}`,
         wrote: (file) => `geschrieben: ${file}`,
         progress: (done, all) => `${done} von ${all} Fahrten`,
@@ -78,6 +81,7 @@ export const WORDS = {
         versionless: (why) => `the version's number in include/milecopper.h cannot be read: ${why}`,
         unprinted: (why) => `what is put out cannot be written: ${why}`,
         unwritten: (folder, why) => `cannot write in ${folder}: ${why}`,
+        trips: (files) => `trips: ${files.join(', ')}`,
         books: (file) => `books: ${file}`,
         wrote: (file) => `written: ${file}`,
         progress: (done, all) => `${done} of ${all} trips`,

@@ -22,30 +22,34 @@ const TRIP = ['member', 'line', 'check_in', 'check_out', 'from', 'to', 'via', 'c
 const RIDE = ['part', 'area', 'km', 'minutes', 'window'];
 const RIDER = ['rider', 'price', 'charge', 'taken_off', 'cap_area', 'cap_class'];
 
-/** The columns of the charges. */
-export const CHARGES = [...TRIP, ...RIDE, ...RIDER, 'refusal'];
+const CHARGES = [...TRIP, ...RIDE, ...RIDER, 'refusal'];
+
+/** The columns of a result's charges: where there are several files of trips, the first says which a trip is from. */
+const chargeColumns = ({ tripFiles }) => (tripFiles.length > 1 ? ['file', ...CHARGES] : CHARGES);
 
 /** Rows by column of the entries in the period: one for each charge, and one for each refused trip. */
-export function chargesOf(members, tariff) {
-    return Array.from(chargeRows(members, tariff), (row) => rowByColumn(CHARGES, row));
+export function chargesOf(result) {
+    const columns = chargeColumns(result);
+    return Array.from(chargeRows(result), (row) => rowByColumn(columns, row));
 }
 
 const rowByColumn = (columns, row) => Object.fromEntries(columns.map((column, i) => [column, row[i]]));
 
 /** The same rows one after another, as values in the columns' order. */
-function* chargeRows(members, tariff) {
+function* chargeRows({ members, tariff, tripFiles }) {
+    const fileOf = (entry) => (tripFiles.length > 1 ? [entry.file] : []);
     for (const { entries, openingLocal } of members.flatMap(({ windows }) => windows)) {
-        for (const entry of entries) if (entry.inPeriod) yield* entryRows(entry, openingLocal, tariff);
+        for (const entry of entries) if (entry.inPeriod) yield* entryRows(fileOf(entry), entry, openingLocal, tariff);
     }
 }
 
 const isoOf = ({ local, offset }) => local + offset;
 
-function* entryRows(entry, opening, { areas, stops }) {
+function* entryRows(file, entry, opening, { areas, stops }) {
     const via = entry.via.map((stop) => stops[stop].name).join('|');
     const times = [isoOf(entry.checkIn), isoOf(entry.checkOut)];
     const places = [stops[entry.from].name, stops[entry.to].name, via];
-    const trip = [entry.member, entry.line, ...times, ...places, entry.class, entry.level];
+    const trip = [...file, entry.member, entry.line, ...times, ...places, entry.class, entry.level];
     if (!entry.accepted) yield [...trip, ...[...RIDE, ...RIDER].map(() => null), entry.refusal.number];
     let number = 0;
     for (const part of entry.parts ?? []) {
@@ -88,8 +92,8 @@ export function wagesText({ wages }, format, language) {
 }
 
 /** The charges likewise. */
-export function chargesText({ members, tariff }, format, language) {
-    return tableText(CHARGES, chargeRows(members, tariff), format, language);
+export function chargesText(result, format, language) {
+    return tableText(chargeColumns(result), chargeRows(result), format, language);
 }
 
 function tableText(columns, rows, format, language) {

@@ -212,7 +212,7 @@ test('sums that do not agree with the book are an error, and nothing is put out'
         };
         const result = run(TRIPS + EVENING.replace(',,,,,,', ',,,,1,,1'), { engine: { ...engine, settle } });
         assert.equal(result.errors, 1, what);
-        const due = `^trips.csv:1: the sums of 'Anna Berg' do not agree with the book \\(${what}, line 2`;
+        const due = `^trips.csv:1: the sums of 'Anna Berg' do not agree with the book \\(${what}, trips\\.csv:2`;
         assert.match(said(result)[0], new RegExp(due));
         assert.deepEqual([result.members, result.wages, result.charges, result.books.size], [[], [], [], 0]);
     }
