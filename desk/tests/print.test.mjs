@@ -94,7 +94,8 @@ test('a window that fits on a sheet is kept together', { skip: READER }, async (
     const result = run(sample('trips.csv'), { period: '2026-10', language: 'de' });
     const sheets = sheetsOf(await printedByChromium(written(result, 'de')));
     for (const sheet of sheets) {
-        const [begun, ended] = [/^\s*(24-Stunden-Fenster ab|Außerhalb)/gm, /^\s*Summe\b/gm].map((mark) => sheet.match(mark));
+        const [begun, ended] = [/^\s*(24-Stunden-Fenster ab|Außerhalb)/gm, /^\s*Summe\b/gm].map((mark) => sheet.match(mark) ?? []);
+        assert.ok(begun.length > 0, 'a sheet of the foot alone');
         assert.equal(begun.length, ended.length, sheet);
     }
 });
