@@ -27,6 +27,12 @@ export function lastCheckOut(book) {
     return tripsIn(view) === 0 ? null : lastCheckOutIn(view);
 }
 
+/** The minute to which the book's window is open; null in a fresh one. */
+export function openUntil(book) {
+    const view = viewOf(book);
+    return tripsIn(view) === 0 ? null : openingIn(view) + WINDOW;
+}
+
 /**
  * What one of a party has paid in the window, by the book: of a rider the all-classes sum in the state, of a bicycle
  * its payments and the flat of its covering area, to which the differences of R11.2 add up.

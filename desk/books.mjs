@@ -1,34 +1,61 @@
-// The books file: the members' books at the end of a period, with the hash of the tariff that they were kept under.
-// Closing writes it, once a period; everything else reads it. A book's words that are 0 are left out.
+// The books file: the members' books at the end of a period, what in the tariff they depend on, and the trips that they
+// are of. Closing writes it, once a period; everything else reads it. A book's words that are 0 are left out.
 import { decoded } from './csv.mjs';
 import { BOOK_BYTES } from './engine.mjs';
+import { keptIn, keptLines, stopWords } from './kept.mjs';
+import { isPeriod } from './months.mjs';
+import { structureOf } from './tariff.mjs';
 
-const MARK = 'milecopper books 1';
+const MARK = 'milecopper books 2';
+const OLD_MARK = 'milecopper books 1'; // knows the hash of the whole tariff alone, and no trips
 const WORDS = BOOK_BYTES / 4;
 
-/** What a file says: {tariff, period, books: member → book}; null, and a mistake, where it is no such file. */
+// ---- Reading
+
+/**
+ * What a file says: {period, books: member → book, tariff}, where `tariff` is the hash of the whole tariff. The present
+ * form says besides `areas`, how many there were, `structure` and `values`, the hashes of what they mean and of what
+ * stands in them; `before`, the month of the books that these went on from, or null; and `trips`, member → all trips
+ * that were settled from there on. Of the older form these are undefined. Null, and a mistake, for any other file.
+ */
 export function readBooks(file, mistakes) {
     const { text, line } = decoded(file.bytes);
     if (text === undefined) return mistakes.error(file.name, line, 'encoding');
     return parsedBooks(text) ?? mistakes.error(file.name, 1, 'booksBroken');
 }
 
-function parsedBooks(text) {
+/** What the text says; null where it is not of books. */
+export function parsedBooks(text) {
     try {
-        const { form, tariff, period, members } = JSON.parse(text);
+        const said = JSON.parse(text);
+        const { form, tariff, period, members } = said;
         const books = new Map(members.map(({ member, words }) => [member, bookOf(words)]));
-        const whole = form === MARK && isHash(tariff) && isPeriod(period) && books.size === members.length;
+        const whole = isHash(tariff) && isPeriod(period) && books.size === members.length;
         const right = [...books].every(([member, book]) => typeof member === 'string' && book !== null);
-        return whole && right ? { tariff, period, books } : null;
+        if (!whole || !right) return null;
+        if (form === OLD_MARK) return { period, tariff, books };
+        const more = form === MARK ? presentForm(said) : null;
+        return more && { period, tariff, books, ...more };
     } catch {
         return null;
     }
 }
 
+function presentForm({ areas, structure, values, before, stops, members, period }) {
+    const right = Number.isInteger(areas) && areas > 0 && isHash(structure) && isHash(values);
+    const inOrder = before === null || (isPeriod(before) && before < period);
+    const trips = new Map(members.map(({ member, trips: own }) => [member, keptIn(own, stops)]));
+    return right && inOrder && [...trips.values()].every(Boolean) ? { areas, structure, values, before, trips } : null;
+}
+
 const isHash = (text) => typeof text === 'string' && /^[0-9a-f]{64}$/.test(text);
 
-/** A month, '2026-10'. */
-export const isPeriod = (text) => typeof text === 'string' && /^20\d\d-(0[1-9]|1[0-2])$/.test(text);
+/** The month that a file says near its start that it closes; null where it says none. */
+export function closedIn({ bytes }) {
+    const start = new TextDecoder('utf-8').decode(bytes.subarray(0, 4000));
+    const found = /"period":\s*"([^"]*)"/.exec(start)?.[1];
+    return isPeriod(found) ? found : null;
+}
 
 function bookOf(words) {
     const book = new Uint8Array(BOOK_BYTES);
@@ -43,17 +70,28 @@ function bookOf(words) {
     return book;
 }
 
+// ---- Writing
+
 function wordsIn(book) {
     const view = new DataView(book.buffer, book.byteOffset, book.length);
     const words = Array.from({ length: WORDS }, (_, at) => [at, view.getUint32(4 * at, true)]);
     return words.filter(([, value]) => value !== 0);
 }
 
-/** The file's text at the end of the result's period, a member a line. */
-export function booksText({ tariff, period, books }) {
-    const members = [...books].map(([member, book]) => JSON.stringify({ member, words: wordsIn(book) }));
-    const head = [`"form": ${JSON.stringify(MARK)}`, `"tariff": "${tariff.hash}"`, `"period": "${period}"`];
-    return `{${head.join(',\n ')},\n "members": [\n${members.join(',\n')}\n]}\n`;
+/** The file's text at the end of the result's period: a member a line, and behind it the trips, a line each. */
+export function booksText({ tariff, period, booksPeriod, books, members }) {
+    const words = stopWords(tariff.stops);
+    const entries = new Map(members.map((member) => [member.name, member.entries]));
+    const lines = [...books].map(([member, book]) => {
+        const head = JSON.stringify({ member, words: wordsIn(book) }).slice(0, -1);
+        return `${head},"trips":[${keptLines(entries.get(member) ?? [], words).map((trip) => `\n${trip}`).join(',')}]}`;
+    });
+    const { hash, areas, values, stops } = tariff;
+    const ids = Object.fromEntries(stops.map(({ id }, stop) => [words[stop], id]));
+    const head = { form: MARK, tariff: hash, areas: areas.length, structure: structureOf(areas), values };
+    const said = Object.entries({ ...head, period, before: booksPeriod, stops: ids });
+    const top = said.map(([key, value]) => `"${key}": ${JSON.stringify(value)}`).join(',\n ');
+    return `{${top},\n "members": [\n${lines.join(',\n')}\n]}\n`;
 }
 
 /** The name of a period's file. */

@@ -123,6 +123,11 @@ export function monthOf(zone, minute) {
     return localOf(clockOf(zone), minute).slice(0, 7);
 }
 
+/** Today's date in a zone, '2026-11-03', by the machine's clock. */
+export function todayIn(zone) {
+    return localOf(clockOf(zone), Math.floor((Date.now() - EPOCH) / 60000)).slice(0, 10);
+}
+
 /** An offset in minutes as it is written: '+01:00'. */
 export function offsetText(offset) {
     const two = (number) => String(number).padStart(2, '0');

@@ -4,12 +4,14 @@ import path from 'node:path';
 import { fileURLToPath } from 'node:url';
 import { parseArgs } from 'node:util';
 import { Disagreement } from './account.mjs';
-import { booksName, booksText, isPeriod } from './books.mjs';
+import { booksName, booksText } from './books.mjs';
 import { builtWasm } from './building.mjs';
+import { dayOf, todayIn } from './clock.mjs';
 import { loadEngine } from './engine.mjs';
 import { mistakeLine, mistakeText } from './mistakes.mjs';
+import { isPeriod } from './months.mjs';
 import { fileSafe, writeFiles } from './output.mjs';
-import { runDesk } from './run.mjs';
+import { OPEN, runDesk } from './run.mjs';
 import { agreeStatements, membersOf, statementText } from './statement.mjs';
 import { HELP, USAGE, WORDS, reasonText } from './usage.mjs';
 import { chargesText, wagesText } from './wages.mjs';
@@ -69,10 +71,13 @@ async function orMistaken(language, make, say) {
 
 // ---- The call
 
-const TEXTS = ['areas', 'stops', 'books', 'period', 'format', 'out', 'language', 'member'];
+const TEXTS = ['areas', 'stops', 'period', 'format', 'out', 'language', 'member', 'today'];
+const LISTS = ['trips', 'books'];
+const MARKS = ['force', 'new-tariff'];
 const OPTIONS = {
     ...Object.fromEntries(TEXTS.map((name) => [name, { type: 'string' }])),
-    trips: { type: 'string', multiple: true },
+    ...Object.fromEntries(LISTS.map((name) => [name, { type: 'string', multiple: true }])),
+    ...Object.fromEntries(MARKS.map((name) => [name, { type: 'boolean' }])),
     help: { type: 'boolean', short: 'h' },
     version: { type: 'boolean' },
 };
@@ -92,9 +97,15 @@ async function callOf(args) {
     if (more !== undefined) throw new Mistaken(words.many, true);
     const format = values.format ?? 'csv';
     if (!FORMATS.includes(format)) throw new Mistaken(words.allowed('format', FORMATS), true);
-    if (values.period !== undefined && !isPeriod(values.period)) throw new Mistaken(words.month(values.period), true);
     if (action === 'close' && values.period === undefined) throw new Mistaken(words.due, true);
-    return { ...values, action, folder, format, language, words, period: values.period ?? null };
+    return { ...values, ...datesOf(values, words), action, folder, format, language, words };
+}
+
+/** The month that is asked for, and today's date. */
+function datesOf({ period = null, today = todayIn('Europe/Berlin') }, words) {
+    if (period !== null && period !== OPEN && !isPeriod(period)) throw new Mistaken(words.month(period), true);
+    if (!/^\d{4}-/.test(today) || dayOf(today) === null) throw new Mistaken(words.date(today), true);
+    return { period, today };
 }
 
 function parsed(args) {
@@ -115,12 +126,13 @@ function versionLine() {
 // ---- What is done
 
 async function perform(call) {
-    const { folder, period, language, words } = call;
+    const { folder, period, language, words, today, 'new-tariff': newTariff } = call;
     const found = await orMistaken(language, () => fs.readdirSync(folder), (why) => words.folder(folder, why));
     const files = filesOf(call, found);
-    if (call.action === 'close') refuseSecondClosing(call);
     const engine = await orMistaken(language, () => engineOf(words), words.engineless);
-    const result = runDesk({ engine, files, period, language, progress: progressLine(words) });
+    const result = runDesk({ engine, files, period, language, today, newTariff, progress: progressLine(words) });
+    const books = [files.books].flat().find(({ name }) => name === result.booksFile);
+    if (books) tell(words.books(books.place));
     agreed(call, () => agreeStatements(result));
     await ACTIONS[call.action](call, result);
     if (result.errors > 0) return MISTAKEN;
@@ -137,23 +149,31 @@ async function engineOf(words) {
 /** The files of the call, those that are not named from the folder, in which `found` lies. */
 function filesOf(call, found) {
     const { folder, words, language } = call;
-    const [areas, stops] = ['areas', 'stops'].map((sort) => call[sort] ?? path.join(folder, `${sort}.csv`));
-    const trips = call.trips ?? tripsIn(found).map((name) => path.join(folder, name));
-    const books = call.books ?? lastBooks(call, found);
-    if (trips.length > 1) tell(words.trips(trips));
-    if (books !== null) tell(words.books(books));
-    const read = [areas, stops, ...trips, ...(books === null ? [] : [books])].map((place) => fileAt(place, language));
-    const unread = read.filter(({ why }) => why !== undefined);
+    const inFolder = (names) => names.map((name) => path.join(folder, name));
+    const places = {
+        areas: [call.areas ?? path.join(folder, 'areas.csv')],
+        stops: [call.stops ?? path.join(folder, 'stops.csv')],
+        trips: call.trips ?? inFolder(tripsIn(found)),
+        books: call.books ?? inFolder(booksAmong(found)),
+    };
+    if (places.trips.length > 1) tell(words.trips(places.trips));
+    const read = Object.entries(places).map(([sort, own]) => [sort, own.map((place) => fileAt(place, language))]);
+    const unread = read.flatMap(([, files]) => files).filter(({ why }) => why !== undefined);
     if (unread.length > 0) throw new Mistaken(words.unread(unread));
-    const [areasFile, stopsFile, ...rest] = read;
-    const tripFiles = toldApart(rest.splice(0, trips.length));
-    return { areas: areasFile, stops: stopsFile, trips: tripFiles, books: rest[0] ?? null };
+    const { areas, stops, trips, books } = Object.fromEntries(read.map(([sort, files]) => [sort, toldApart(files)]));
+    const named = call.books?.length === 1; // one that is named is meant, whatever it closes
+    return { areas: areas[0], stops: stops[0], trips, books: named ? books[0] : books };
 }
 
 /** The names of a folder's files of trips, in their order; where there is none, of the one that is due. */
 function tripsIn(found) {
     const names = found.filter((name) => /^trips.*\.csv$/i.test(name)).sort();
     return names.length > 0 ? names : ['trips.csv'];
+}
+
+/** Those of a folder's books, whatever they close. */
+function booksAmong(found) {
+    return found.filter((name) => /^books.*\.json$/i.test(name)).sort();
 }
 
 /** Files of one name are known by their places. */
@@ -169,13 +189,6 @@ function fileAt(place, language) {
     } catch (error) {
         return { place, why: reasonText(error, language) };
     }
-}
-
-/** The folder's books of the last closing before the period; null where there are none. */
-function lastBooks({ folder, period }, found) {
-    const periods = found.flatMap((name) => /^books-(\d{4}-\d{2})\.json$/.exec(name)?.[1] ?? []);
-    const before = periods.filter((month) => period === null || month < period).sort();
-    return before.length === 0 ? null : path.join(folder, booksName(before.at(-1)));
 }
 
 /** A line that counts the trips, where somebody watches. */
@@ -238,12 +251,21 @@ function agreed({ language }, make) {
 
 async function closed(call, result) {
     if (!isClean(result)) return;
-    await put({ ...call, out: call.out ?? call.folder }, [[booksName(call.period), booksText(result)]]);
+    if (result.period === null) throw new Mistaken(call.words.due, true);
+    const out = call.out ?? call.folder;
+    const name = booksName(result.period);
+    refuseClosing(call, result.closing, path.join(out, name));
+    await put({ ...call, out }, [[name, booksText(result)]]);
 }
 
-function refuseSecondClosing({ out, folder, period, words }) {
-    const file = path.join(out ?? folder, booksName(period));
+/** A month is closed once; and where closing it is likely not meant, only if it is asked for once more. */
+function refuseClosing({ force, words }, closing, file) {
+    const twice = closing.find(({ key }) => key === 'closeTwice');
     if (fs.existsSync(file)) throw new Mistaken(words.there(file));
+    if (twice) throw new Mistaken(twice.text);
+    for (const { text } of closing.filter(({ kind }) => kind === 'warning')) tell(text);
+    const doubts = closing.filter(({ kind }) => kind === 'error');
+    if (doubts.length > 0 && !force) throw new Mistaken(words.doubts(doubts));
 }
 
 /** Texts with their files' names: into the folder that is asked for, or printed. */

@@ -12,6 +12,25 @@ const place = {
     en: ({ file, line }) => (file ? `${file}:${line}` : `line ${line}`),
 };
 
+/** What new prices mean for windows that are open: of whom. */
+const mixed = {
+    de: (open) =>
+        open.length === 0
+            ? 'Kein Fenster ist über das Monatsende hinaus offen, also mischt sich nichts'
+            : 'In Fenstern, die über das Monatsende hinaus offen sind, werden die neuen Deckel mit dem verglichen, ' +
+              `was nach dem alten Tarif berechnet ist: ${open.join(', ')}`,
+    en: (open) =>
+        open.length === 0
+            ? "No window is open beyond the month's end, so nothing mixes"
+            : "In windows that are open beyond the month's end the new caps are compared with what was charged under " +
+              `the old tariff: ${open.join(', ')}`,
+};
+
+const counted = {
+    de: ({ month, trips }) => `${month} (Fahrten: ${trips})`,
+    en: ({ month, trips }) => `${month} (trips: ${trips})`,
+};
+
 const TEXTS = {
     // a file as a whole
     missing: {
@@ -186,10 +205,37 @@ const TEXTS = {
         de: () => 'das sind keine Bücher, wie das Abschließen sie schreibt',
         en: () => 'these are not books as closing writes them',
     },
+    booksTwice: {
+        de: ({ period, name, other }) => `zweimal Bücher von ${period}: ${other} und ${name}; nur eine kann gelten`,
+        en: ({ period, name, other }) => `books of ${period} twice: ${other} and ${name}; only one can count`,
+    },
     booksTariff: {
+        de: () =>
+            'die Bücher gehören zu einem anderen Tarif: seit dem Abschließen sind Zahl, Reihenfolge, id, level, ' +
+            'within oder kind der Gebiete anders. Gebiete behalten ihren Platz in areas.csv; neue kommen ans Ende',
+        en: () =>
+            'the books belong to another tariff: since the closing the number, order, id, level, within or kind of ' +
+            'areas have changed. Areas keep their place in areas.csv; new ones come at the end',
+    },
+    booksOldTariff: {
         de: ({ found, due }) =>
-            `die Bücher gehören zu einem anderen Tarif (${found.slice(0, 12)}, nicht ${due.slice(0, 12)})`,
-        en: ({ found, due }) => `the books belong to another tariff (${found.slice(0, 12)}, not ${due.slice(0, 12)})`,
+            `die Bücher gehören zu einem anderen Tarif (${found.slice(0, 12)}, nicht ${due.slice(0, 12)}). Bücher ` +
+            'dieser älteren Form verlangen bis zum nächsten Abschließen areas.csv und stops.csv, wie sie waren',
+        en: ({ found, due }) =>
+            `the books belong to another tariff (${found.slice(0, 12)}, not ${due.slice(0, 12)}). Books of this ` +
+            'older form need areas.csv and stops.csv as they were, until the next closing',
+    },
+    booksPrices: {
+        de: ({ open }) =>
+            'seit dem Abschließen haben Gebiete andere Preise oder Deckel, oder neue kamen dazu. Ist das gewollt: ' +
+            `--new-tariff. ${mixed.de(open)}`,
+        en: ({ open }) =>
+            'since the closing areas have other prices or caps, or new ones were added. If that is meant: ' +
+            `--new-tariff. ${mixed.en(open)}`,
+    },
+    newTariff: {
+        de: ({ open }) => `neuer Tarif: Fahrten seit dem Abschließen haben die neuen Preise. ${mixed.de(open)}`,
+        en: ({ open }) => `a new tariff: trips since the closing have the new prices. ${mixed.en(open)}`,
     },
     booksClosed: {
         de: ({ closed, period }) => `die Bücher sind schon bis ${closed} abgeschlossen, und verlangt ist ${period}`,
@@ -207,9 +253,44 @@ const TEXTS = {
             `closed to ${closed}: what lies before is in the books and is not priced again ` +
             `(trips: ${count}, the first here)`,
     },
+    lateTrip: {
+        de: ({ member, month, books }) =>
+            `'${member}', nachgereicht oder geändert: die Fahrt liegt im abgeschlossenen Monat ${month}, dessen ` +
+            `Bücher (${books}) sie nicht haben, und wird nicht berechnet. Ist ${month} noch nicht ausgezahlt, diese ` +
+            `und spätere Bücher löschen und neu abschließen; sonst zeigt --period ${month}, was der Monat mit ihr ` +
+            'kostet, und der Unterschied ist einzeln abzurechnen',
+        en: ({ member, month, books }) =>
+            `'${member}', late or changed: the trip lies in the closed month ${month}, whose books (${books}) do not ` +
+            `have it, and is not priced. If ${month} is not paid yet, delete these and later books and close again; ` +
+            `else --period ${month} shows what the month costs with it, and the difference has to be settled by itself`,
+    },
     beforeBooks: {
         de: ({ until }) => `beginnt vor dem letzten Check-out in den Büchern (${until}); wird abgelehnt (10)`,
         en: ({ until }) => `begins before the last check-out in the books (${until}); refused (10)`,
+    },
+    // closing a month
+    closeTwice: {
+        de: ({ period, file }) => `${period} ist schon abgeschlossen (${file}): ein Monat wird einmal abgeschlossen`,
+        en: ({ period, file }) => `${period} is closed already (${file}): a month is closed once`,
+    },
+    closeFuture: {
+        de: ({ period, today }) => `${period} liegt in der Zukunft (heute ist der ${today})`,
+        en: ({ period, today }) => `${period} lies in the future (today is ${today})`,
+    },
+    closeGap: {
+        de: ({ period, months }) => `vor ${period} ist noch nicht abgeschlossen: ${months.map(counted.de).join(', ')}`,
+        en: ({ period, months }) => `before ${period} these are not closed yet: ${months.map(counted.en).join(', ')}`,
+    },
+    closeEarlier: {
+        de: ({ period, later }) =>
+            `${later} ist schon abgeschlossen, und seine Bücher wissen nichts von denen für ${period}`,
+        en: ({ period, later }) => `${later} is closed already, and its books know nothing of those for ${period}`,
+    },
+    closeRunning: {
+        de: ({ period, today }) =>
+            `${period} ist noch nicht vorbei (heute ist der ${today}); was noch kommt, wird nicht mehr berechnet`,
+        en: ({ period, today }) =>
+            `${period} is not over yet (today is ${today}); what is still to come will not be priced`,
     },
     // what the desk finds of itself
     disagreement: {

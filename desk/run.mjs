@@ -1,17 +1,18 @@
 // The desk's work in one function, which page and command both call: files in, everything out.
 import { Disagreement, lastCheckOut, settleMember } from './account.mjs';
-import { isPeriod, readBooks } from './books.mjs';
 import { capsOf } from './caps.mjs';
 import { clockOf } from './clock.mjs';
+import { booksIn, closingDoubts, closingsIn, dueTrips } from './closings.mjs';
 import { placeOf } from './doubts.mjs';
 import { BOOK_BYTES } from './engine.mjs';
 import { Mistakes } from './mistakes.mjs';
+import { isPeriod, monthsOf, openMonth } from './months.mjs';
 import { folded } from './names.mjs';
 import { readTariff, recordAt } from './tariff.mjs';
 import { momentIn, readTrips, tripsByMember } from './trips.mjs';
 import { agreeWages, chargesOf, wagesOf } from './wages.mjs';
 
-const NAMES = { areas: 'areas.csv', stops: 'stops.csv', trips: 'trips.csv', books: 'books' };
+const NAMES = { areas: 'areas.csv', stops: 'stops.csv', trips: 'trips.csv' };
 
 /**
  * Reads the files, each as bytes, as text or as {name, bytes}, and of trips one or several in a list; settles every
@@ -19,15 +20,28 @@ const NAMES = { areas: 'areas.csv', stops: 'stops.csv', trips: 'trips.csv', book
  * no members and no tables.
  *
  * `period`, '2026-10': what counts. Trips before it are settled too, since a window may reach over the month's end;
- * what comes after it is not looked at. Without one, all trips count. `progress(done, all)` is told of settled trips.
+ * what comes after it is not looked at. Null: all trips count. 'open': the month that is open, which the result names.
+ * `files.books`: one file, from which the trips go on, or an array of files, of which it is the last one before the
+ * period; the others say which trips of their months are known. `newTariff`: books that were kept under other prices
+ * are meant. `today`, '2026-11-03': the date, where it is known. `progress(done, all)` is told of settled trips.
+ *
+ * Of the result, `booksFile` is the name of the books that were gone on from, `months` are those that there are
+ * (`monthsOf`), `open` the one to choose (`openMonth`), and `closing` what is to be said before the period is closed
+ * (`closingDoubts`).
  */
-export function runDesk({ engine, files, period = null, zone = 'Europe/Berlin', language = 'de', progress }) {
-    if (period !== null && !isPeriod(period)) throw new RangeError(`${period} is no month`);
-    const desk = deskOf({ engine, period, zone, progress }, files, language);
+export function runDesk({ files, period: asked = null, zone = 'Europe/Berlin', language = 'de', ...options }) {
+    if (asked !== null && asked !== OPEN && !isPeriod(asked)) throw new RangeError(`${asked} is no month`);
+    const { engine, today = null } = options;
+    const desk = deskOf({ ...options, zone }, files, language);
     const tariff = tariffIn(desk);
-    const books = booksIn(desk, tariff);
     const trips = readTrips(desk.files.trips, tariff.stops, zone, desk.mistakes);
-    const settled = desk.mistakes.count('error') === 0 ? settledOrNot(desk, tariff, books, trips) : null;
+    const closings = closingsIn(desk);
+    const months = monthsOf(trips, [...closings.keys()]);
+    const open = openMonth(months);
+    const period = asked === OPEN ? open : asked;
+    desk.period = period;
+    const books = booksIn(desk, tariff, closings);
+    const settled = desk.mistakes.count('error') === 0 ? settledOrNot(desk, tariff, books, closings, trips) : null;
     const { members, wages, refused, books: kept } = settled ?? NOTHING;
     let charges = null;
     return {
@@ -35,8 +49,9 @@ export function runDesk({ engine, files, period = null, zone = 'Europe/Berlin', 
         errors: desk.mistakes.count('error'),
         warnings: desk.mistakes.count('warning'),
         tariff: tariffOf(desk, tariff),
-        ...{ period, zone, language, version: engine.version, booksPeriod: books?.period ?? null },
-        tripFiles: desk.files.trips.map(({ name }) => name),
+        ...{ period, zone, language, version: engine.version, tripFiles: desk.files.trips.map(({ name }) => name) },
+        ...{ booksPeriod: books?.period ?? null, booksFile: books?.file.name ?? null },
+        ...{ months, open, closing: closingDoubts({ period, today, months, closings, language }) },
         ...{ members, wages, refused, books: kept },
         /** The largest table, made when it is asked for. */
         get charges() {
@@ -45,9 +60,12 @@ export function runDesk({ engine, files, period = null, zone = 'Europe/Berlin', 
     };
 }
 
-function tariffOf({ engine, mistakes }, { bytes, hash, areas, stops }) {
+/** The period that is asked for where it is to be the open month. */
+export const OPEN = 'open';
+
+function tariffOf({ engine, mistakes }, { bytes, hash, values, areas, stops }) {
     const caps = mistakes.count('error') === 0 ? capsOf(engine, areas) : [];
-    return { bytes, hash, areas: areas ?? [], stops: stops ?? [], caps };
+    return { bytes, hash, values, areas: areas ?? [], stops: stops ?? [], caps };
 }
 
 const NOTHING = { members: [], wages: [], refused: 0, books: new Map() };
@@ -55,12 +73,14 @@ const NOTHING = { members: [], wages: [], refused: 0, books: new Map() };
 function deskOf(rest, given, language) {
     const files = filesOf(given);
     const names = Object.values(files).flat().map(({ name }) => name);
-    return { ...rest, files, several: files.trips.length > 1, mistakes: new Mistakes(language, names) };
+    const named = !Array.isArray(given.books); // books that were given by themselves are meant
+    return { ...rest, files, named, several: files.trips.length > 1, mistakes: new Mistakes(language, names) };
 }
 
 function filesOf(files) {
     const named = Object.entries(NAMES).map(([sort, name]) => [sort, fileOf(files[sort], name)]);
-    return { ...Object.fromEntries(named), trips: tripFilesOf(files.trips) };
+    const books = [files.books ?? []].flat().map((given) => fileOf(given, 'books'));
+    return { ...Object.fromEntries(named), trips: tripFilesOf(files.trips), books };
 }
 
 /** The files of trips, each with a name of its own; of none the one that is missing. */
@@ -79,7 +99,7 @@ function fileOf(given, name) {
     return given instanceof Uint8Array ? { name, bytes: given } : { name: given.name ?? name, bytes: given.bytes };
 }
 
-// ---- Tariff and books
+// ---- The tariff
 
 function tariffIn({ engine, files, mistakes }) {
     const tariff = readTariff(files.areas, files.stops, mistakes);
@@ -93,23 +113,12 @@ function tariffIn({ engine, files, mistakes }) {
     return tariff;
 }
 
-/** The books that the trips go on from; null where there is no file, or a mistake in it. */
-function booksIn({ files, mistakes, period }, tariff) {
-    if (files.books.bytes === null) return null;
-    const books = readBooks(files.books, mistakes);
-    if (books === null) return null;
-    const note = (key, values) => mistakes.error(files.books.name, 1, key, values);
-    if (tariff.hash && books.tariff !== tariff.hash) note('booksTariff', { found: books.tariff, due: tariff.hash });
-    if (period !== null && books.period >= period) note('booksClosed', { closed: books.period, period });
-    return books;
-}
-
 // ---- Trips
 
 /** Nothing is put out where sums disagree: that is an error like any other. */
-function settledOrNot(desk, tariff, books, trips) {
+function settledOrNot(desk, tariff, books, closings, trips) {
     try {
-        return settleAll(desk, tariff, books, trips);
+        return settleAll(desk, tariff, books, dueTrips(desk, books, closings, trips, tariff));
     } catch (error) {
         if (!(error instanceof Disagreement)) throw error;
         const { member, what } = error;
@@ -117,9 +126,8 @@ function settledOrNot(desk, tariff, books, trips) {
     }
 }
 
-function settleAll(desk, tariff, books, trips) {
-    const { engine, zone, period, mistakes, files } = desk;
-    const due = dueTrips(desk, books, trips);
+function settleAll(desk, tariff, books, due) {
+    const { engine, zone, period, mistakes } = desk;
     const kept = new Map(books?.books ?? []);
     warnOfNearBooks(desk, [...kept.keys()], due);
     const inPeriod = ({ month }) => period === null || month === period;
@@ -129,7 +137,7 @@ function settleAll(desk, tariff, books, trips) {
         const book = kept.get(name) ?? new Uint8Array(BOOK_BYTES);
         const member = settleMember({ engine, tariff, zone, name, book, trips: own, inPeriod });
         if (member.entries.some(({ refusal }) => refusal?.number === 4)) {
-            return mistakes.error(files.books.name, 1, 'bookUnsound', { member: name });
+            return mistakes.error(books.file.name, 1, 'bookUnsound', { member: name });
         }
         warnOfRefused(desk, member, book);
         members.push(member);
@@ -140,14 +148,6 @@ function settleAll(desk, tariff, books, trips) {
     const wages = wagesOf(members);
     agreeWages(wages, members);
     return { members, wages, books: kept, refused: wages.reduce((sum, row) => sum + row.refused, 0) };
-}
-
-/** Those trips that are neither in the books already nor behind the period. */
-function dueTrips({ period, mistakes }, books, trips) {
-    const closed = books?.period ?? '';
-    const old = trips.filter(({ month }) => month <= closed);
-    if (old.length > 0) mistakes.warning(old[0].file, old[0].line, 'inBooks', { count: old.length, closed });
-    return trips.filter(({ month }) => month > closed && (period === null || month <= period));
 }
 
 /** Tells of each refused trip, and of one that begins too early what it runs into. */

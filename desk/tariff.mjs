@@ -31,8 +31,17 @@ export function readTariff(areasFile, stopsFile, mistakes) {
     const stopRows = readTable(stopsFile, STOP_COLUMNS, mistakes);
     const stops = stopRows && readStops(stopsFile.name, stopRows, areas ?? [], mistakes);
     if (!areas || !stops || mistakes.count('error') > before) return { areas, stops, bytes: null };
-    const { bytes, records } = tariffBytes(areasFile.name, areas, stopsFile.name, stops);
-    return { areas, stops, bytes, records, hash: sha256(bytes) };
+    const { bytes, records, stopsAt } = tariffBytes(areasFile.name, areas, stopsFile.name, stops);
+    return { areas, stops, bytes, records, hash: sha256(bytes), values: sha256(bytes.subarray(0, stopsAt)) };
+}
+
+/**
+ * The hash of what the numbers of areas mean, by which a book knows them: of each in order its id, level, parent and
+ * kind. Prices and names may change, and areas may come behind.
+ */
+export function structureOf(areas) {
+    const meaning = areas.map(({ id, level, parent, kind }) => [id, level, parent, kind]);
+    return sha256(new TextEncoder().encode(JSON.stringify(meaning)));
 }
 
 // ---- Names
@@ -217,7 +226,7 @@ function stopRecord(stop) {
     return recordBytes(2, [[1, stop.area], [4, stop.x], [4, stop.y]]);
 }
 
-/** All records in order, and for each its place, file and line. */
+/** All records in order, and for each its place, file and line; and where the stops begin. */
 function tariffBytes(areasName, areas, stopsName, stops) {
     const records = [];
     const bytes = [];
@@ -227,8 +236,9 @@ function tariffBytes(areasName, areas, stopsName, stops) {
     };
     for (const area of areas) put(areaRecord(area), areasName, area.line);
     for (const area of areas) if (area.level !== 'city') put(factorRecord(area), areasName, area.line);
+    const stopsAt = bytes.length;
     for (const stop of stops) put(stopRecord(stop), stopsName, stop.line);
-    return { bytes: Uint8Array.from(bytes), records };
+    return { bytes: Uint8Array.from(bytes), records, stopsAt };
 }
 
 /** The file and line of the record at a refusal's place; the last one's, where the tariff ends too early. */

@@ -120,6 +120,9 @@ export function momentIn(clock, minute) {
     return { minute, local: localOf(clock, minute), offset: offsetText(clock.offsetAt(minute)) };
 }
 
+/** Such a moment as one text: '2026-10-31T23:50+01:00'. */
+export const isoOf = ({ local, offset }) => local + offset;
+
 // ---- The rest of a row
 
 function classIn(row, note) {

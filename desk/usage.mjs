@@ -1,8 +1,9 @@
 // What the command says of itself and of a call, both languages beside each other.
 
-export const USAGE = `usage: ./milecopper check|settle|statement|wages|close [FOLDER] [--period 2026-10]
+export const USAGE = `usage: ./milecopper check|settle|statement|wages|close [FOLDER] [--period 2026-10|open]
                     [--format csv|json] [--out FOLDER] [--member NAME] [--language de|en]
-                    [--areas FILE] [--stops FILE] [--trips FILE]... [--books FILE]
+                    [--areas FILE] [--stops FILE] [--trips FILE]... [--books FILE]...
+                    [--new-tariff] [--force] [--today 2026-11-03]
 `;
 
 export const HELP = {
@@ -13,9 +14,12 @@ statement  eine Abrechnung je Mitglied, als Text; --member NAME: nur diese
 wages      für das Lohnbüro: eine Zeile je Mitglied und Monat
 close      schließt den Monat ab und schreibt die Bücher, books-2026-10.json; einmal je Monat
 
-Im Ordner (ohne Angabe: hier) liegen areas.csv, stops.csv und trips.csv, dazu gegebenenfalls die Bücher des letzten
-Abschlusses vor dem Monat; einzelne Dateien lassen sich stattdessen nennen. Die Fahrten können in mehreren Dateien
-stehen: genommen wird jede trips*.csv des Ordners, oder --trips mehrmals. --out schreibt Dateien, statt zu drucken.
+Im Ordner (ohne Angabe: hier) liegen areas.csv, stops.csv und trips.csv, dazu gegebenenfalls die Bücher; die des
+letzten Abschlusses vor dem Monat gelten. Einzelne Dateien lassen sich stattdessen nennen. Die Fahrten können in
+mehreren Dateien stehen: genommen wird jede trips*.csv des Ordners, oder --trips mehrmals. --period open ist der Monat,
+der offen ist: der erste mit Fahrten hinter den letzten Büchern. --out schreibt Dateien, statt zu drucken.
+--new-tariff: Gebiete haben seit dem Abschließen andere Preise oder Deckel, und das ist so gewollt. --force schließt
+auch einen Monat ab, der in der Zukunft liegt oder frühere offen lässt. --today: ein anderes Datum als das der Uhr.
 Der Rechenkern wird beim ersten Mal gebaut, was ihn beweist und einige Minuten dauert.
 
 Status 0: alle Fahrten sind berechnet. 1: eine Fahrt wurde abgelehnt. 2: Fehler in Dateien oder Aufruf; dann wird
@@ -28,14 +32,19 @@ statement  a statement for each member, as text; --member NAME: only this one
 wages      for the wage office: a row for each member and month
 close      closes the month and writes the books, books-2026-10.json; once a month
 
-The folder (none: the present one) holds areas.csv, stops.csv and trips.csv and, if there are, the books of the last
-closing before the month; single files can be named instead. The trips may stand in several files: every trips*.csv
-of the folder is taken, or --trips more than once. --out writes files instead of printing.
+The folder (none: the present one) holds areas.csv, stops.csv and trips.csv and, if there are, the books; those of the
+last closing before the month count. Single files can be named instead. The trips may stand in several files: every
+trips*.csv of the folder is taken, or --trips more than once. --period open is the month that is open: the first with
+trips behind the last books. --out writes files instead of printing. --new-tariff: areas have other prices or caps since
+the closing, and that is meant. --force closes a month, too, that lies in the future or leaves earlier ones open.
+--today: another date than the clock's.
 The engine is built the first time, which proves it and takes some minutes.
 
 Status 0: all trips are priced. 1: a trip is refused. 2: mistakes in files or call; nothing is written then.
 `,
 };
+
+const told = (doubts) => doubts.map(({ text }) => text).join('; ');
 
 export const WORDS = {
     de: {
@@ -44,10 +53,12 @@ export const WORDS = {
         many: 'nur ein Ordner kann genannt werden',
         allowed: (option, words) => `--${option}: erlaubt ist ${words.join(', ')}`,
         month: (word) => `--period '${word}': kein Monat wie 2026-10`,
+        date: (word) => `--today '${word}': kein Datum wie 2026-11-03`,
         due: 'zum Abschließen gehört --period',
         folder: (folder, why) => `der Ordner ${folder} ist nicht lesbar: ${why}`,
         unread: (files) => `nicht lesbar: ${files.map(({ place, why }) => `${place} (${why})`).join(', ')}`,
         there: (file) => `${file} ist schon da: ein Monat wird einmal abgeschlossen`,
+        doubts: (doubts) => `nicht abgeschlossen: ${told(doubts)}. Ist es so gemeint: --force`,
         member: (name) => `kein Mitglied '${name}' mit Fahrten in diesem Zeitraum`,
         building: 'der Rechenkern wird gebaut und dabei bewiesen; das dauert einige Minuten',
         proved: (crate, all, name) => `Teil ${crate} von ${all} ist bewiesen, ${name}`,
@@ -69,10 +80,12 @@ export const WORDS = {
         many: 'only one folder can be named',
         allowed: (option, words) => `--${option}: allowed is ${words.join(', ')}`,
         month: (word) => `--period '${word}': not a month like 2026-10`,
+        date: (word) => `--today '${word}': not a date like 2026-11-03`,
         due: 'closing needs --period',
         folder: (folder, why) => `the folder ${folder} cannot be read: ${why}`,
         unread: (files) => `cannot be read: ${files.map(({ place, why }) => `${place} (${why})`).join(', ')}`,
         there: (file) => `${file} is there already: a month is closed once`,
+        doubts: (doubts) => `not closed: ${told(doubts)}. If it is meant: --force`,
         member: (name) => `no member '${name}' with trips in this period`,
         building: 'the engine is being built, which proves it; that takes some minutes',
         proved: (crate, all, name) => `crate ${crate} of ${all} is proved, ${name}`,

@@ -2,6 +2,7 @@
 import { writtenCsv } from './csv.mjs';
 import { Disagreement, centsOf } from './account.mjs';
 import { euros } from './fields.mjs';
+import { isoOf } from './trips.mjs';
 
 /** Rows {member, period, trips, refused, cents} of the entries in the period: trips are those accepted. */
 export function wagesOf(members) {
@@ -42,8 +43,6 @@ function* chargeRows({ members, tariff, tripFiles }) {
         for (const entry of entries) if (entry.inPeriod) yield* entryRows(fileOf(entry), entry, openingLocal, tariff);
     }
 }
-
-const isoOf = ({ local, offset }) => local + offset;
 
 function* entryRows(file, entry, opening, { areas, stops }) {
     const via = entry.via.map((stop) => stops[stop].name).join('|');

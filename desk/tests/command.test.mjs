@@ -32,7 +32,7 @@ test('help, version, and words that are not known', () => {
     assert.match(called('--help', '--language', 'en').out, /wage office/);
     assert.match(called('--version').out, /^milecopper \d+\.\d+\.\d+\n$/);
     const wrong = ['', 'price', 'toString', '--frob', 'check a b', 'check --format xml', 'check --language fr'];
-    for (const words of [...wrong, 'wages --period 2026-13', 'close .']) {
+    for (const words of [...wrong, 'wages --period 2026-13', 'close .', 'check --today 2026-02-30']) {
         const { status, out, told } = called(...words.split(' ').filter(Boolean));
         assert.deepEqual([status, out], [2, ''], words);
         assert.match(told, /^\.\/milecopper: .*\nusage: /);
@@ -103,7 +103,7 @@ test('a month is closed once, and the next one goes on from its books', () => {
     const place = folder('months', NIGHT);
     const books = path.join(place, 'books-2026-10.json');
     assert.deepEqual(
-        called('close', place, '--period', '2026-10', '--language', 'en'),
+        called('close', place, '--period', '2026-10', '--language', 'en', '--today', '2026-11-03'),
         { status: 0, out: `written: ${books}\n`, told: '' },
     );
     assert.match(
@@ -117,7 +117,53 @@ test('a month is closed once, and the next one goes on from its books', () => {
     fs.writeFileSync(path.join(place, 'areas.csv'), sample('areas.csv').replace('25,00;3,00', '24,00;3,00'));
     const other = called('wages', place, '--period', '2026-11', '--language', 'en');
     assert.deepEqual([other.status, other.out], [2, '']);
-    assert.match(other.told, /^books-2026-10\.json:1: the books belong to another tariff/m);
+    assert.match(other.told, /^books-2026-10\.json:1: since the closing areas have other prices.*--new-tariff/m);
+    const meant = called('wages', place, '--period', '2026-11', '--language', 'en', '--new-tariff');
+    assert.deepEqual([meant.status, meant.out], [0, 'member,period,trips,refused,amount\nAnna,2026-11,1,0,5.59\n']);
+    assert.match(meant.told, /^books-2026-10\.json:1: warning: a new tariff: .* old tariff: Anna$/m);
+});
+
+test('closing a month of the future, or one that leaves an earlier month open, asks for --force and says why', () => {
+    const place = folder('force', NIGHT);
+    const close = (...words) => called('close', place, '--language', 'en', ...words);
+    const early = close('--period', '2026-11', '--today', '2026-10-15');
+    assert.deepEqual([early.status, early.out], [2, '']);
+    assert.equal(
+        early.told,
+        './milecopper: not closed: 2026-11 lies in the future (today is 2026-10-15); ' +
+            'before 2026-11 these are not closed yet: 2026-10 (trips: 1). If it is meant: --force\n',
+    );
+    assert.deepEqual(fs.readdirSync(place), ['areas.csv', 'stops.csv', 'trips.csv']);
+    const running = close('--period', '2026-10', '--today', '2026-10-31');
+    assert.equal(running.status, 0);
+    assert.match(running.told, /2026-10 is not over yet \(today is 2026-10-31\)/);
+    assert.equal(close('--period', '2026-12', '--today', '2027-01-02').status, 2);
+    assert.equal(close('--period', '2026-12', '--today', '2027-01-02', '--force').status, 0);
+    assert.equal(close('--period', '2026-11', '--today', '2027-01-02').status, 2); // a later month is closed
+});
+
+test('the open month can be asked for by that word: it is the one behind the books', () => {
+    const place = folder('open', NIGHT);
+    const wages = () => called('wages', place, '--period', 'open', '--language', 'en').out.split('\n')[1];
+    assert.equal(wages(), 'Anna,2026-10,1,0,18.41');
+    assert.equal(called('close', place, '--period', 'open', '--today', '2026-11-03').status, 0);
+    assert.equal(wages(), 'Anna,2026-11,1,0,6.59');
+    assert.equal(called('close', place, '--period', 'open', '--today', '2026-12-03').status, 0);
+    const { out, told } = called('check', place, '--period', 'open', '--language', 'en');
+    assert.deepEqual([out.split('\n')[0], told.split('/').at(-1)], ['errors: 0, warnings: 0', 'books-2026-11.json\n']);
+});
+
+test('two books of one month in a folder are an error that names both, and one that is named alone is taken', () => {
+    const place = folder('twice', NIGHT);
+    assert.equal(called('close', place, '--period', '2026-10', '--today', '2026-11-03').status, 0);
+    fs.copyFileSync(path.join(place, 'books-2026-10.json'), path.join(place, 'books-2026-10 (1).json'));
+    const both = called('wages', place, '--period', '2026-11', '--language', 'en');
+    assert.deepEqual([both.status, both.out], [2, '']);
+    assert.match(both.told, /books of 2026-10 twice: books-2026-10 \(1\)\.json and books-2026-10\.json/);
+    const books = path.join(place, 'books-2026-10.json');
+    const one = called('wages', place, '--period', '2026-11', '--language', 'en', '--books', books);
+    assert.deepEqual([one.status, one.out.split('\n')[1]], [0, 'Anna,2026-11,1,0,6.59']);
+    assert.equal(called('wages', place, '--period', '2026-11', '--books', books, '--books', books).status, 2);
 });
 
 test("README's commands run as they stand, and print the table that it shows", () => {

@@ -64,7 +64,7 @@ test('a folder where a file is due, and a file that is not there', () => {
     const { status, stderr } = called(good, ['check', place]);
     assert.equal(status, 2);
     const all = `${stops} (not there), ${trips} (not a file but a folder), ${books} (not a file but a folder)`;
-    assert.equal(stderr, `./milecopper: books: ${books}\n./milecopper: cannot be read: ${all}\n`);
+    assert.equal(stderr, `./milecopper: cannot be read: ${all}\n`);
     const under = path.join(SAMPLE, 'trips.csv/trips.csv');
     fails(['check', SAMPLE, '--trips', under], `cannot be read: ${under} (not a folder but a file)`);
 });

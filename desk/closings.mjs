@@ -1,0 +1,134 @@
+// Closed months: which books there are, from which of them the trips go on, whether those fit the tariff, which trips
+// of a closed month the books lack, and what speaks against closing a month now.
+import { openUntil } from './account.mjs';
+import { closedIn, parsedBooks, readBooks } from './books.mjs';
+import { decoded } from './csv.mjs';
+import { notKept } from './kept.mjs';
+import { mistakeText } from './mistakes.mjs';
+import { lastOf, monthBehind, startOf } from './months.mjs';
+import { structureOf } from './tariff.mjs';
+
+/** The books that are given, month → file. A file that closes none, and two that close one, are mistakes. */
+export function closingsIn({ files, mistakes }) {
+    const closings = new Map();
+    for (const file of files.books) {
+        const period = closedIn(file) ?? readBooks(file, mistakes)?.period;
+        const other = closings.get(period);
+        if (other) mistakes.error(file.name, 1, 'booksTwice', { period, name: file.name, other: other.name });
+        else if (period) closings.set(period, file);
+    }
+    return closings;
+}
+
+/**
+ * The books that the trips go on from, with their file: of several those of the last closing before the period; one
+ * that was named by itself is meant, whatever it says. Null where there are none, or a mistake in them.
+ */
+export function booksIn(desk, tariff, closings) {
+    const { period, named, mistakes } = desk;
+    const due = [...closings.keys()].filter((month) => named || period === null || month < period);
+    const file = closings.get(lastOf(due));
+    const books = file ? readBooks(file, mistakes) : null;
+    if (books === null) return null;
+    if (period !== null && books.period >= period) {
+        mistakes.error(file.name, 1, 'booksClosed', { closed: books.period, period });
+    }
+    if (tariff.hash) fitTariff(desk, tariff, books, file);
+    return { ...books, file };
+}
+
+// ---- Books and tariff
+
+/**
+ * A book knows areas by their numbers: under areas that mean something else it is useless. Under other prices and caps
+ * it goes on where that is meant. Of the older form only the hash of the whole tariff is known.
+ */
+function fitTariff({ newTariff, zone, mistakes }, tariff, books, { name }) {
+    const { structure, values, areas, period } = books;
+    if (structure === undefined) {
+        if (books.tariff === tariff.hash) return null;
+        return mistakes.error(name, 1, 'booksOldTariff', { found: books.tariff, due: tariff.hash });
+    }
+    if (structureOf(tariff.areas.slice(0, areas)) !== structure) return mistakes.error(name, 1, 'booksTariff');
+    if (values === tariff.values) return null;
+    const end = startOf(zone, monthBehind(period));
+    const open = [...books.books].filter(([, book]) => openUntil(book) > end).map(([member]) => member);
+    if (newTariff) return mistakes.warning(name, 1, 'newTariff', { open });
+    return mistakes.error(name, 1, 'booksPrices', { open });
+}
+
+// ---- Trips of closed months
+
+/** Those trips that are neither in the books already nor behind the period. */
+export function dueTrips(desk, books, closings, trips, { stops }) {
+    const { period } = desk;
+    const closed = books?.period ?? '';
+    tellOld(desk, books, closings, trips.filter(({ month }) => month <= closed), stops);
+    return trips.filter(({ month }) => month > closed && (period === null || month <= period));
+}
+
+/** Names each trip of a closed month that its books lack; of books that keep no trips it tells how many there are. */
+function tellOld({ mistakes }, books, closings, old, stops) {
+    const unknown = [];
+    for (const [month, own] of byMonth(old)) {
+        const kept = keepersOf(month, books, closings);
+        if (kept === null) unknown.push(...own);
+        else for (const trip of notKept(own, kept.trips, stops)) tellLate(mistakes, trip, kept.file.name);
+    }
+    if (unknown.length === 0) return;
+    const { file, line } = unknown[0];
+    mistakes.warning(file, line, 'inBooks', { count: unknown.length, closed: books.period });
+}
+
+function tellLate(mistakes, { file, line, member, month }, books) {
+    mistakes.warning(file, line, 'lateTrip', { member, month, books });
+}
+
+function byMonth(trips) {
+    const months = new Map();
+    for (const trip of trips) {
+        if (!months.has(trip.month)) months.set(trip.month, []);
+        months.get(trip.month).push(trip);
+    }
+    return months;
+}
+
+/** The books that keep a closed month's trips: those of the first closing from it on. Null where they keep none. */
+function keepersOf(month, books, closings) {
+    const [closed] = [...closings.keys()].filter((closing) => closing >= month).sort();
+    const file = closings.get(closed);
+    const kept = file === books.file ? books : parsedBooks(decoded(file.bytes).text ?? '');
+    const there = kept?.trips && (kept.before === null || kept.before < month);
+    return there ? { ...kept, file } : null;
+}
+
+// ---- Whether to close
+
+/**
+ * What is to be said before a month is closed, as {kind, key, values, text}: an 'error' where it is likely not meant,
+ * so that it is done only if asked for once more (--force), or never where it is closed already ('closeTwice'); and a
+ * 'warning'. `today` is a date, or null: not known.
+ */
+export function closingDoubts({ period, today, months, closings, language }) {
+    if (period === null) return [];
+    const present = today?.slice(0, 7) ?? null;
+    const later = [...closings.keys()].filter((month) => month > period);
+    const open = openBefore(period, months, [...closings.keys()]);
+    const doubts = [
+        ...(closings.has(period) ? [['error', 'closeTwice', { period, file: closings.get(period).name }]] : []),
+        ...(present !== null && period > present ? [['error', 'closeFuture', { period, today }]] : []),
+        ...(open.length > 0 ? [['error', 'closeGap', { period, months: open }]] : []),
+        ...(later.length > 0 ? [['error', 'closeEarlier', { period, later: lastOf(later) }]] : []),
+        ...(period === present ? [['warning', 'closeRunning', { period, today }]] : []),
+    ];
+    return doubts.map(([kind, key, values]) => ({ kind, key, values, text: mistakeText({ key, values }, language) }));
+}
+
+/** The months that closing a period would leave unclosed: behind the last books every one, else those with trips. */
+function openBefore(period, months, closings) {
+    const last = lastOf(closings.filter((month) => month <= period));
+    if (last === null) return months.filter(({ month }) => month < period);
+    const open = [];
+    for (let month = monthBehind(last); month < period; month = monthBehind(month)) open.push(month);
+    return open.map((month) => months.find((known) => known.month === month) ?? { month, trips: 0 });
+}
