@@ -5,7 +5,7 @@ import { closedIn, parsedBooks, readBooks } from './books.mjs';
 import { decoded } from './csv.mjs';
 import { notKept } from './kept.mjs';
 import { mistakeText } from './mistakes.mjs';
-import { lastOf, monthBehind, startOf } from './months.mjs';
+import { firstOf, lastOf, monthBefore, monthBehind, startOf } from './months.mjs';
 import { structureOf } from './tariff.mjs';
 
 /** The books that are given, month → file. A file that closes none, and two that close one, are mistakes. */
@@ -101,6 +101,30 @@ function keepersOf(month, books, closings) {
     const there = kept?.trips && (kept.before === null || kept.before < month);
     return there ? { ...kept, file } : null;
 }
+
+// ---- What came before
+
+const WINDOW = 1440;
+
+/**
+ * Where nothing is known of the month before, neither trips nor books, a window that was opened there is begun anew by
+ * the first trips of the month. Told once, with those whom it may concern and what these trips cost.
+ */
+export function warnOfLostWindows({ period, months, zone, mistakes }, books, members) {
+    const entries = members.flatMap((member) => member.entries);
+    const first = period ?? firstOf(entries.map(({ month }) => month));
+    if (first === null || isKnown(monthBefore(first), books, months)) return;
+    const end = startOf(zone, first) + WINDOW; // no window from before is open then
+    const early = entries.filter((entry) => entry.accepted && entry.month === first && entry.checkOut.minute < end);
+    if (early.length === 0) return;
+    const names = [...new Set(early.map(({ member }) => member))];
+    const cents = early.reduce((sum, entry) => sum + entry.cents, 0);
+    const { file, line } = early[0];
+    mistakes.warning(file, line, 'lostWindows', { names, month: first, before: monthBefore(first), cents });
+}
+
+const isKnown = (month, books, months) =>
+    books?.period === month || months.some((own) => own.month === month && own.trips > 0);
 
 // ---- Whether to close
 

@@ -1,5 +1,6 @@
 // What is amiss in the files, by file and line, in words: both languages beside each other. Errors are what has to be
 // mended before anything is priced; warnings are what is priced as it stands and should be looked at.
+import { moneyText } from './words.mjs';
 
 const meant = {
     de: (near) => (near ? `; war '${near}' gemeint?` : ''),
@@ -263,6 +264,18 @@ const TEXTS = {
             `'${member}', late or changed: the trip lies in the closed month ${month}, whose books (${books}) do not ` +
             `have it, and is not priced. If ${month} is not paid yet, delete these and later books and close again; ` +
             `else --period ${month} shows what the month costs with it, and the difference has to be settled by itself`,
+    },
+    lostWindows: {
+        de: ({ names, month, before, cents }) =>
+            `vom ${before} sind weder Fahrten noch Bücher da, und in den ersten 24 Stunden des ${month} fahren schon ` +
+            `${names.join(', ')}. War ein Fenster vom Vormonat noch offen, so beginnt es hier neu, und seine Deckel ` +
+            `werden zweimal bezahlt: von diesen Fahrten für ${moneyText(cents, 'de')} kann manches zu viel sein. ` +
+            `Zu vermeiden mit books-${before}.json oder den Fahrten vom ${before}`,
+        en: ({ names, month, before, cents }) =>
+            `of ${before} there are neither trips nor books, and in the first 24 hours of ${month} these ride ` +
+            `already: ${names.join(', ')}. Where a window of the month before was still open, it begins anew here, ` +
+            `and its caps are paid twice: of these trips, ${moneyText(cents, 'en')} in all, some may be too much. ` +
+            `To avoid it, add books-${before}.json or the trips of ${before}`,
     },
     beforeBooks: {
         de: ({ until }) => `beginnt vor dem letzten Check-out in den Büchern (${until}); wird abgelehnt (10)`,

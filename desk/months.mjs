@@ -29,7 +29,12 @@ export function monthsOf(trips, closings) {
     return months.map(([month, count]) => ({ month, trips: count, closed: month <= last }));
 }
 
-/** The last of some months; null of none. */
+/** The first of some months; null of none. */
+export function firstOf(months) {
+    return months.reduce((first, month) => (first === null || month < first ? month : first), null);
+}
+
+/** The last of them. */
 export function lastOf(months) {
     return months.reduce((last, month) => (last === null || month > last ? month : last), null);
 }

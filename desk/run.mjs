@@ -2,7 +2,7 @@
 import { Disagreement, lastCheckOut, settleMember } from './account.mjs';
 import { capsOf } from './caps.mjs';
 import { clockOf } from './clock.mjs';
-import { booksIn, closingDoubts, closingsIn, dueTrips } from './closings.mjs';
+import { booksIn, closingDoubts, closingsIn, dueTrips, warnOfLostWindows } from './closings.mjs';
 import { placeOf } from './doubts.mjs';
 import { BOOK_BYTES } from './engine.mjs';
 import { Mistakes } from './mistakes.mjs';
@@ -39,7 +39,7 @@ export function runDesk({ files, period: asked = null, zone = 'Europe/Berlin', l
     const months = monthsOf(trips, [...closings.keys()]);
     const open = openMonth(months);
     const period = asked === OPEN ? open : asked;
-    desk.period = period;
+    Object.assign(desk, { period, months });
     const books = booksIn(desk, tariff, closings);
     const settled = desk.mistakes.count('error') === 0 ? settledOrNot(desk, tariff, books, closings, trips) : null;
     const { members, wages, refused, books: kept } = settled ?? NOTHING;
@@ -118,7 +118,9 @@ function tariffIn({ engine, files, mistakes }) {
 /** Nothing is put out where sums disagree: that is an error like any other. */
 function settledOrNot(desk, tariff, books, closings, trips) {
     try {
-        return settleAll(desk, tariff, books, dueTrips(desk, books, closings, trips, tariff));
+        const settled = settleAll(desk, tariff, books, dueTrips(desk, books, closings, trips, tariff));
+        warnOfLostWindows(desk, books, settled?.members ?? []);
+        return settled;
     } catch (error) {
         if (!(error instanceof Disagreement)) throw error;
         const { member, what } = error;

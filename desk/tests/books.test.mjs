@@ -195,6 +195,33 @@ test('after closing, the open month is the one that is priced when it is asked f
     assert.deepEqual([behind.errors, behind.wages.map(({ period }) => period)], [0, ['2026-11']]);
 });
 
+// ---- What came before
+
+test('November alone is told, once and with names: what it may cost, and what avoids it', () => {
+    const [november, cem] = [MORNING, MORNING.replace('Anna Berg', 'Cem')];
+    const late = MORNING.replace('Anna Berg', 'Dora').replace('11-01', '11-02');
+    const told =
+        'trips.csv:2: warning: of 2026-10 there are neither trips nor books, and in the first 24 hours of 2026-11 ' +
+        'these ride already: Anna Berg, Cem. Where a window of the month before was still open, it begins anew here, ' +
+        'and its caps are paid twice: of these trips, €36.82 in all, some may be too much. To avoid it, add ' +
+        'books-2026-10.json or the trips of 2026-10';
+    const alone = TRIPS + november + cem + late;
+    for (const period of [null, '2026-11', 'open']) assert.deepEqual(said(run(alone, { period })), [told]);
+    assert.deepEqual(said(run(alone, { books: closedOf(EVENING, '2026-10') })), []);
+    assert.deepEqual(said(run(alone + EVENING, { period: '2026-11' })), []);
+    assert.deepEqual(said(run(alone, { books: closedOf(EVENING.replace('10-31', '09-30'), '2026-09') })), [told]);
+    assert.deepEqual(said(run(TRIPS + late)), []);
+});
+
+test("November alone: within 24 hours of the month's start, by the minute", () => {
+    const at = (day, from, to) => `Anna Berg,2026-11-${day},${from},${to},Hamm Hbf,Hamm Betriebshof,,,,,,\n`;
+    const keys = (trip) => run(TRIPS + trip).mistakes.map(({ key, values }) => [key, values.cents]);
+    assert.deepEqual(keys(at('01', '00:00', '00:20')), [['lostWindows', 200]]);
+    assert.deepEqual(keys(at('01', '23:30', '23:59')), [['lostWindows', 200]]);
+    assert.deepEqual(keys(at('01', '23:30', '24:00')), []); // ends when no window of October can be open
+    assert.deepEqual(keys(at('02', '00:00', '00:20')), []);
+});
+
 // ---- Books and tariff
 
 test('a new stop, and a name that is mended, leave the books as good as they were', () => {
