@@ -1,6 +1,6 @@
 // The books file: the members' books at the end of a period, what in the tariff they depend on, and the trips that they
 // are of. Closing writes it, once a period; everything else reads it. A book's words that are 0 are left out.
-import { decoded } from './csv.mjs';
+import { textIn } from './encoding.mjs';
 import { BOOK_BYTES } from './engine.mjs';
 import { keptIn, keptLines, stopWords } from './kept.mjs';
 import { isPeriod } from './months.mjs';
@@ -19,9 +19,8 @@ const WORDS = BOOK_BYTES / 4;
  * that were settled from there on. Of the older form these are undefined. Null, and a mistake, for any other file.
  */
 export function readBooks(file, mistakes) {
-    const { text, line } = decoded(file.bytes);
-    if (text === undefined) return mistakes.error(file.name, line, 'encoding');
-    return parsedBooks(text) ?? mistakes.error(file.name, 1, 'booksBroken');
+    const text = textIn(file, mistakes);
+    return text === null ? null : (parsedBooks(text) ?? mistakes.error(file.name, 1, 'booksBroken'));
 }
 
 /** What the text says; null where it is not of books. */

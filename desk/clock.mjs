@@ -4,20 +4,27 @@
 const DAY = 1440;
 const EPOCH = Date.UTC(2000, 0, 1);
 
-/** The days from 2000-01-01 to a date of 2000 to 2099, written 2026-10-31 or 31.10.2026; null for any other text. */
+/**
+ * The days from 2000-01-01 to a date of 2000 to 2099, written 2026-10-31, 31.10.2026 or 31.10.26; null for any other
+ * text.
+ */
 export function dayOf(text) {
     const iso = /^(\d{4})-(\d{2})-(\d{2})$/.exec(text);
-    const german = /^(\d{1,2})\.(\d{1,2})\.(\d{4})$/.exec(text);
+    const german = /^(\d{1,2})\.(\d{1,2})\.((?:20)?\d{2})$/.exec(text);
     if (!iso && !german) return null;
-    const [year, month, day] = (iso ? [iso[1], iso[2], iso[3]] : [german[3], german[2], german[1]]).map(Number);
+    const written = iso ? [iso[1], iso[2], iso[3]] : [german[3].padStart(4, '20'), german[2], german[1]];
+    const [year, month, day] = written.map(Number);
     const date = new Date(Date.UTC(year, month - 1, day));
     const same = date.getUTCFullYear() === year && date.getUTCMonth() === month - 1 && date.getUTCDate() === day;
     return same && year >= 2000 && year <= 2099 ? (date.getTime() - EPOCH) / (DAY * 60000) : null;
 }
 
-/** A clock time to 47:59: minutes since its day began, and the offset in minutes if one is written; or null. */
+/**
+ * A clock time to 47:59, written 5:08, 05:08:00, 5.08 or 0508: minutes since its day began, and the offset in minutes
+ * if one is written; or null.
+ */
 export function timeOf(text) {
-    const found = /^(\d{1,2}):([0-5]\d)(?::00)?(?:([+-])(\d{2}):([0-5]\d))?$/.exec(text);
+    const found = /^(\d{1,2})(?::|\.|(?=\d\d(?:\D|$)))([0-5]\d)(?::00)?(?:([+-])(\d{2}):([0-5]\d))?$/.exec(text);
     if (!found || Number(found[1]) > 47) return null;
     const ahead = found[3] ? (Number(found[4]) * 60 + Number(found[5])) * (found[3] === '-' ? -1 : 1) : null;
     return { minutes: Number(found[1]) * 60 + Number(found[2]), offset: ahead };

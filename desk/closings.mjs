@@ -2,7 +2,7 @@
 // of a closed month the books lack, and what speaks against closing a month now.
 import { openUntil } from './account.mjs';
 import { closedIn, parsedBooks, readBooks } from './books.mjs';
-import { decoded } from './csv.mjs';
+import { decoded } from './encoding.mjs';
 import { notKept } from './kept.mjs';
 import { mistakeText } from './mistakes.mjs';
 import { firstOf, lastOf, monthBefore, monthBehind, startOf } from './months.mjs';

@@ -1,135 +1,179 @@
-// CSV as spreadsheets write it: a header, columns by name in any order, `,` or `;`, quoted fields, BOM and CRLF.
-import { nearest, tidy } from './names.mjs';
+// CSV as spreadsheets write it: a header, columns by name in any order, `;`, `,` or tabs, quoted fields, any line end.
+import { columnsBy, namesOf } from './columns.mjs';
+import { textIn } from './encoding.mjs';
+import { closest, folded } from './names.mjs';
 
-/** The text of UTF-8 bytes, without a byte order mark; or the line of the first bytes that are none. */
-export function decoded(bytes) {
-    try {
-        const text = new TextDecoder('utf-8', { fatal: true }).decode(bytes);
-        const nul = text.indexOf('\0'); // a spreadsheet's "Unicode text" has one in every other place
-        return nul < 0 ? { text } : { line: text.slice(0, nul).split('\n').length };
-    } catch {
-        return { line: firstForeignLine(bytes) };
+// ---- Rows
+
+/** The next place of a sign from a place on, or the text's end. Places are asked for in order, each sign found once. */
+function finder(text, sign) {
+    let place = -1;
+    return (at) => {
+        if (place < at) place = text.indexOf(sign, at);
+        return place < 0 ? (place = text.length) : place;
+    };
+}
+
+/**
+ * Gives the cells of each row that is not blank to `take(cells, line, separator)`, with the line that it begins in.
+ * Answers the line in which a quote begins that is not closed, or that text follows: there it ends; null where all
+ * are closed.
+ */
+export function eachRow(text, take) {
+    const { separator, start } = formOf(text);
+    const [feed, back, quote] = ['\n', '\r', '"'].map((sign) => finder(text, sign));
+    let line = 1 + linesIn(text, 0, start);
+    for (let at = start; at < text.length; ) {
+        const end = Math.min(feed(at), back(at));
+        const plain = quote(at) >= end;
+        const row = plain ? plainRow(text, at, end, separator) : quotedRow(text, at, separator);
+        if (row.broken !== undefined) return line + linesIn(text, at, row.broken);
+        if (row.cells.some((cell) => cell !== '')) take(row.cells, line, separator);
+        line += plain ? 1 : 1 + linesIn(text, at, row.end);
+        at = row.end + (text.startsWith('\r\n', row.end) ? 2 : 1);
     }
+    return null;
 }
 
-// No character of UTF-8 has a line's end within it, so each line can be tried alone.
-function firstForeignLine(bytes) {
-    const decoder = new TextDecoder('utf-8', { fatal: true });
-    let line = 1;
-    for (let from = 0; from <= bytes.length; line += 1) {
-        const end = bytes.indexOf(10, from);
-        const to = end < 0 ? bytes.length : end;
-        try {
-            decoder.decode(bytes.subarray(from, to));
-        } catch {
-            return line;
-        }
-        from = to + 1;
-    }
-    return 1;
+/** The cells of a text's first row. */
+export function headerOf(text) {
+    let header = null;
+    eachRow(text, (cells) => {
+        header ??= cells;
+    });
+    return header ?? [];
 }
 
-/** The rows of a text, each with the line that it begins in, without blank ones. `broken`: where a quote is amiss. */
-export function rowsOf(text) {
-    const lines = text.split(/\r\n|\n|\r/);
-    const separator = lines[0].includes(';') ? ';' : ',';
-    const rows = [];
-    for (let at = 0; at < lines.length; ) {
-        const line = at + 1;
-        const row = lines[at].includes('"') ? quotedRow(lines, at, separator) : plainRow(lines, at, separator);
-        if (row.broken) return { separator, rows, broken: line };
-        if (row.cells.some((cell) => cell !== '')) rows.push({ line, cells: row.cells });
-        at = row.next;
-    }
-    return { separator, rows, broken: null };
+function plainRow(text, start, end, separator) {
+    const cells = text.slice(start, end).split(separator);
+    for (let i = 0; i < cells.length; i += 1) cells[i] = cells[i].trim();
+    return { cells, end };
 }
 
-function plainRow(lines, at, separator) {
-    return { cells: lines[at].split(separator).map((cell) => cell.trim()), next: at + 1 };
+const linesIn = (text, from, to) => (text.slice(from, to).match(/\r\n|\n|\r/g) ?? []).length;
+
+/** The separator, and where the rows begin: behind a line `sep=;`, by which a spreadsheet is told, if there is one. */
+function formOf(text) {
+    const told = /^"?sep=([;,\t])"?[^\S\r\n]*(?:\r\n|\n|\r|$)/i.exec(text);
+    if (told) return { separator: told[1], start: told[0].length };
+    const header = /\S.*/.exec(text)?.[0] ?? '';
+    const parts = (sign) => header.split(sign).length;
+    const separator = [';', '\t', ','].reduce((best, sign) => (parts(sign) > parts(best) ? sign : best));
+    return { separator, start: 0 };
 }
 
-// A quoted field may hold separators, doubled quotes and line ends, so it may go on in the lines behind.
-function quotedRow(lines, at, separator) {
+// Blanks in front of a field and behind its quotes, and the end of a field without quotes.
+const BLANKS = { ';': /[^\S\r\n]*/y, ',': /[^\S\r\n]*/y, '\t': /[^\S\r\n\t]*/y };
+const ENDS = { ';': /[;\r\n]|$/g, ',': /[,\r\n]|$/g, '\t': /[\t\r\n]|$/g };
+
+/** Where a pattern ends that is looked for from a place on, and where it begins. */
+function found(pattern, text, at) {
+    pattern.lastIndex = at;
+    const { index, 0: match } = pattern.exec(text);
+    return { from: index, to: index + match.length };
+}
+
+/** A row with quoted fields, which may hold separators, doubled quotes and line ends; or where a quote is broken. */
+function quotedRow(text, start, separator) {
     const cells = [];
-    let text = lines[at];
-    let next = at + 1;
-    let place = 0;
-    for (;;) {
-        const start = place + text.slice(place).search(/\S|$/);
-        if (text[start] !== '"') {
-            const end = text.indexOf(separator, place);
-            cells.push(text.slice(place, end < 0 ? text.length : end).trim());
-            if (end < 0) return { cells, next };
-            place = end + 1;
-            continue;
-        }
-        let end = closingQuote(text, start + 1);
-        while (end < 0) {
-            if (next >= lines.length) return { broken: true };
-            text += `\n${lines[next]}`;
-            next += 1;
-            end = closingQuote(text, start + 1);
-        }
-        cells.push(text.slice(start + 1, end).replaceAll('""', '"').trim());
-        place = end + 1 + text.slice(end + 1).search(/\S|$/);
-        if (place >= text.length) return { cells, next };
-        if (text[place] !== separator) return { broken: true };
-        place += 1;
+    for (let at = start; ; at += 1) {
+        const field = fieldAt(text, at, separator);
+        if (field.broken !== undefined) return field;
+        cells.push(field.cell);
+        at = field.end;
+        if (text[at] !== separator) return { cells, end: at };
     }
+}
+
+/** The field at a place: what it says, and the place of the separator or line end behind it. */
+function fieldAt(text, at, separator) {
+    const start = found(BLANKS[separator], text, at).to;
+    if (text[start] !== '"') {
+        const end = found(ENDS[separator], text, at).from;
+        return { cell: text.slice(at, end).trim(), end };
+    }
+    const close = closingQuote(text, start + 1);
+    const end = close < 0 ? -1 : found(BLANKS[separator], text, close + 1).to;
+    if (end < 0 || (end < text.length && ![separator, '\r', '\n'].includes(text[end]))) return { broken: start };
+    return { cell: text.slice(start + 1, close).replaceAll('""', '"').replace(/\r\n?/g, '\n').trim(), end };
 }
 
 /** The place of the quote that ends a field, behind doubled ones; -1 where there is none. */
 function closingQuote(text, from) {
-    for (let at = text.indexOf('"', from); at >= 0; at = text.indexOf('"', at + 2)) if (text[at + 1] !== '"') return at;
-    return -1;
+    let at = text.indexOf('"', from);
+    while (at >= 0 && text[at + 1] === '"') at = text.indexOf('"', at + 2);
+    return at;
+}
+
+// ---- Tables
+
+/**
+ * What `take` makes of a file's rows, objects by column with their line; a row that it makes null of is left out. What
+ * is amiss goes to the mistakes. `columns` has for each name whether it is due; one that is not, and not there, is
+ * empty in every row. Null where no row can be read.
+ */
+export function readTable(file, columns, mistakes, take = (row) => row) {
+    if (file.bytes === null) return mistakes.error(file.name, 1, 'missing');
+    const text = textIn(file, mistakes);
+    if (text === null) return null;
+    const rows = [];
+    let table;
+    const broken = eachRow(text, (cells, line, separator) => {
+        if (table === undefined) return (table = tableOf(file.name, cells, line, columns, mistakes));
+        const row = table && filledRow(table, cells, line, separator, mistakes);
+        const taken = row && take(row);
+        if (taken) rows.push(taken);
+    });
+    if (broken !== null) mistakes.error(file.name, broken, 'quote');
+    if (table === undefined && broken === null) mistakes.error(file.name, 1, 'empty');
+    return table ? rows : null;
 }
 
 /**
- * A file's rows as objects by column, each with its line; what is amiss goes to the mistakes. `columns` has for each
- * name whether it is due; one that is not, and not there, is empty in every row. Null where no row can be read.
+ * What a header says: `places`, where each column stands, -1 where it does not; how many cells it has; and how many a
+ * row needs so that those columns that are due are in it. Null where one that is due is missing.
  */
-export function readTable(file, columns, mistakes) {
-    if (file.bytes === null) return mistakes.error(file.name, 1, 'missing');
-    const { text, line } = decoded(file.bytes);
-    if (text === undefined) return mistakes.error(file.name, line, 'encoding');
-    const { rows, broken } = rowsOf(text);
-    if (broken !== null) mistakes.error(file.name, broken, 'quote');
-    if (rows.length === 0) return broken === null ? mistakes.error(file.name, 1, 'empty') : null;
-    const places = placesOf(file.name, rows[0], columns, mistakes);
-    if (places === null) return null;
-    return rows.slice(1).flatMap((row) => filledRow(file.name, row, rows[0].cells.length, places, mistakes));
-}
-
-/** Where each column stands; null where one that is due does not. */
-function placesOf(name, header, columns, mistakes) {
+function tableOf(name, cells, line, columns, mistakes) {
     const places = new Map(Object.keys(columns).map((column) => [column, -1]));
+    const known = columnsBy(columns);
     const unknown = [];
-    header.cells.forEach((cell, at) => {
-        const column = tidy(cell).toLowerCase();
-        if (!places.has(column)) unknown.push(cell);
-        else if (places.get(column) >= 0) mistakes.error(name, header.line, 'columnTwice', { column });
+    cells.forEach((cell, at) => {
+        const column = known.get(folded(cell));
+        if (column === undefined) unknown.push(cell);
+        else if (places.get(column) >= 0) mistakes.error(name, line, 'columnTwice', { column });
         else places.set(column, at);
     });
     const absent = [...places.keys()].filter((column) => places.get(column) < 0);
-    const meant = unknown.map((column) => nearest(column, absent));
-    unknown.forEach((column, i) => {
-        if (meant[i] !== null) mistakes.error(name, header.line, 'columnNear', { column, near: meant[i] });
-        else if (column !== '') mistakes.warning(name, header.line, 'columnUnknown', { column });
-    });
-    const due = absent.filter((column) => columns[column]);
-    for (const column of due)
-        if (!meant.includes(column)) mistakes.error(name, header.line, 'columnMissing', { column });
-    return due.length === 0 ? places : null;
+    const meant = unknown.map((cell) => noteUnknown(name, line, cell, absent, mistakes));
+    const due = Object.keys(columns).filter((column) => columns[column]);
+    const missing = due.filter((column) => places.get(column) < 0);
+    for (const column of missing) {
+        if (!meant.includes(column)) mistakes.error(name, line, 'columnMissing', { column });
+    }
+    const least = 1 + Math.max(...due.map((column) => places.get(column)));
+    return missing.length === 0 ? { name, places: [...places], width: cells.length, least } : null;
 }
 
-function filledRow(name, row, due, places, mistakes) {
-    if (row.cells.length !== due) {
-        mistakes.error(name, row.line, 'fieldCount', { found: row.cells.length, due });
-        return [];
+/** Tells of a header's cell that names no column; answers the absent one that it likely means, or null. */
+function noteUnknown(name, line, cell, absent, mistakes) {
+    const near = closest(cell, absent.flatMap(namesOf));
+    if (near !== null) mistakes.error(name, line, 'columnNear', { column: cell, near });
+    else if (cell !== '') mistakes.warning(name, line, 'columnUnknown', { column: cell });
+    return near && absent.find((column) => namesOf(column).includes(near));
+}
+
+/**
+ * A row by column. Spreadsheets leave empty cells out at a row's end, or put more there; but one comma more is likely
+ * within a name.
+ */
+function filledRow({ name, places, width, least }, cells, line, separator, mistakes) {
+    const further = cells.length > width && (separator === ',' || cells.slice(width).some((cell) => cell !== ''));
+    if (further || cells.length < least) {
+        return mistakes.error(name, line, 'fieldCount', { found: cells.length, due: width });
     }
-    const filled = { line: row.line };
-    for (const [column, at] of places) filled[column] = at < 0 ? '' : row.cells[at];
-    return [filled];
+    const filled = { line };
+    for (const [column, at] of places) filled[column] = cells[at] ?? '';
+    return filled;
 }
 
 /** Rows of texts as CSV, the way the language's spreadsheets read it. */

@@ -39,16 +39,24 @@ const TEXTS = {
         en: () => 'the file is missing',
     },
     encoding: {
-        de: () => "kein UTF-8; die Datei bitte als 'CSV UTF-8' speichern",
-        en: () => "not UTF-8; please save the file as 'CSV UTF-8'",
+        de: () => "teils UTF-8, teils nicht; die Datei bitte als 'CSV UTF-8' speichern",
+        en: () => "UTF-8 in parts only; please save the file as 'CSV UTF-8'",
+    },
+    ansi: {
+        de: () => 'kein UTF-8; als Windows-1252 gelesen: stimmen die Umlaute?',
+        en: () => 'not UTF-8; read as Windows-1252: are the umlauts right?',
+    },
+    nul: {
+        de: () => "enthält Nullbytes, die in keinem Text vorkommen; die Datei bitte als 'CSV UTF-8' speichern",
+        en: () => "has zero bytes, which no text has; please save the file as 'CSV UTF-8'",
     },
     empty: {
         de: () => 'die Datei ist leer; ihre erste Zeile muss die Spalten nennen',
         en: () => 'the file is empty; its first line has to name the columns',
     },
     quote: {
-        de: () => 'ein Anführungszeichen ist nicht geschlossen, oder dahinter steht noch Text',
-        en: () => 'a quotation mark is not closed, or text stands behind it',
+        de: () => 'ein Anführungszeichen beginnt hier und ist nicht geschlossen, oder dahinter steht noch Text',
+        en: () => 'a quotation mark begins here and is not closed, or text stands behind it',
     },
     columnMissing: {
         de: ({ column }) => `die Spalte '${column}' fehlt`,
@@ -305,6 +313,11 @@ const TEXTS = {
         en: ({ period, today }) =>
             `${period} is not over yet (today is ${today}); what is still to come will not be priced`,
     },
+    // what is no longer told one by one
+    further: {
+        de: ({ kind, count }) => `und ${count} weitere ${KINDS.de[kind]} in dieser Datei, nicht einzeln genannt`,
+        en: ({ kind, count }) => `and ${count} more ${KINDS.en[kind]} in this file, not told one by one`,
+    },
     // what the desk finds of itself
     disagreement: {
         de: ({ member, what }) =>
@@ -318,18 +331,41 @@ export function mistakeText({ key, values }, language) {
     return TEXTS[key][language](values);
 }
 
-/** Collects the mistakes of all files. `error` and `warning` answer null, for whoever has no value then. */
+const KINDS = {
+    de: { error: 'Fehler', warning: 'Warnungen' },
+    en: { error: 'errors', warning: 'warnings' },
+};
+
+const MOST_TOLD = 1000; // errors, and as many warnings; of what comes behind them only the number is told
+
+/**
+ * Collects the mistakes of all files. `error` and `warning` answer null, for whoever has no value then. `files` are the
+ * files' names in the order in which their mistakes are told.
+ */
 export class Mistakes {
-    /** `files` are the files' names in the order in which their mistakes are told. */
     constructor(language, files) {
         this.language = language;
         this.files = files;
-        this.all = [];
+        this.counts = { error: 0, warning: 0 };
+        this.told = [];
+        this.further = new Map(); // by kind and file, with the first line that is not told
     }
 
     note(kind, file, line, key, values = {}) {
-        this.all.push({ file, line, kind, key, values, text: mistakeText({ key, values }, this.language) });
+        this.counts[kind] += 1;
+        if (this.counts[kind] <= MOST_TOLD) this.told.push(this.worded({ file, line, kind, key, values }));
+        else this.noteFurther(kind, file, line);
         return null;
+    }
+
+    noteFurther(kind, file, line) {
+        const key = `${kind} ${file}`;
+        if (!this.further.has(key)) this.further.set(key, { file, line, kind, count: 0 });
+        this.further.get(key).count += 1;
+    }
+
+    worded(mistake) {
+        return { ...mistake, text: mistakeText(mistake, this.language) };
     }
 
     error(file, line, key, values) {
@@ -341,13 +377,16 @@ export class Mistakes {
     }
 
     count(kind) {
-        return this.all.filter((mistake) => mistake.kind === kind).length;
+        return this.counts[kind];
     }
 
-    /** All of them, file by file and by line. */
+    /** All that are told, file by file and by line. */
     sorted() {
         const rank = new Map(this.files.map((file, i) => [file, i]));
-        return [...this.all].sort((a, b) => rank.get(a.file) - rank.get(b.file) || a.line - b.line);
+        const rest = [...this.further.values()].map(({ file, line, kind, count }) => {
+            return this.worded({ file, line, kind, key: 'further', values: { kind, count } });
+        });
+        return [...this.told, ...rest].sort((a, b) => rank.get(a.file) - rank.get(b.file) || a.line - b.line);
     }
 }
 

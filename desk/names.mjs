@@ -38,6 +38,14 @@ function reach(word) {
 /** The nearest of the names, the first of equals; one that only begins with the word is the last resort; or null. */
 export function nearest(text, names) {
     const word = folded(text);
+    const found = closest(text, names);
+    if (found !== null || word.length < 3) return found;
+    return names.find((name) => folded(name).startsWith(word)) ?? null;
+}
+
+/** That of the names from which the fewest letters differ, and few enough, the first of equals; or null. */
+export function closest(text, names) {
+    const word = folded(text);
     let found = null;
     let least = reach(word) + 1;
     for (const name of names) {
@@ -46,6 +54,5 @@ export function nearest(text, names) {
         const far = distance(word, other);
         if (far < least) [found, least] = [name, far];
     }
-    if (found !== null || word.length < 3) return found;
-    return names.find((name) => folded(name).startsWith(word)) ?? null;
+    return found;
 }

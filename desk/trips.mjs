@@ -30,16 +30,16 @@ export function readTrips(files, stops, zone, mistakes) {
 }
 
 function tripsIn(file, stopIn, clock, mistakes) {
-    const rows = readTable(file, TRIP_COLUMNS, mistakes) ?? [];
-    return rows.flatMap((row) => {
+    const take = (row) => {
         let right = true;
         const note = (key, values) => {
             right = false;
             return mistakes.error(file.name, row.line, key, values);
         };
         const trip = readTrip(file.name, row, stopIn, clock, note);
-        return right ? [trip] : [];
-    });
+        return right ? trip : null;
+    };
+    return readTable(file, TRIP_COLUMNS, mistakes, take) ?? [];
 }
 
 function readTrip(file, row, stopIn, clock, note) {

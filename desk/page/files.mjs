@@ -1,4 +1,8 @@
 // Files that were chosen or dropped: which is which, and which books a period goes on from.
+import { namesOf } from '../columns.mjs';
+import { headerOf } from '../csv.mjs';
+import { shownText } from '../encoding.mjs';
+import { folded } from '../names.mjs';
 
 /** The files that have to be there. */
 export const SORTS = ['areas', 'stops', 'trips'];
@@ -9,26 +13,22 @@ const MARKS = { trips: 'depart', stops: 'x_m', areas: 'per_km' };
 export function sortOf({ name, bytes }) {
     const named = /^(areas|stops|trips|books)\b.*\.(csv|json)$/i.exec(name);
     if (named) return named[1].toLowerCase();
-    const start = textOf(bytes.subarray(0, 2000)).toLowerCase();
+    const start = shownText(bytes.subarray(0, 2000));
     if (start.includes('milecopper books')) return 'books';
-    const header = start.split(/[\r\n]/)[0];
-    return Object.keys(MARKS).find((sort) => header.includes(MARKS[sort])) ?? null;
-}
-
-/** The text of bytes, whatever they are: for showing, not for reading. */
-export function textOf(bytes) {
-    return new TextDecoder('utf-8').decode(bytes);
+    const header = headerOf(start).map(folded);
+    const has = (column) => namesOf(column).some((name) => header.includes(folded(name)));
+    return Object.keys(MARKS).find((sort) => has(MARKS[sort])) ?? null;
 }
 
 /** The lines of a file, as the mistakes count them. */
 export function linesOf({ bytes }) {
-    return textOf(bytes).split(/\r\n|\n|\r/);
+    return shownText(bytes).split(/\r\n|\n|\r/);
 }
 
 /** Of several books those of the last closing before the period; of one file that one, whatever is in it. */
 export function booksBefore(books, period) {
     if (books.length < 2) return books[0];
-    const closed = (file) => /"period":\s*"(\d{4}-\d{2})"/.exec(textOf(file.bytes))?.[1] ?? '';
+    const closed = (file) => /"period":\s*"(\d{4}-\d{2})"/.exec(shownText(file.bytes))?.[1] ?? '';
     const before = books.filter((file) => period === null || closed(file) < period);
     return before.sort((one, other) => (closed(one) < closed(other) ? -1 : 1)).at(-1);
 }

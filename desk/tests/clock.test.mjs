@@ -8,11 +8,14 @@ const utc = (year, month, day, hour, minute) => (Date.UTC(year, month - 1, day, 
 const times = (date, depart, arrive) => tripTimes(berlin, dayOf(date), timeOf(depart), timeOf(arrive));
 const minutes = ({ checkIn, checkOut }) => [checkIn.minute, checkOut.minute];
 
-test('dates in both spellings, and no other', () => {
+test('dates in the three spellings, and no other', () => {
     assert.equal(dayOf('2000-01-01'), 0);
     assert.equal(dayOf('2028-02-29'), dayOf('29.2.2028'));
     assert.equal(dayOf('2026-10-31'), 9800);
-    const none = ['2026-02-29', '2026-13-01', '31.9.2026', '1999-12-31', '2100-01-01', '26-10-31', '31/10/2026', ''];
+    assert.equal(dayOf('02.10.26'), dayOf('2026-10-02'));
+    assert.equal(dayOf('2.1.20'), dayOf('2020-01-02'));
+    const bad = ['2026-02-29', '2026-13-01', '31.9.2026', '1999-12-31', '2100-01-01', '26-10-31', '31/10/2026', ''];
+    const none = [...bad, '31.9.26', '2.10.126', '2.10.1926', '2.10.', '02.10.0026'];
     for (const text of none) assert.equal(dayOf(text), null, text);
 });
 
@@ -21,7 +24,9 @@ test('clock times, to the end of the next day, with an offset or without', () =>
     assert.deepEqual(timeOf('5:08:00'), { minutes: 308, offset: null });
     assert.deepEqual(timeOf('24:21'), { minutes: 1461, offset: null });
     assert.deepEqual(timeOf('02:50+02:00'), { minutes: 170, offset: 120 });
-    const none = ['48:00', '12:60', '1250', '12.50', '12:5', '12:50+2', ''];
+    for (const text of ['5.08', '05.08', '0508', '508']) assert.deepEqual(timeOf(text), timeOf('05:08'), text);
+    assert.deepEqual(timeOf('2.50+01:00'), { minutes: 170, offset: 60 });
+    const none = ['48:00', '12:60', '1260', '12.5', '12:5', '12:50+2', '', '8', '50', '12345', '5.08.10'];
     for (const text of none) assert.equal(timeOf(text), null, text);
 });
 

@@ -77,8 +77,8 @@ test('bad dates and times', () => {
         "depart '24:50': not a clock time from 00:00 to 23:59",
         "arrive '48:00': not a clock time from 00:00 to 47:59",
     ]);
-    assert.deepEqual(trips('Anna Berg,31.10.2026,12.30,half,Münster Hbf,Hamm Hbf,,,,,,\n'), [
-        "depart '12.30': not a clock time from 00:00 to 23:59",
+    assert.deepEqual(trips('Anna Berg,31.10.2026,12.3,half,Münster Hbf,Hamm Hbf,,,,,,\n'), [
+        "depart '12.3': not a clock time from 00:00 to 23:59",
         "arrive 'half': not a clock time from 00:00 to 47:59",
     ]);
 });
@@ -98,13 +98,24 @@ test('missing, doubled, misspelt and unknown columns', () => {
 });
 
 test('a wrong encoding, an empty file, a missing one, an open quote, a field too many', () => {
-    const latin = Buffer.from(TRIPS + GOOD, 'latin1');
-    assert.deepEqual(said(run(new Uint8Array(latin))), ["trips.csv:2: not UTF-8; please save the file as 'CSV UTF-8'"]);
+    const latin = new Uint8Array(Buffer.from(TRIPS + GOOD, 'latin1'));
+    const good = run(latin);
+    assert.deepEqual(said(good), ['trips.csv:2: warning: not UTF-8; read as Windows-1252: are the umlauts right?']);
+    assert.equal(good.members[0].entries.length, 1);
+    const mixed = Buffer.concat([Buffer.from(TRIPS + GOOD), Buffer.from(GOOD, 'latin1')]);
+    assert.deepEqual(
+        said(run(new Uint8Array(mixed))),
+        ["trips.csv:3: UTF-8 in parts only; please save the file as 'CSV UTF-8'"],
+    );
+    assert.deepEqual(
+        said(run(`${TRIPS}${GOOD}\0`)),
+        ["trips.csv:3: has zero bytes, which no text has; please save the file as 'CSV UTF-8'"],
+    );
     assert.deepEqual(said(run('')), ['trips.csv:1: the file is empty; its first line has to name the columns']);
     assert.deepEqual(said(run(undefined)), ['trips.csv:1: the file is missing']);
     assert.deepEqual(
         trip('"Anna,2026-10-31\n'),
-        ['trips.csv:2: a quotation mark is not closed, or text stands behind it'],
+        ['trips.csv:2: a quotation mark begins here and is not closed, or text stands behind it'],
     );
     assert.deepEqual(trips('Berg, Anna,2026-10-31,23:50,00:21,Münster Hbf,Hamm Hbf,,,,,,\n'), [
         '13 fields instead of 12 as in the header; a comma within a field needs quotation marks',
@@ -198,4 +209,17 @@ test('mistakes of all files are told at once, and nothing is priced then', () =>
         ['areas.csv:3:', 'stops.csv:2:', 'trips.csv:2:', 'trips.csv:2:'],
     );
     assert.deepEqual([result.members, result.wages, result.charges, result.errors], [[], [], [], 4]);
+});
+
+test('of more than 1,000 errors the others are only counted, and warnings by themselves', () => {
+    const result = run(TRIPS + GOOD.replace('2026-10-31', '2026-10-32').repeat(1500) + GOOD.repeat(1200));
+    assert.deepEqual([result.errors, result.warnings, result.mistakes.length], [1500, 1199, 2002]);
+    const lines = said(result);
+    assert.equal(lines[1000], 'trips.csv:1002: and 500 more errors in this file, not told one by one');
+    assert.equal(lines[2001], 'trips.csv:2503: warning: and 199 more warnings in this file, not told one by one');
+    assert.deepEqual(result.members, []);
+    const german = said(run(TRIPS + 'x\n'.repeat(1002), { language: 'de' }));
+    assert.equal(german.at(-1), 'trips.csv:1002: und 2 weitere Fehler in dieser Datei, nicht einzeln genannt');
+    const clean = run(TRIPS + GOOD.repeat(1200)); // all warnings, told and counted, and yet the first is priced
+    assert.deepEqual([clean.errors, clean.wages[0].trips], [0, 1]);
 });

@@ -152,3 +152,16 @@ test('options without their word, or with one too many', () => {
     assert.equal(status, 2);
     assert.match(stderr, /\n\.\/milecopper: cannot write in : not there\n$/);
 });
+
+test('50 MB of bad rows are told in little memory', () => {
+    const place = folder('bad');
+    const row = 'Anna Berg;2026-13-02;05:08;05:20;Bielefeld Universitaet;Bielefeld Hbf;;3;E;;;1\n';
+    const rows = Math.ceil(50e6 / row.length);
+    const header = fs.readFileSync(path.join(SAMPLE, 'trips.csv'), 'utf8').split('\n')[0];
+    fs.writeFileSync(path.join(place, 'trips.csv'), `${header}\n${row.repeat(rows)}`);
+    const env = { ...process.env, NODE_OPTIONS: '--max-old-space-size=160' }; // the text itself takes 50 of these
+    const { status, stdout, stderr } = called(good, ['check', place], { env });
+    assert.deepEqual([status, stderr], [2, '']);
+    assert.match(stdout, new RegExp(`\\nerrors: ${4 * rows}, warnings: 0\\n$`));
+    assert.equal(stdout.split('\n').length, 1003);
+});
