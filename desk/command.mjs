@@ -71,7 +71,7 @@ async function orMistaken(language, make, say) {
 
 // ---- The call
 
-const TEXTS = ['areas', 'stops', 'period', 'format', 'out', 'language', 'member', 'today'];
+const TEXTS = ['areas', 'stops', 'members', 'period', 'format', 'out', 'language', 'member', 'today'];
 const LISTS = ['trips', 'books'];
 const MARKS = ['force', 'new-tariff'];
 const OPTIONS = {
@@ -153,6 +153,7 @@ function filesOf(call, found) {
     const places = {
         areas: [call.areas ?? path.join(folder, 'areas.csv')],
         stops: [call.stops ?? path.join(folder, 'stops.csv')],
+        members: call.members ? [call.members] : inFolder(found.filter((name) => name === 'members.csv')),
         trips: call.trips ?? inFolder(tripsIn(found)),
         books: call.books ?? inFolder(booksAmong(found)),
     };
@@ -160,9 +161,10 @@ function filesOf(call, found) {
     const read = Object.entries(places).map(([sort, own]) => [sort, own.map((place) => fileAt(place, language))]);
     const unread = read.flatMap(([, files]) => files).filter(({ why }) => why !== undefined);
     if (unread.length > 0) throw new Mistaken(words.unread(unread));
-    const { areas, stops, trips, books } = Object.fromEntries(read.map(([sort, files]) => [sort, toldApart(files)]));
+    const apart = Object.fromEntries(read.map(([sort, files]) => [sort, toldApart(files)]));
     const named = call.books?.length === 1; // one that is named is meant, whatever it closes
-    return { areas: areas[0], stops: stops[0], trips, books: named ? books[0] : books };
+    const [[areas], [stops], [members]] = [apart.areas, apart.stops, apart.members];
+    return { areas, stops, members, trips: apart.trips, books: named ? apart.books[0] : apart.books };
 }
 
 /** The names of a folder's files of trips, in their order; where there is none, of the one that is due. */

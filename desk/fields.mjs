@@ -24,6 +24,13 @@ export function wordIn(row, column, allowed, note, empty) {
     return allowed.includes(text) ? text : note('notOneOf', { column, value: row[column], allowed });
 }
 
+/** Tells of a value that is empty, or that an earlier row has too; `seen` has the line of each so far. */
+export function noteTaken(seen, column, value, line, note) {
+    if (value === '') note('blank', { column });
+    else if (seen.has(value)) note('taken', { column, value, line: seen.get(value) });
+    else seen.set(value, line);
+}
+
 /** Cents as euros: '25.00'. */
 export function euros(cents) {
     return `${Math.floor(cents / 100)}.${String(cents % 100).padStart(2, '0')}`;

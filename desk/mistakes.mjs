@@ -156,13 +156,15 @@ const TEXTS = {
         de: ({ value }) => `level '${value}': keine solche Ebene; es gibt state, region und city`,
         en: ({ value }) => `level '${value}': no such level; there are state, region and city`,
     },
-    nameTwice: {
-        de: ({ value, line }) => `name '${value}': schon in Zeile ${line} vergeben`,
-        en: ({ value, line }) => `name '${value}': taken already in line ${line}`,
+    noMember: {
+        de: ({ value, count, near, members }) =>
+            `member '${value}': steht nicht in ${members}${meant.de(near)} (Fahrten: ${count}, die erste hier)`,
+        en: ({ value, count, near, members }) =>
+            `member '${value}': not in ${members}${meant.en(near)} (trips: ${count}, the first here)`,
     },
-    idTwice: {
-        de: ({ value, line }) => `id '${value}': schon in Zeile ${line} vergeben`,
-        en: ({ value, line }) => `id '${value}': taken already in line ${line}`,
+    taken: {
+        de: ({ column, value, line }) => `${column} '${value}': schon in Zeile ${line} vergeben`,
+        en: ({ column, value, line }) => `${column} '${value}': taken already in line ${line}`,
     },
     // the tariff
     noState: {

@@ -5,6 +5,7 @@ import { clockOf } from './clock.mjs';
 import { booksIn, closingDoubts, closingsIn, dueTrips, warnOfLostWindows } from './closings.mjs';
 import { placeOf } from './doubts.mjs';
 import { BOOK_BYTES } from './engine.mjs';
+import { checkMembers, readMembers } from './members.mjs';
 import { Mistakes } from './mistakes.mjs';
 import { isPeriod, monthsOf, openMonth } from './months.mjs';
 import { folded } from './names.mjs';
@@ -12,7 +13,7 @@ import { readTariff, recordAt } from './tariff.mjs';
 import { momentIn, readTrips, tripsByMember } from './trips.mjs';
 import { agreeWages, chargesOf, wagesOf } from './wages.mjs';
 
-const NAMES = { areas: 'areas.csv', stops: 'stops.csv', trips: 'trips.csv' };
+const NAMES = { areas: 'areas.csv', stops: 'stops.csv', trips: 'trips.csv', members: 'members.csv' };
 
 /**
  * Reads the files, each as bytes, as text or as {name, bytes}, and of trips one or several in a list; settles every
@@ -25,21 +26,25 @@ const NAMES = { areas: 'areas.csv', stops: 'stops.csv', trips: 'trips.csv' };
  * period; the others say which trips of their months are known. `newTariff`: books that were kept under other prices
  * are meant. `today`, '2026-11-03': the date, where it is known. `progress(done, all)` is told of settled trips.
  *
- * Of the result, `booksFile` is the name of the books that were gone on from, `months` are those that there are
- * (`monthsOf`), `open` the one to choose (`openMonth`), and `closing` what is to be said before the period is closed
- * (`closingDoubts`).
+ * `files.members` may be there: it says who is who.
+ *
+ * Of the result, `roster` has the members of that file by name (`readMembers`) or is null; `booksFile` is the name of
+ * the books that were gone on from, `months` are those that there are (`monthsOf`), `open` the one to choose
+ * (`openMonth`), and `closing` what is to be said before the period is closed (`closingDoubts`).
  */
 export function runDesk({ files, period: asked = null, zone = 'Europe/Berlin', language = 'de', ...options }) {
     if (asked !== null && asked !== OPEN && !isPeriod(asked)) throw new RangeError(`${asked} is no month`);
     const { engine, today = null } = options;
     const desk = deskOf({ ...options, zone }, files, language);
     const tariff = tariffIn(desk);
-    const trips = readTrips(desk.files.trips, tariff.stops, zone, desk.mistakes);
+    const roster = readMembers(desk.files.members, desk.mistakes);
+    const trips = readTrips(desk.files.trips, tariff.stops, zone, desk.mistakes, roster);
+    if (roster) checkMembers(trips, roster, desk.files.members, desk.mistakes);
     const closings = closingsIn(desk);
     const months = monthsOf(trips, [...closings.keys()]);
     const open = openMonth(months);
     const period = asked === OPEN ? open : asked;
-    Object.assign(desk, { period, months });
+    Object.assign(desk, { period, months, roster });
     const books = booksIn(desk, tariff, closings);
     const settled = desk.mistakes.count('error') === 0 ? settledOrNot(desk, tariff, books, closings, trips) : null;
     const { members, wages, refused, books: kept } = settled ?? NOTHING;
@@ -51,7 +56,7 @@ export function runDesk({ files, period: asked = null, zone = 'Europe/Berlin', l
         tariff: tariffOf(desk, tariff),
         ...{ period, zone, language, version: engine.version, tripFiles: desk.files.trips.map(({ name }) => name) },
         ...{ booksPeriod: books?.period ?? null, booksFile: books?.file.name ?? null },
-        ...{ months, open, closing: closingDoubts({ period, today, months, closings, language }) },
+        ...{ roster, months, open, closing: closingDoubts({ period, today, months, closings, language }) },
         ...{ members, wages, refused, books: kept },
         /** The largest table, made when it is asked for. */
         get charges() {
@@ -147,7 +152,7 @@ function settleAll(desk, tariff, books, due) {
         done += own.length;
         desk.progress?.(done, due.length);
     }
-    const wages = wagesOf(members);
+    const wages = wagesOf(members, desk.roster);
     agreeWages(wages, members);
     return { members, wages, books: kept, refused: wages.reduce((sum, row) => sum + row.refused, 0) };
 }
@@ -167,8 +172,8 @@ function warnOfRefused({ engine, zone, mistakes, several }, member, book) {
 }
 
 /** A member spelt otherwise than in the books would go on from a fresh one: told once a name. */
-function warnOfNearBooks({ mistakes }, kept, trips) {
-    const names = new Map(kept.map((name) => [folded(name), name]));
+function warnOfNearBooks({ mistakes, roster }, kept, trips) {
+    const names = new Map(kept.filter((name) => !roster?.has(name)).map((name) => [folded(name), name]));
     const seen = new Set(kept);
     for (const { file, member, line } of trips) {
         if (seen.has(member)) continue;

@@ -1,6 +1,6 @@
 // The tariff from areas.csv and stops.csv: its bytes (docs/FORMAT.md), and which line each of its records comes from.
 import { readTable } from './csv.mjs';
-import { centsIn, wholeIn, wordIn } from './fields.mjs';
+import { centsIn, noteTaken, wholeIn, wordIn } from './fields.mjs';
 import { sha256 } from './hash.mjs';
 import { nearest, tidy } from './names.mjs';
 
@@ -61,18 +61,12 @@ export function nearThing(text, things) {
 
 /** Id and name of each row, tidied. No two may have one id; of `own` names neither one name. */
 function named(file, rows, own, mistakes) {
-    const ids = new Map();
-    const names = new Map();
-    const noteTwice = (seen, value, line, key) => {
-        if (seen.has(value)) mistakes.error(file, line, key, { value, line: seen.get(value) });
-        else seen.set(value, line);
-    };
+    const [ids, names] = [new Map(), new Map()];
     return rows.map(({ id: idText, name: nameText, line }, index) => {
+        const note = (key, values) => mistakes.error(file, line, key, values);
         const [id, name] = [tidy(idText), tidy(nameText)];
-        if (id === '') mistakes.error(file, line, 'blank', { column: 'id' });
-        else noteTwice(ids, id, line, 'idTwice');
-        if (name === '') mistakes.error(file, line, 'blank', { column: 'name' });
-        else if (own) noteTwice(names, name, line, 'nameTwice');
+        noteTaken(ids, 'id', id, line, note);
+        noteTaken(own ? names : new Map(), 'name', name, line, note);
         return { index, line, id, name };
     });
 }

@@ -17,14 +17,14 @@ export const TRIP_COLUMNS = {
 
 /**
  * The trips of all files, in the files' order and by line. `stops` is null where the stops could not be read: names are
- * then not looked for. A row with a mistake is none of the trips.
+ * then not looked for. A row with a mistake is none of the trips. Where a `roster` says who is who, near names are two.
  */
-export function readTrips(files, stops, zone, mistakes) {
+export function readTrips(files, stops, zone, mistakes, roster) {
     const several = files.length > 1;
     const clock = clockOf(zone);
     const stopIn = stopFinder(stops);
     const trips = files.flatMap((file) => tripsIn(file, stopIn, clock, mistakes));
-    warnOfNearMembers(trips, several, mistakes);
+    if (!roster) warnOfNearMembers(trips, several, mistakes);
     if (stops) warnOfTwins(tripsByMember(trips), several, mistakes);
     return trips;
 }

@@ -3,7 +3,7 @@
 export const USAGE = `usage: ./milecopper check|settle|statement|wages|close [FOLDER] [--period 2026-10|open]
                     [--format csv|json] [--out FOLDER] [--member NAME] [--language de|en]
                     [--areas FILE] [--stops FILE] [--trips FILE]... [--books FILE]...
-                    [--new-tariff] [--force] [--today 2026-11-03]
+                    [--members FILE] [--new-tariff] [--force] [--today 2026-11-03]
 `;
 
 export const HELP = {
@@ -16,7 +16,8 @@ close      schließt den Monat ab und schreibt die Bücher, books-2026-10.json; 
 
 Im Ordner (ohne Angabe: hier) liegen areas.csv, stops.csv und trips.csv, dazu gegebenenfalls die Bücher; die des
 letzten Abschlusses vor dem Monat gelten. Einzelne Dateien lassen sich stattdessen nennen. Die Fahrten können in
-mehreren Dateien stehen: genommen wird jede trips*.csv des Ordners, oder --trips mehrmals. --period open ist der Monat,
+mehreren Dateien stehen: genommen wird jede trips*.csv des Ordners, oder --trips mehrmals. Eine members.csv sagt, wer
+wer ist; die Lohnliste hat dann die Personalnummern. --period open ist der Monat,
 der offen ist: der erste mit Fahrten hinter den letzten Büchern. --out schreibt Dateien, statt zu drucken.
 --new-tariff: Gebiete haben seit dem Abschließen andere Preise oder Deckel, und das ist so gewollt. --force schließt
 auch einen Monat ab, der in der Zukunft liegt oder frühere offen lässt. --today: ein anderes Datum als das der Uhr.
@@ -34,7 +35,8 @@ close      closes the month and writes the books, books-2026-10.json; once a mon
 
 The folder (none: the present one) holds areas.csv, stops.csv and trips.csv and, if there are, the books; those of the
 last closing before the month count. Single files can be named instead. The trips may stand in several files: every
-trips*.csv of the folder is taken, or --trips more than once. --period open is the month that is open: the first with
+trips*.csv of the folder is taken, or --trips more than once. A members.csv says who is who; the wages then have the
+personnel numbers. --period open is the month that is open: the first with
 trips behind the last books. --out writes files instead of printing. --new-tariff: areas have other prices or caps since
 the closing, and that is meant. --force closes a month, too, that lies in the future or leaves earlier ones open.
 --today: another date than the clock's.

@@ -4,13 +4,18 @@ import { Disagreement, centsOf } from './account.mjs';
 import { euros } from './fields.mjs';
 import { isoOf } from './trips.mjs';
 
-/** Rows {member, period, trips, refused, cents} of the entries in the period: trips are those accepted. */
-export function wagesOf(members) {
+/**
+ * Rows {member, period, trips, refused, cents} of the entries in the period: trips are those accepted. Where there is a
+ * roster, each has the member's `number`, too.
+ */
+export function wagesOf(members, roster) {
     return members.flatMap((member) => {
+        const number = roster ? { number: roster.get(member.name).number } : {};
         const rows = new Map();
         for (const entry of member.entries.filter(({ inPeriod }) => inPeriod)) {
             const period = entry.month;
-            if (!rows.has(period)) rows.set(period, { member: member.name, period, trips: 0, refused: 0, cents: 0 });
+            const empty = { member: member.name, period, trips: 0, refused: 0, cents: 0, ...number };
+            if (!rows.has(period)) rows.set(period, empty);
             const row = rows.get(period);
             if (!entry.accepted) row.refused += 1;
             else [row.trips, row.cents] = [row.trips + 1, row.cents + entry.cents];
@@ -86,8 +91,9 @@ const TITLES = { cents: 'amount' };
 const AMOUNTS = new Set(['cents', 'price', 'charge', 'taken_off']);
 
 /** The wages as CSV, with amounts in euros, or as JSON, with amounts in cents. */
-export function wagesText({ wages }, format, language) {
-    return tableText(WAGES, wages.map((row) => WAGES.map((column) => row[column])), format, language);
+export function wagesText({ wages, roster }, format, language) {
+    const columns = roster ? [...WAGES, 'number'] : WAGES;
+    return tableText(columns, wages.map((row) => columns.map((column) => row[column])), format, language);
 }
 
 /** The charges likewise. */

@@ -153,6 +153,18 @@ test('the open month can be asked for by that word: it is the one behind the boo
     assert.deepEqual([out.split('\n')[0], told.split('/').at(-1)], ['errors: 0, warnings: 0', 'books-2026-11.json\n']);
 });
 
+test("members.csv of the folder, or one that is named, puts the personnel numbers into the wages", () => {
+    const place = folder('members', NIGHT);
+    const wages = (...words) => called('wages', place, '--period', '2026-11', '--language', 'en', ...words);
+    const row = (...words) => wages(...words).out.split('\n')[1];
+    assert.equal(row(), 'Anna,2026-11,1,0,6.59');
+    fs.writeFileSync(path.join(place, 'members.csv'), 'number,name\n0815,Anna\n');
+    assert.equal(row(), 'Anna,2026-11,1,0,6.59,0815');
+    fs.writeFileSync(path.join(place, 'other.csv'), 'number,name\n7,Anna\n');
+    assert.equal(row('--members', path.join(place, 'other.csv')), 'Anna,2026-11,1,0,6.59,7');
+    assert.equal(called('wages', place, '--members', path.join(place, 'gone.csv')).status, 2);
+});
+
 test('two books of one month in a folder are an error that names both, and one that is named alone is taken', () => {
     const place = folder('twice', NIGHT);
     assert.equal(called('close', place, '--period', '2026-10', '--today', '2026-11-03').status, 0);

@@ -20,8 +20,9 @@ export const engine = await builtEngine();
 export const TRIPS = 'member,date,depart,arrive,from,to,via,class,level,adults,children,bicycles\n';
 
 /** Runs the desk on the sample's tariff, or other files, and these trips. */
-export function run(trips, { areas = sample('areas.csv'), stops = sample('stops.csv'), books, ...options } = {}) {
-    return runDesk({ engine, files: { areas, stops, trips, books }, language: 'en', ...options });
+export function run(trips, { areas = sample('areas.csv'), stops = sample('stops.csv'), ...rest } = {}) {
+    const { books, members, ...options } = rest;
+    return runDesk({ engine, files: { areas, stops, trips, books, members }, language: 'en', ...options });
 }
 
 /** All that is said of a run's mistakes. */
