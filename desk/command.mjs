@@ -73,7 +73,7 @@ async function orMistaken(language, make, say) {
 
 const TEXTS = ['areas', 'stops', 'members', 'period', 'format', 'out', 'language', 'member', 'today'];
 const LISTS = ['trips', 'books'];
-const MARKS = ['force', 'new-tariff'];
+const MARKS = ['force', 'new-tariff', 'strict'];
 const OPTIONS = {
     ...Object.fromEntries(TEXTS.map((name) => [name, { type: 'string' }])),
     ...Object.fromEntries(LISTS.map((name) => [name, { type: 'string', multiple: true }])),
@@ -126,11 +126,12 @@ function versionLine() {
 // ---- What is done
 
 async function perform(call) {
-    const { folder, period, language, words, today, 'new-tariff': newTariff } = call;
+    const { folder, period, language, words, today, strict, 'new-tariff': newTariff } = call;
     const found = await orMistaken(language, () => fs.readdirSync(folder), (why) => words.folder(folder, why));
     const files = filesOf(call, found);
     const engine = await orMistaken(language, () => engineOf(words), words.engineless);
-    const result = runDesk({ engine, files, period, language, today, newTariff, progress: progressLine(words) });
+    const progress = progressLine(words);
+    const result = runDesk({ engine, files, period, language, today, strict, newTariff, progress });
     const books = [files.books].flat().find(({ name }) => name === result.booksFile);
     if (books) tell(words.books(books.place));
     agreed(call, () => agreeStatements(result));

@@ -1,34 +1,100 @@
-// What is priced as it stands and may yet be a slip: trips beside each other are looked at, and told as warnings.
+// What is priced as it stands and may yet be a slip: trips are looked at by themselves and beside each other, and what
+// is found is told as warnings.
+import { personFinder } from './names.mjs';
+
+const LONG_MINUTES = 360;
+const NEAR_DAYS = 31;
+const DAY = 1440;
 
 /** Where a row stands, for whoever names it beside another; the file is named where there are several. */
 export function placeOf({ file, line }, several) {
     return several ? { file, line } : { line };
 }
 
-/** Tells of every trip that stands in the files twice. `members` has each one's trips in order. */
-export function warnOfTwins(members, several, mistakes) {
-    for (const trips of members.values()) {
-        trips.forEach((trip, at) => {
-            const twin = twinOf(trips, at);
-            if (twin) mistakes.warning(trip.file, trip.line, 'tripTwice', placeOf(twin, several));
-        });
+/** Looks at all trips. `members` has each one's in order. */
+export function warnOfSlips({ several, mistakes }, trips, members) {
+    warnOfLong(trips, mistakes);
+    warnOfYears(trips, mistakes);
+    for (const own of members.values()) warnOfTwins(own, several, mistakes);
+}
+
+// ---- A trip by itself
+
+/** An arrival that was typed wrong is likely the next day's. Trips of more than 24 hours are refused anyway. */
+function warnOfLong(trips, mistakes) {
+    for (const { file, line, checkIn, checkOut } of trips) {
+        const minutes = checkOut.minute - checkIn.minute;
+        if (minutes > LONG_MINUTES && minutes <= DAY) mistakes.warning(file, line, 'longRide', { minutes });
     }
 }
 
-/** The first of the trips before this one that is the same; they have one check-in, so they stand close. */
-function twinOf(trips, at) {
-    const trip = trips[at];
-    let twin = null;
-    for (let i = at - 1; i >= 0 && trips[i].checkIn.minute === trip.checkIn.minute; i -= 1) {
-        if (isSame(trips[i], trip)) twin = trips[i];
+// ---- Years
+
+/** Tells of trips in a year of which there is only one day, far from all others: so New Year's night is none. */
+function warnOfYears(trips, mistakes) {
+    const days = new Map(); // year → its only day, or null where it has several
+    for (const { checkIn } of trips) {
+        const day = checkIn.local.slice(0, 10);
+        const year = day.slice(0, 4);
+        days.set(year, days.has(year) && days.get(year) !== day ? null : day);
     }
-    return twin;
+    for (const [year, day] of days) if (day !== null && days.size > 1) warnOfYear(trips, year, mistakes);
 }
 
-function isSame(one, other) {
-    const equal = (field) => one[field] === other[field];
-    const alike = (sort) => one.party[sort] === other.party[sort];
-    const way = one.via.length === other.via.length && one.via.every((stop, i) => stop === other.via[i]);
-    const times = one.checkOut.minute === other.checkOut.minute;
-    return times && way && ['from', 'to', 'class', 'level'].every(equal) && Object.keys(one.party).every(alike);
+function warnOfYear(trips, year, mistakes) {
+    const isOf = ({ checkIn }) => checkIn.local.startsWith(year);
+    const own = trips.filter(isOf);
+    const near = ({ checkIn }) => Math.abs(checkIn.minute - own[0].checkIn.minute) <= NEAR_DAYS * DAY;
+    if (trips.some((trip) => !isOf(trip) && near(trip))) return;
+    for (const { file, line } of own) mistakes.warning(file, line, 'oddYear', { year });
+}
+
+// ---- Trips that are the same
+
+/** Tells of every trip of a member that stands in the files twice. Those with one check-in stand side by side. */
+function warnOfTwins(trips, several, mistakes) {
+    let firsts = new Map();
+    trips.forEach((trip, at) => {
+        const alone = (other) => trips[other]?.checkIn.minute !== trip.checkIn.minute;
+        if (alone(at - 1) && alone(at + 1)) return;
+        if (alone(at - 1)) firsts = new Map();
+        const key = keyOf(trip);
+        if (firsts.has(key)) mistakes.warning(trip.file, trip.line, 'tripTwice', placeOf(firsts.get(key), several));
+        else firsts.set(key, trip);
+    });
+}
+
+function keyOf({ checkOut, from, via, to, class: travelClass, level, party: { adults, children, bicycles } }) {
+    return [checkOut.minute, from, ...via, to, travelClass, level, adults, children, bicycles].join();
+}
+
+// ---- Members
+
+/** Two spellings of one name would be two members, each with caps of their own: told once a name. */
+export function warnOfNearMembers({ several, mistakes }, trips) {
+    const finder = personFinder();
+    const firsts = new Map();
+    for (const trip of trips) {
+        const { file, line, member } = trip;
+        if (firsts.has(member)) continue;
+        firsts.set(member, trip);
+        const near = finder.near(member);
+        finder.add(member);
+        if (near === null) continue;
+        const values = { value: member, near, ...placeOf(firsts.get(near), several) };
+        mistakes.warning(file, line, 'nearMembers', values);
+    }
+}
+
+/** A member spelt otherwise than in the books would go on from a fresh one: told once a name that no roster settles. */
+export function warnOfNearBooks({ mistakes, roster }, kept, trips) {
+    const finder = personFinder();
+    for (const name of kept) if (!roster?.has(name)) finder.add(name);
+    const seen = new Set(kept);
+    for (const { file, member, line } of trips) {
+        if (seen.has(member)) continue;
+        seen.add(member);
+        const near = finder.near(member);
+        if (near !== null) mistakes.warning(file, line, 'nearBook', { value: member, near });
+    }
 }

@@ -7,6 +7,8 @@ const meant = {
     en: (near) => (near ? `; did you mean '${near}'?` : ''),
 };
 
+const hours = (minutes) => `${Math.floor(minutes / 60)} h ${minutes % 60} min`;
+
 /** Where another row stands: in a file that is named, where there are several. */
 const place = {
     de: ({ file, line }) => (file ? `${file}:${line}` : `Zeile ${line}`),
@@ -193,6 +195,14 @@ const TEXTS = {
         de: (other) => `überschneidet sich mit der Fahrt in ${place.de(other)}; wird abgelehnt (10)`,
         en: (other) => `overlaps the trip in ${place.en(other)}; refused (10)`,
     },
+    longRide: {
+        de: ({ minutes }) => `dauert ${hours(minutes)}; stimmt die Ankunft?`,
+        en: ({ minutes }) => `takes ${hours(minutes)}; is the arrival right?`,
+    },
+    oddYear: {
+        de: ({ year }) => `kein anderer Tag liegt im Jahr ${year}; stimmt das Jahr?`,
+        en: ({ year }) => `no other day is of the year ${year}; is the year right?`,
+    },
     tripTwice: {
         de: (other) => `dieselbe Fahrt wie in ${place.de(other)}; doppelt eingetragen?`,
         en: (other) => `the same trip as in ${place.en(other)}; entered twice?`,
@@ -342,12 +352,13 @@ const MOST_TOLD = 1000; // errors, and as many warnings; of what comes behind th
 
 /**
  * Collects the mistakes of all files. `error` and `warning` answer null, for whoever has no value then. `files` are the
- * files' names in the order in which their mistakes are told.
+ * files' names in the order in which their mistakes are told. `strict`: warnings are errors.
  */
 export class Mistakes {
-    constructor(language, files) {
+    constructor(language, files, strict = false) {
         this.language = language;
         this.files = files;
+        this.strict = strict;
         this.counts = { error: 0, warning: 0 };
         this.told = [];
         this.further = new Map(); // by kind and file, with the first line that is not told
@@ -375,7 +386,7 @@ export class Mistakes {
     }
 
     warning(file, line, key, values) {
-        return this.note('warning', file, line, key, values);
+        return this.note(this.strict ? 'error' : 'warning', file, line, key, values);
     }
 
     count(kind) {

@@ -56,3 +56,49 @@ export function closest(text, names) {
     }
     return found;
 }
+
+// ---- Persons
+
+/**
+ * Names of which two may be one person: equal but for capitals, umlauts and signs; one letter more, less, other or
+ * moved; swapped; or with an initial. Figures tell persons apart. `near` gives the first that was added and is near.
+ */
+export function personFinder() {
+    const known = new Map();
+    return {
+        add: (name) => {
+            for (const key of personKeys(name).own) if (!known.has(key)) known.set(key, name);
+        },
+        near: (name) => {
+            const key = personKeys(name).looked.find((one) => known.has(one));
+            return key === undefined ? null : known.get(key);
+        },
+    };
+}
+
+/** Keys that a name is found by, and those by which it finds others; they begin with what sort they are of. */
+function personKeys(name) {
+    const whole = folded(name);
+    const parts = tidy(name).split(/[\s,.]+/).map(folded).filter((part) => part !== '');
+    const sort = (word, keys) => keys.map((key) => `${word} ${key}`);
+    const alike = sort('letters', [whole, ...(parts.some((part) => part.length === 1) ? [] : lettersLess(whole))]);
+    const swapped = sort('parts', [[...parts].sort().join(' ')]);
+    const short = parts.length > 1 ? [0, parts.length - 1].flatMap((at) => shortened(parts, at)) : [];
+    const initial = short.filter((one) => one === parts.join(' ')); // it is an initial itself
+    return {
+        own: [...alike, ...swapped, ...sort('short', short), ...sort('initial', initial)],
+        looked: [...alike, ...swapped, ...sort('short', initial), ...sort('initial', short)],
+    };
+}
+
+/** A word without one of its letters, in all ways; two words that share one of these differ by a letter. */
+function lettersLess(word) {
+    if (word.length < 4) return [];
+    const letters = [...word];
+    return letters.flatMap((letter, i) => (/\d/.test(letter) ? [] : [letters.toSpliced(i, 1).join('')]));
+}
+
+/** A name's parts with one of them as an initial, if it begins with a letter. */
+function shortened(parts, at) {
+    return /^\p{L}/u.test(parts[at]) ? [parts.map((part, i) => (i === at ? part[0] : part)).join(' ')] : [];
+}

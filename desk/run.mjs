@@ -3,12 +3,11 @@ import { Disagreement, lastCheckOut, settleMember } from './account.mjs';
 import { capsOf } from './caps.mjs';
 import { clockOf } from './clock.mjs';
 import { booksIn, closingDoubts, closingsIn, dueTrips, warnOfLostWindows } from './closings.mjs';
-import { placeOf } from './doubts.mjs';
+import { placeOf, warnOfNearBooks, warnOfNearMembers, warnOfSlips } from './doubts.mjs';
 import { BOOK_BYTES } from './engine.mjs';
 import { checkMembers, readMembers } from './members.mjs';
 import { Mistakes } from './mistakes.mjs';
 import { isPeriod, monthsOf, openMonth } from './months.mjs';
-import { folded } from './names.mjs';
 import { readTariff, recordAt } from './tariff.mjs';
 import { momentIn, readTrips, tripsByMember } from './trips.mjs';
 import { agreeWages, chargesOf, wagesOf } from './wages.mjs';
@@ -24,7 +23,8 @@ const NAMES = { areas: 'areas.csv', stops: 'stops.csv', trips: 'trips.csv', memb
  * what comes after it is not looked at. Null: all trips count. 'open': the month that is open, which the result names.
  * `files.books`: one file, from which the trips go on, or an array of files, of which it is the last one before the
  * period; the others say which trips of their months are known. `newTariff`: books that were kept under other prices
- * are meant. `today`, '2026-11-03': the date, where it is known. `progress(done, all)` is told of settled trips.
+ * are meant. `today`, '2026-11-03': the date, where it is known. `strict`: warnings are errors. `progress(done, all)`
+ * is told of settled trips.
  *
  * `files.members` may be there: it says who is who.
  *
@@ -38,8 +38,10 @@ export function runDesk({ files, period: asked = null, zone = 'Europe/Berlin', l
     const desk = deskOf({ ...options, zone }, files, language);
     const tariff = tariffIn(desk);
     const roster = readMembers(desk.files.members, desk.mistakes);
-    const trips = readTrips(desk.files.trips, tariff.stops, zone, desk.mistakes, roster);
+    const trips = readTrips(desk.files.trips, tariff.stops, zone, desk.mistakes);
     if (roster) checkMembers(trips, roster, desk.files.members, desk.mistakes);
+    else warnOfNearMembers(desk, trips); // where it is said who is who, near names are two
+    warnOfSlips(desk, trips, tripsByMember(trips));
     const closings = closingsIn(desk);
     const months = monthsOf(trips, [...closings.keys()]);
     const open = openMonth(months);
@@ -47,11 +49,12 @@ export function runDesk({ files, period: asked = null, zone = 'Europe/Berlin', l
     Object.assign(desk, { period, months, roster });
     const books = booksIn(desk, tariff, closings);
     const settled = desk.mistakes.count('error') === 0 ? settledOrNot(desk, tariff, books, closings, trips) : null;
-    const { members, wages, refused, books: kept } = settled ?? NOTHING;
+    const errors = desk.mistakes.count('error'); // where warnings are errors, settling may have found some, too
+    const { members, wages, refused, books: kept } = errors === 0 ? settled : NOTHING;
     let charges = null;
     return {
         mistakes: desk.mistakes.sorted(),
-        errors: desk.mistakes.count('error'),
+        errors,
         warnings: desk.mistakes.count('warning'),
         tariff: tariffOf(desk, tariff),
         ...{ period, zone, language, version: engine.version, tripFiles: desk.files.trips.map(({ name }) => name) },
@@ -79,7 +82,8 @@ function deskOf(rest, given, language) {
     const files = filesOf(given);
     const names = Object.values(files).flat().map(({ name }) => name);
     const named = !Array.isArray(given.books); // books that were given by themselves are meant
-    return { ...rest, files, named, several: files.trips.length > 1, mistakes: new Mistakes(language, names) };
+    const mistakes = new Mistakes(language, names, rest.strict);
+    return { ...rest, files, named, several: files.trips.length > 1, mistakes };
 }
 
 function filesOf(files) {
@@ -168,17 +172,5 @@ function warnOfRefused({ engine, zone, mistakes, several }, member, book) {
         if (number !== 10) note('refused', { number, text: engine.refusalText(number, mistakes.language) });
         else if (last) note('overlaps', placeOf(last, several));
         else note('beforeBooks', { until: momentIn(clockOf(zone), lastCheckOut(book)).local.replace('T', ' ') });
-    }
-}
-
-/** A member spelt otherwise than in the books would go on from a fresh one: told once a name. */
-function warnOfNearBooks({ mistakes, roster }, kept, trips) {
-    const names = new Map(kept.filter((name) => !roster?.has(name)).map((name) => [folded(name), name]));
-    const seen = new Set(kept);
-    for (const { file, member, line } of trips) {
-        if (seen.has(member)) continue;
-        seen.add(member);
-        const near = names.get(folded(member));
-        if (near) mistakes.warning(file, line, 'nearBook', { value: member, near });
     }
 }

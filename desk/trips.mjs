@@ -1,9 +1,8 @@
 // Trips from trips.csv: names become stops, clock times minutes, and each is made a trip record (docs/FORMAT.md).
 import { clockOf, dayOf, localOf, monthOf, offsetText, timeOf, tripTimes } from './clock.mjs';
 import { readTable } from './csv.mjs';
-import { placeOf, warnOfTwins } from './doubts.mjs';
 import { wholeIn, wordIn } from './fields.mjs';
-import { folded, tidy } from './names.mjs';
+import { tidy } from './names.mjs';
 import { directory, nearThing, recordBytes } from './tariff.mjs';
 
 const LEVELS = ['K', 'A', 'B', 'C', 'D'];
@@ -17,16 +16,12 @@ export const TRIP_COLUMNS = {
 
 /**
  * The trips of all files, in the files' order and by line. `stops` is null where the stops could not be read: names are
- * then not looked for. A row with a mistake is none of the trips. Where a `roster` says who is who, near names are two.
+ * then not looked for. A row with a mistake is none of the trips.
  */
-export function readTrips(files, stops, zone, mistakes, roster) {
-    const several = files.length > 1;
+export function readTrips(files, stops, zone, mistakes) {
     const clock = clockOf(zone);
     const stopIn = stopFinder(stops);
-    const trips = files.flatMap((file) => tripsIn(file, stopIn, clock, mistakes));
-    if (!roster) warnOfNearMembers(trips, several, mistakes);
-    if (stops) warnOfTwins(tripsByMember(trips), several, mistakes);
-    return trips;
+    return files.flatMap((file) => tripsIn(file, stopIn, clock, mistakes));
 }
 
 function tripsIn(file, stopIn, clock, mistakes) {
@@ -139,21 +134,6 @@ function levelIn(row, note) {
 function partyIn(row, note) {
     const number = (column) => wholeIn(row, column, 0, 10, note, 0);
     return { adults: number('adults'), children: number('children'), bicycles: number('bicycles') };
-}
-
-/** Two spellings of one name would be two members, each with caps of their own: told once a name. */
-function warnOfNearMembers(trips, several, mistakes) {
-    const seen = new Map();
-    const names = new Set();
-    for (const trip of trips) {
-        const { file, line, member } = trip;
-        if (names.has(member)) continue;
-        names.add(member);
-        const near = seen.get(folded(member));
-        const values = near && { value: member, near: near.member, ...placeOf(near, several) };
-        if (near) mistakes.warning(file, line, 'nearMembers', values);
-        else seen.set(folded(member), trip);
-    }
 }
 
 // ---- Order and bytes

@@ -3,7 +3,7 @@
 export const USAGE = `usage: ./milecopper check|settle|statement|wages|close [FOLDER] [--period 2026-10|open]
                     [--format csv|json] [--out FOLDER] [--member NAME] [--language de|en]
                     [--areas FILE] [--stops FILE] [--trips FILE]... [--books FILE]...
-                    [--members FILE] [--new-tariff] [--force] [--today 2026-11-03]
+                    [--members FILE] [--strict] [--new-tariff] [--force] [--today 2026-11-03]
 `;
 
 export const HELP = {
@@ -19,6 +19,7 @@ letzten Abschlusses vor dem Monat gelten. Einzelne Dateien lassen sich stattdess
 mehreren Dateien stehen: genommen wird jede trips*.csv des Ordners, oder --trips mehrmals. Eine members.csv sagt, wer
 wer ist; die Lohnliste hat dann die Personalnummern. --period open ist der Monat,
 der offen ist: der erste mit Fahrten hinter den letzten Büchern. --out schreibt Dateien, statt zu drucken.
+--strict: auch was nur zweifelhaft ist, eine Warnung also, gilt als Fehler.
 --new-tariff: Gebiete haben seit dem Abschließen andere Preise oder Deckel, und das ist so gewollt. --force schließt
 auch einen Monat ab, der in der Zukunft liegt oder frühere offen lässt. --today: ein anderes Datum als das der Uhr.
 Der Rechenkern wird beim ersten Mal gebaut, was ihn beweist und einige Minuten dauert.
@@ -36,10 +37,10 @@ close      closes the month and writes the books, books-2026-10.json; once a mon
 The folder (none: the present one) holds areas.csv, stops.csv and trips.csv and, if there are, the books; those of the
 last closing before the month count. Single files can be named instead. The trips may stand in several files: every
 trips*.csv of the folder is taken, or --trips more than once. A members.csv says who is who; the wages then have the
-personnel numbers. --period open is the month that is open: the first with
-trips behind the last books. --out writes files instead of printing. --new-tariff: areas have other prices or caps since
-the closing, and that is meant. --force closes a month, too, that lies in the future or leaves earlier ones open.
---today: another date than the clock's.
+personnel numbers. --period open is the month that is open: the first with trips behind the last books. --out writes
+files instead of printing. --strict: warnings are errors. --new-tariff: areas have other prices or caps since the
+closing, and that is meant. --force closes a month, too, that lies in the future or leaves earlier ones open. --today:
+another date than the clock's.
 The engine is built the first time, which proves it and takes some minutes.
 
 Status 0: all trips are priced. 1: a trip is refused. 2: mistakes in files or call; nothing is written then.
