@@ -1,6 +1,7 @@
 // CSV as spreadsheets write it: a header, columns by name in any order, `;`, `,` or tabs, quoted fields, any line end.
 import { columnsBy, namesOf } from './columns.mjs';
 import { textIn } from './encoding.mjs';
+import { euros } from './fields.mjs';
 import { closest, folded } from './names.mjs';
 
 // ---- Rows
@@ -176,13 +177,31 @@ function filledRow({ name, places, width, least }, cells, line, separator, mista
     return filled;
 }
 
-/** Rows of texts as CSV, the way the language's spreadsheets read it. */
+// ---- Writing
+
+const FORMS = {
+    // without its mark a German spreadsheet takes umlauts for something else
+    de: { mark: '\uFEFF', separator: ';', special: /[;"\n\r]/, amount: (cents) => euros(cents).replace('.', ',') },
+    en: { mark: '', separator: ',', special: /[,"\n\r]/, amount: euros },
+};
+
+/**
+ * Rows as CSV, the way the language's spreadsheets read it. A cell is a text, a number, an amount as {cents}, or null:
+ * then it is empty.
+ */
 export function writtenCsv(rows, language) {
-    const separator = language === 'de' ? ';' : ',';
-    const special = language === 'de' ? /[;"\n\r]/ : /[,"\n\r]/;
-    const cell = (text) => (special.test(text) ? `"${text.replaceAll('"', '""')}"` : text);
-    const mark = language === 'de' ? '\uFEFF' : ''; // without it a German spreadsheet takes umlauts for something else
+    const { mark, separator, special, amount } = FORMS[language];
+    const cell = (value) => {
+        if (typeof value === 'string') return textCell(value, special);
+        return typeof value === 'number' ? String(value) : value === null ? '' : amount(value.cents);
+    };
     let text = mark;
     for (const row of rows) text += `${row.map(cell).join(separator)}\n`;
     return text;
+}
+
+/** A text as a cell. One that a spreadsheet would run as a formula has an apostrophe before it. */
+function textCell(text, special) {
+    const harmless = /^[=+\-@\t\r]/.test(text) ? `'${text}` : text;
+    return special.test(harmless) ? `"${harmless.replaceAll('"', '""')}"` : harmless;
 }

@@ -31,7 +31,8 @@ export function noteTaken(seen, column, value, line, note) {
     else seen.set(value, line);
 }
 
-/** Cents as euros: '25.00'. */
+/** Cents as euros: '25.00', '-1.50'. */
 export function euros(cents) {
-    return `${Math.floor(cents / 100)}.${String(cents % 100).padStart(2, '0')}`;
+    const due = Math.abs(cents);
+    return `${cents < 0 ? '-' : ''}${Math.floor(due / 100)}.${String(due % 100).padStart(2, '0')}`;
 }

@@ -1,7 +1,6 @@
 // The two tables: wages, a row for each member and month, for the wage office; charges, a row for each charge.
 import { writtenCsv } from './csv.mjs';
 import { Disagreement, centsOf } from './account.mjs';
-import { euros } from './fields.mjs';
 import { isoOf } from './trips.mjs';
 
 /**
@@ -102,21 +101,15 @@ export function chargesText(result, format, language) {
 }
 
 function tableText(columns, rows, format, language) {
-    return format === 'json' ? jsonOf(columns, rows) : writtenCsv(csvRows(columns, rows, language), language);
+    return format === 'json' ? jsonOf(columns, rows) : writtenCsv(csvRows(columns, rows), language);
 }
 
 function jsonOf(columns, rows) {
     return `[\n${Array.from(rows, (row) => JSON.stringify(rowByColumn(columns, row))).join(',\n')}\n]\n`;
 }
 
-function* csvRows(columns, rows, language) {
+function* csvRows(columns, rows) {
     const isAmount = columns.map((column) => AMOUNTS.has(column));
     yield columns.map((column) => TITLES[column] ?? column);
-    const cell = (value, i) => (isAmount[i] ? amountText(value, language) : String(value ?? ''));
-    for (const row of rows) yield row.map(cell);
-}
-
-function amountText(cents, language) {
-    if (cents === null) return '';
-    return language === 'de' ? euros(cents).replace('.', ',') : euros(cents);
+    for (const row of rows) yield row.map((value, i) => (isAmount[i] && value !== null ? { cents: value } : value));
 }

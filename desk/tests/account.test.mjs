@@ -2,7 +2,7 @@ import assert from 'node:assert/strict';
 import { test } from 'node:test';
 import { booksText } from '../books.mjs';
 import { chargesText, wagesText } from '../wages.mjs';
-import { TRIPS, engine, run, said } from './support.mjs';
+import { TRIPS, engine, run, said, sample } from './support.mjs';
 
 const EVENING = 'Anna Berg,2026-10-31,22:40,23:55,Münster Hbf,Bielefeld Hbf,,,,,,\n';
 const MORNING = 'Anna Berg,2026-11-01,05:30,06:45,Bielefeld Hbf,Münster Hbf,,,,,,\n';
@@ -191,6 +191,24 @@ test('tables as CSV in both languages and as JSON', () => {
 });
 
 // What the desk adds up is compared with the book's words: a library that kept another book would be found out.
+test('names that a spreadsheet would run as formulas are harmless in every column of every table', () => {
+    const signs = { Westfalen: '=Westfalen', 'Münster Hbf': '@Münster Hbf', 'Anna Berg': '-Anna Berg' };
+    const evil = (text) => text.replace(/Westfalen|Münster Hbf|Anna Berg/g, (name) => signs[name]);
+    const named = (name, trips) => ({ name, bytes: new TextEncoder().encode(evil(TRIPS + trips)) });
+    const trips = [named('=one.csv', MORNING.replace('Hbf,,', 'Hbf,Münster Hbf,')), named('two.csv', EVENING)];
+    const tariff = { areas: evil(sample('areas.csv')), stops: evil(sample('stops.csv')) };
+    const result = run(trips, { ...tariff, members: evil('number;name\n+7;Anna Berg\n') });
+    assert.deepEqual(said(result), []);
+    for (const language of ['de', 'en']) {
+        const tables = [wagesText(result, 'csv', language), chargesText(result, 'csv', language)];
+        for (const cell of tables.flatMap((table) => table.replace('\uFEFF', '').split(/[;,\n]/))) {
+            assert.doesNotMatch(cell, /^[=+@\t\r]|^-(?!\d)/, cell);
+        }
+        assert.match(tables[0], /'-Anna Berg.*'\+7$/m);
+        assert.match(tables[1], /^'=one\.csv.*'-Anna Berg.*'@Münster Hbf.*'@Münster Hbf.*'=Westfalen/m);
+    }
+});
+
 test('sums that do not agree with the book are an error, and nothing is put out', () => {
     const word = (at, by) => (book) => {
         const changed = book.slice();

@@ -93,6 +93,19 @@ test('what is written is read again, in both languages', () => {
     }
 });
 
+test('no text is run as a formula, and amounts stay what they are', () => {
+    const texts = ['=1+1', '+49', '-x', '@a', '\ttab', '\rline', '=a;b,c"d'];
+    for (const language of ['de', 'en']) {
+        const written = writtenCsv([['head'], ...texts.map((text) => [text])], language);
+        const [, ...rows] = rowsOf(decoded(bytes(written)).text).rows;
+        assert.deepEqual(rows.map(({ cells }) => cells[0].replace('\n', '\r')), texts.map((text) => `'${text}`));
+    }
+    assert.equal(writtenCsv([["'=a", 'a=b', ' =c', '1-2', '']], 'en'), "'=a,a=b, =c,1-2,\n");
+    const amounts = [[{ cents: -100 }, { cents: -150 }, { cents: -5 }, { cents: 128610 }, -3, null]];
+    assert.equal(writtenCsv(amounts, 'de'), '\uFEFF-1,00;-1,50;-0,05;1286,10;-3;\n');
+    assert.equal(writtenCsv(amounts, 'en'), '-1.00,-1.50,-0.05,1286.10,-3,\n');
+});
+
 test('near names', () => {
     const names = ['Bielefeld Hbf', 'Münster Hbf', 'Münster Zoo', 'Hamm Hbf'];
     assert.equal(nearest('Muenster Hbf', names), 'Münster Hbf');
