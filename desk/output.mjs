@@ -27,15 +27,3 @@ function writeThrough(name, text) {
         fs.closeSync(file);
     }
 }
-
-/** Members' names as parts of file names, all different. */
-export function fileSafe(names) {
-    const taken = new Set();
-    return names.map((name) => {
-        const plain = name.replace(/[/\\:*?"<>|\p{Cc}]/gu, '_').replace(/^\.+/, '_').slice(0, 80);
-        let own = plain;
-        for (let n = 2; taken.has(own.toLowerCase()); n += 1) own = `${plain}-${n}`;
-        taken.add(own.toLowerCase());
-        return own;
-    });
-}

@@ -144,7 +144,7 @@ function settleAll(desk, tariff, books, due) {
     const inPeriod = ({ month }) => period === null || month === period;
     const members = [];
     let done = 0;
-    for (const [name, own] of tripsByMember(due)) {
+    for (const [name, own] of byName(tripsByMember(due), mistakes.language)) {
         const book = kept.get(name) ?? new Uint8Array(BOOK_BYTES);
         const member = settleMember({ engine, tariff, zone, name, book, trips: own, inPeriod });
         if (member.entries.some(({ refusal }) => refusal?.number === 4)) {
@@ -159,6 +159,12 @@ function settleAll(desk, tariff, books, due) {
     const wages = wagesOf(members, desk.roster);
     agreeWages(wages, members);
     return { members, wages, books: kept, refused: wages.reduce((sum, row) => sum + row.refused, 0) };
+}
+
+/** The members as the language sorts them, numbers in names by their size. */
+function byName(members, language) {
+    const { compare } = new Intl.Collator(language, { numeric: true });
+    return [...members].sort(([one], [other]) => compare(one, other));
 }
 
 /** Tells of each refused trip, and of one that begins too early what it runs into. */

@@ -1,13 +1,17 @@
 // Statements as HTML: for the page, for print, and as a file to keep.
 import { escaped } from './html.mjs';
+import { fileSafe } from './names.mjs';
 import { levelPicture, sampleBar, windowPicture } from './picture.mjs';
 import { membersOf, statementOf } from './statement.mjs';
-import { STATEMENT, monthText } from './words.mjs';
+import { STATEMENT, dateText, monthText } from './words.mjs';
 
-/** A member's statement as an element that can stand in any page. Printed, its header is at the top of each sheet. */
-export function statementHtml(member, result, language) {
+/**
+ * A member's statement as an element that can stand in any page. Printed, its header is at the top of each sheet.
+ * `letter` says from whom it comes and when: {name, contact, date}, each a text that may be empty; null: nothing.
+ */
+export function statementHtml(member, result, language, letter = null) {
     const { title, counts, total, words, windows, foot } = statementOf(member, result, language);
-    return `<article class="statement" lang="${language}">
+    return `<article class="statement" lang="${language}">${letterHtml(letter, language)}
 <header><h2>${escaped(member.name)}</h2><p>${escaped(title)}</p></header>
 <div class="sheet">
 <p class="sum"><span>${escaped(counts)}</span> <strong>${escaped(words.total)} ${escaped(total)}</strong></p>
@@ -15,6 +19,13 @@ ${windows.map((window) => windowHtml(window, words)).join('\n')}
 <footer>${legendHtml(windows, words)}
 <p>${escaped(foot.tariff)}. ${escaped(foot.version)}.</p><p class="hash">${escaped(foot.hash)}</p></footer>
 </div></article>`;
+}
+
+function letterHtml(letter, language) {
+    if (!letter || Object.values(letter).every((text) => text === '')) return '';
+    const { name, contact, date } = letter;
+    const day = date === '' ? '' : dateText(date, language);
+    return `<div class="letter"><p><b>${escaped(name)}</b> ${escaped(contact)}</p><p>${escaped(day)}</p></div>`;
 }
 
 /** A window as a section. Its sum is no `tfoot`, since browsers print that on each sheet, and the sums would add up. */
@@ -76,17 +87,36 @@ function legendHtml(windows, { legend }) {
     return `<p>${states.map((state) => `<span>${sampleBar(state)} ${escaped(legend[state])}</span>`).join(' ')}</p>`;
 }
 
-/** All statements as a file of its own, one member a page when printed. */
-export function statementsDocument(result, language, css) {
-    const title = STATEMENT[language].title(result.period && monthText(result.period, language));
-    const articles = membersOf(result).map((member) => statementHtml(member, result, language));
+// ---- Files of their own
+
+/** All statements as one file, each member beginning on a new sheet when printed. */
+export function statementsDocument(result, language, css, letter) {
+    return documentOf(titleOf(result, language), membersOf(result), result, language, css, letter);
+}
+
+/** What the file of each member is called: 'Anna-Berg-2026-10.html'. */
+export function documentNames({ period, ...result }) {
+    const names = fileSafe(membersOf(result).map(({ name }) => name.replaceAll(' ', '-')));
+    return names.map((name) => `${name}${period === null ? '' : `-${period}`}.html`);
+}
+
+/** A member's statement as a file, to be sent to her. */
+export function memberDocument(member, result, language, css, letter) {
+    return documentOf(`${member.name}, ${titleOf(result, language)}`, [member], result, language, css, letter);
+}
+
+function titleOf({ period }, language) {
+    return STATEMENT[language].title(period && monthText(period, language));
+}
+
+function documentOf(title, members, result, language, css, letter) {
     return `<!DOCTYPE html>
 <html lang="${language}"><head><meta charset="utf-8">
 <meta name="viewport" content="width=device-width, initial-scale=1">
 <meta http-equiv="Content-Security-Policy" content="default-src 'none'; style-src 'unsafe-inline'">
 <title>${escaped(title)}</title><style>${css}</style></head>
 <body class="statements">
-${articles.join('\n')}
+${members.map((member) => statementHtml(member, result, language, letter)).join('\n')}
 </body></html>
 `;
 }

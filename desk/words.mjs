@@ -116,6 +116,11 @@ export function dayText(local, language) {
     return `${weekday} ${Number(day)} ${MONTHS.en[month - 1].slice(0, 3)} ${year}`;
 }
 
+/** The same without the weekday. */
+export function dateText(date, language) {
+    return dayText(date, language).split(' ').slice(1).join(' ');
+}
+
 /** A month '2026-10': 'Oktober 2026'. */
 export function monthText(period, language) {
     return `${MONTHS[language][period.slice(5) - 1]} ${period.slice(0, 4)}`;
@@ -186,6 +191,8 @@ export const STATEMENT = {
         hash: 'Prüfsumme des Tarifs',
         version: (version) => `Berechnet mit Milecopper ${version}`,
         picture: 'Die 24 Stunden des Fensters mit den Fahrten',
+        windows: (number, charged, off) => `${number} Fenster: ${charged}, abgezogen ${off}`,
+        bar: (day, charged, off) => `ab ${day}: ${charged}${off ? `, abgezogen ${off}` : ''}`,
         legend: { priced: 'voller Preis', cut: 'durch einen Deckel gekürzt', refused: 'abgelehnt' },
     },
     en: {
@@ -215,6 +222,8 @@ export const STATEMENT = {
         hash: "The tariff's hash",
         version: (version) => `Computed with Milecopper ${version}`,
         picture: "The window's 24 hours with the trips",
+        windows: (number, charged, off) => `${counted(number, 'window', 'windows')}: ${charged}, taken off ${off}`,
+        bar: (day, charged, off) => `from ${day}: ${charged}${off ? `, taken off ${off}` : ''}`,
         legend: { priced: 'full price', cut: 'cut by a cap', refused: 'refused' },
     },
 };

@@ -1,17 +1,28 @@
-// Files that were chosen or dropped: which is which, and which books a period goes on from.
+// Files that were chosen or dropped: which is which, which one takes another's place, and what is found in a folder.
 import { namesOf } from '../columns.mjs';
 import { headerOf } from '../csv.mjs';
 import { shownText } from '../encoding.mjs';
 import { folded } from '../names.mjs';
 
-/** The files that have to be there. */
-export const SORTS = ['areas', 'stops', 'trips'];
+/** The sorts of files: those that have to be there, and those of which several are taken together. */
+export const SORTS = {
+    areas: { due: true },
+    stops: { due: true },
+    trips: { due: true, several: true },
+    members: {},
+    books: { several: true },
+};
+export const DUE = Object.keys(SORTS).filter((sort) => SORTS[sort].due);
 
-const MARKS = { trips: 'depart', stops: 'x_m', areas: 'per_km' };
+// ---- Which is which
+
+const ENDING = /\.(csv|json)$/i;
+const NAMED = /^(areas|stops|trips|books|members)\b.*\.(csv|json)$/i;
+const MARKS = { trips: 'depart', stops: 'x_m', areas: 'per_km', members: 'number' };
 
 /** What a file holds, by its name, else by the columns that its first line names; null for any other. */
 export function sortOf({ name, bytes }) {
-    const named = /^(areas|stops|trips|books)\b.*\.(csv|json)$/i.exec(name);
+    const named = NAMED.exec(name);
     if (named) return named[1].toLowerCase();
     const start = shownText(bytes.subarray(0, 2000));
     if (start.includes('milecopper books')) return 'books';
@@ -25,29 +36,77 @@ export function linesOf({ bytes }) {
     return shownText(bytes).split(/\r\n|\n|\r/);
 }
 
-/** Of several books those of the last closing before the period; of one file that one, whatever is in it. */
-export function booksBefore(books, period) {
-    if (books.length < 2) return books[0];
-    const closed = (file) => /"period":\s*"(\d{4}-\d{2})"/.exec(shownText(file.bytes))?.[1] ?? '';
-    const before = books.filter((file) => period === null || closed(file) < period);
-    return before.sort((one, other) => (closed(one) < closed(other) ? -1 : 1)).at(-1);
+/** How many lines of a file have something in them. */
+export function rowsIn(file) {
+    return linesOf(file).filter((line) => line.trim() !== '').length;
 }
 
-/** The months of a result's trips, in order, each with their number. */
-export function monthsOf({ members }) {
-    const months = new Map();
-    for (const { entries } of members) {
-        for (const { checkIn } of entries) {
-            const month = checkIn.local.slice(0, 7);
-            months.set(month, (months.get(month) ?? 0) + 1);
-        }
+// ---- Which are kept
+
+/**
+ * The files with one more, and the one whose place it takes, or null. Of trips and books there may be several, and a
+ * file takes the place of one of its name; of the others there is one. What is someone's own takes the sample's place.
+ */
+export function withFile(files, file) {
+    const sameName = (own) => own.name === file.name || !SORTS[file.sort].several;
+    const gone = (own) => own.sort === file.sort && (sameName(own) || own.sample);
+    const replaced = files.find((own) => gone(own) && !own.sample) ?? null;
+    return { files: [...files.filter((own) => !gone(own)), file], replaced };
+}
+
+/** The files as the desk takes them, several by their names, so that the order of choosing does not matter. */
+export function deskFiles(files) {
+    const own = (sort) => files.filter((file) => file.sort === sort).map(({ name, bytes }) => ({ name, bytes }));
+    const inOrder = (list) => list.sort((one, other) => (one.name < other.name ? -1 : 1));
+    return Object.fromEntries(Object.entries(SORTS).map(([sort, { several }]) => {
+        return [sort, several ? inOrder(own(sort)) : own(sort)[0]];
+    }));
+}
+
+// ---- Folders
+
+/** A chosen folder's own files that may be ours; what lies deeper is left alone. */
+export function ofFolder(files) {
+    return [...files].filter(({ name, webkitRelativePath }) => {
+        return ENDING.test(name) && webkitRelativePath.split('/').length <= 2;
+    });
+}
+
+/** What was dropped: files, and of each folder its own files that may be ours. To be called within the drop itself. */
+export function ofDrop({ items, files }) {
+    const entries = [...items].map((item) => item.webkitGetAsEntry?.() ?? null);
+    const handles = [...items].map((item, i) => (entries[i]?.isDirectory ? item.getAsFileSystemHandle?.() : null));
+    const given = [...files];
+    if (!entries.some((entry) => entry?.isDirectory)) return Promise.resolve(given);
+    const found = entries.map((entry, i) => {
+        return entry?.isDirectory ? inFolder(entry, handles[i]) : [items[i]?.getAsFile?.() ?? given[i]];
+    });
+    return Promise.all(found).then((lists) => lists.flat().filter(Boolean));
+}
+
+/** A dropped folder's own files: by its handle, where there is one, since a page from disk may not read its entries. */
+async function inFolder(entry, handle) {
+    const folder = await handle?.catch?.(() => null);
+    if (folder) return byHandle(folder);
+    const entries = await allEntries(entry.createReader());
+    const own = entries.filter(({ isFile, name }) => isFile && ENDING.test(name));
+    return Promise.all(own.map((file) => new Promise((done, fail) => file.file(done, fail))));
+}
+
+async function byHandle(folder) {
+    const found = [];
+    for await (const handle of folder.values()) {
+        if (handle.kind === 'file' && ENDING.test(handle.name)) found.push(await handle.getFile());
     }
-    return [...months].sort(([one], [other]) => (one < other ? -1 : 1)).map(([month, trips]) => ({ month, trips }));
+    return found;
 }
 
-/** The month that is likely meant: of the last two the one with more trips, since a night reaches into the next. */
-export function likelyMonth(months) {
-    const [before, last] = months.slice(-2);
-    if (!last) return before?.month ?? null;
-    return last.trips > before.trips ? last.month : before.month;
+/** A reader gives its entries in portions, and at the end an empty one. */
+async function allEntries(reader) {
+    const all = [];
+    for (;;) {
+        const some = await new Promise((done, fail) => reader.readEntries(done, fail));
+        if (some.length === 0) return all;
+        all.push(...some);
+    }
 }

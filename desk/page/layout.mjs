@@ -1,5 +1,6 @@
 // The page's lists and tables as HTML, from its state.
 import { escaped } from '../html.mjs';
+import { monthPicture, sampleBar } from '../picture.mjs';
 import { moneyText, monthText } from '../words.mjs';
 import { SORTS, linesOf } from './files.mjs';
 import { LABELS } from './labels.mjs';
@@ -12,16 +13,22 @@ function headOf(words) {
 
 // ---- Files
 
-/** Which files are there, and which are not. */
-export function slotsHtml({ language, files, books }) {
-    const { slots, missing, noBooks, lines } = LABELS[language];
-    const rows = (file) => lines(linesOf(file).filter((line) => line.trim() !== '').length);
-    const slot = (sort, given, none) => {
-        const text = given.length > 0 ? given.map((file) => `${file.name} (${rows(file)})`).join(', ') : none;
-        return `<li class="${given.length > 0 ? 'there' : ''}"><b>${escaped(slots[sort])}</b> ${escaped(text)}</li>`;
+/** Which files are there, each with a button that removes it, and which are not. */
+export function slotsHtml({ language, files }) {
+    const { slots, none } = LABELS[language];
+    const slot = (sort) => {
+        const own = files.filter((file) => file.sort === sort);
+        const told = own.map((file) => fileHtml(file, language)).join('') || `<span>${escaped(none[sort])}</span>`;
+        return `<li class="${own.length > 0 ? 'there' : ''}"><b>${escaped(slots[sort])}</b><div>${told}</div></li>`;
     };
-    const own = SORTS.map((sort) => slot(sort, files[sort] ? [files[sort]] : [], missing));
-    return [...own, slot('books', books, noBooks)].join('');
+    return Object.keys(SORTS).map(slot).join('');
+}
+
+function fileHtml({ sort, name, rows }, language) {
+    const { lines, remove } = LABELS[language];
+    const button = `<button type="button" class="remove" data-remove="${escaped(name)}" data-sort="${sort}"
+aria-label="${escaped(remove(name))}" title="${escaped(remove(name))}">×</button>`;
+    return `<span class="file">${escaped(name)} <small>${escaped(lines(rows))}</small>${button}</span>`;
 }
 
 /** What stands in the columns of the trips. */
@@ -43,9 +50,9 @@ export function mistakesHtml(mistakes, state) {
     return files.map((name) => mistakesTable(name, mistakes.filter(({ file }) => file === name), state)).join('');
 }
 
-function mistakesTable(name, mistakes, { language, files, books }) {
+function mistakesTable(name, mistakes, { language, files }) {
     const { mistakeColumns, further } = LABELS[language];
-    const file = [...Object.values(files), ...books].find((own) => own.name === name);
+    const file = files.find((own) => own.name === name);
     const lines = file ? linesOf(file) : [];
     const rows = mistakes.slice(0, MOST_SHOWN).map((mistake) => mistakeRow(mistake, lines, language));
     const rest = mistakes.length - rows.length;
@@ -56,34 +63,79 @@ function mistakesTable(name, mistakes, { language, files, books }) {
 function mistakeRow({ line, kind, text }, lines, language) {
     const there = (lines[line - 1] ?? '').slice(0, 200);
     const told = `<b>${escaped(LABELS[language].kinds[kind])}:</b> ${escaped(text)}`;
-    return `<tr class="${kind}"><th scope="row">${line}</th>
+    const column = escaped(LABELS[language].mistakeColumns.line);
+    return `<tr class="${kind}"><th scope="row" data-column="${column}">${line}</th>
 <td><code>${escaped(there)}</code></td><td>${told}</td></tr>`;
 }
 
 // ---- Months and wages
 
-export function monthsHtml({ language, months, period }) {
+/** The months to choose from; the one meant is among them, whether or not it has trips yet. */
+export function monthsHtml({ language, result: { months, period } }) {
+    const { allMonths, closedMonth } = LABELS[language];
+    const there = months.some(({ month }) => month === period) || period === null;
+    const all = there ? months : [...months, { month: period, closed: false }];
     const option = (value, text) => {
         const selected = value === (period ?? '') ? ' selected' : '';
         return `<option value="${value}"${selected}>${escaped(text)}</option>`;
     };
-    const own = months.map(({ month }) => option(month, monthText(month, language)));
-    return [...own, option('', LABELS[language].allMonths)].join('');
+    const own = all.map(({ month, closed }) => {
+        const name = monthText(month, language);
+        return option(month, closed ? closedMonth(name) : name);
+    });
+    return [...own, option('', allMonths)].join('');
 }
 
-/** The wages' table; a member's name is the button that shows the statement. */
-export function wagesHtml(wages, { language, member }) {
-    const { wages: caption, wageColumns, total } = LABELS[language];
-    const sum = moneyText(wages.reduce((all, { cents }) => all + cents, 0), language);
-    return `<table class="wages"><caption>${escaped(caption)}</caption>${headOf(Object.values(wageColumns))}
-<tbody>${wages.map((row) => wagesRow(row, row.member === member, language)).join('')}</tbody>
-<tfoot><tr><th scope="row" colspan="4">${escaped(total)}</th><td>${escaped(sum)}</td></tr></tfoot></table>`;
+/** The wages' table, with the month at a glance; a member's name is the button that shows the statement. */
+export function wagesHtml({ language, result: { wages, glance, period } }) {
+    const { wages: caption, wageColumns, total, barsTitle } = LABELS[language];
+    const highest = Math.max(1, ...glance.flatMap(({ bars }) => bars.map(({ charged, off }) => charged + off)));
+    const columns = Object.entries(wageColumns).filter(([name]) => name !== 'period' || period === null);
+    const head = columns.map(([name, word]) => {
+        const text = name === 'bars' ? barsTitle(sampleBar('priced'), sampleBar('cut')) : escaped(word);
+        return `<th scope="col" class="${name}">${text}</th>`;
+    });
+    const rows = wages.map((row, i) => rowHtml(columns, cellsOf(row, glance[i], highest, language)));
+    const sums = { ...sumsOf(wages, glance, language), member: escaped(total) };
+    return `<table class="wages"><caption>${escaped(caption)}</caption><thead><tr>${head.join('')}</tr></thead>
+<tbody>${rows.join('')}</tbody><tfoot>${rowHtml(columns, sums)}</tfoot></table>`;
 }
 
-function wagesRow({ member, period, trips, refused, cents }, current, language) {
-    const [name, mark] = [escaped(member), current ? ' aria-current="true"' : ''];
-    const button = `<button type="button" class="member" data-member="${name}"${mark}>${name}</button>`;
-    const cells = [monthText(period, language), trips, refused, moneyText(cents, language)];
-    const row = cells.map((text) => `<td>${escaped(text)}</td>`).join('');
-    return `<tr${current ? ' class="current"' : ''}><th scope="row">${button}</th>${row}</tr>`;
+/** A row's cells by column, as HTML. */
+function cellsOf({ member, period, ...numbers }, glance, highest, language) {
+    const name = escaped(member);
+    return {
+        ...numberCells({ ...numbers, off: glance.off }, language),
+        member: `<button type="button" data-member="${name}">${name}</button>`,
+        period: escaped(monthText(period, language)),
+        bars: monthPicture(glance, highest),
+    };
+}
+
+function sumsOf(wages, glance, language) {
+    const sum = (rows, key) => rows.reduce((all, row) => all + row[key], 0);
+    const [trips, refused, cents] = ['trips', 'refused', 'cents'].map((key) => sum(wages, key));
+    return { ...numberCells({ trips, refused, cents, off: sum(glance, 'off') }, language), period: '', bars: '' };
+}
+
+function numberCells({ trips, refused, off, cents }, language) {
+    return {
+        trips: String(trips),
+        refused: refused === 0 ? '–' : String(refused),
+        off: off === 0 ? '–' : escaped(`−${moneyText(off, language)}`),
+        amount: escaped(moneyText(cents, language)),
+    };
+}
+
+function rowHtml(columns, cells) {
+    const cell = ([name, word]) => {
+        if (name === 'member') return `<th scope="row" class="member">${cells[name]}</th>`;
+        return `<td class="${name}" data-column="${escaped(word)}">${cells[name]}</td>`;
+    };
+    return `<tr>${columns.map(cell).join('')}</tr>`;
+}
+
+/** What is to be thought of before the month is closed. */
+export function doubtsHtml({ result: { closing } }) {
+    return closing.map(({ kind, text }) => `<li class="${kind}">${escaped(text)}</li>`).join('');
 }

@@ -59,7 +59,8 @@ function pageOf(engine) {
         script,
         policy: [
             ...["default-src 'none'", `script-src ${sumOf(script)} 'wasm-unsafe-eval'`],
-            ...[`style-src ${sumOf(own)} ${sumOf(statement)}`, "base-uri 'none'", "form-action 'none'"],
+            ...['worker-src blob:', `style-src ${sumOf(own)} ${sumOf(statement)}`], // a worker has this policy, too
+            ...["base-uri 'none'", "form-action 'none'"],
         ].join('; '),
     };
     return read(HERE, 'index.html').replace(/\{\{([^}]*)\}\}/g, (_, name) => parts[name] ?? inScript(read(DESK, name)));

@@ -1,35 +1,34 @@
 // The page: files in by choosing or dropping, the desk's work on them, and its outcome laid out, saved and printed.
 // Everything is in `state`, and nothing is kept anywhere else.
-import { booksName, booksText } from '../books.mjs';
-import { loadEngine } from '../engine.mjs';
-import { runDesk } from '../run.mjs';
-import { statementHtml, statementsDocument } from '../sheets.mjs';
-import { agreeStatements, membersOf } from '../statement.mjs';
-import { chargesText, wagesText } from '../wages.mjs';
-import { SORTS, booksBefore, likelyMonth, monthsOf, sortOf } from './files.mjs';
+import { todayIn } from '../clock.mjs';
+import { monthText } from '../words.mjs';
+import { clerkWith, serve } from './clerk.mjs';
+import { DUE, deskFiles, ofDrop, ofFolder, rowsIn, sortOf, withFile } from './files.mjs';
 import { LABELS } from './labels.mjs';
-import { columnsHtml, mistakesCount, mistakesHtml, monthsHtml, slotsHtml, wagesHtml } from './layout.mjs';
+import { columnsHtml, doubtsHtml, mistakesCount, mistakesHtml, monthsHtml, slotsHtml, wagesHtml } from './layout.mjs';
 
 const NOTHING = {
-    ...{ files: {}, books: [], notices: [] },
-    ...{ chosen: undefined, months: [], period: null }, // the month that she chose, those that there are, the one meant
-    ...{ result: null, member: null },
+    ...{ files: [], notices: [], newTariff: false },
+    ...{ chosen: undefined, result: null, member: null }, // the month that she chose, what came of it, who is shown
 };
-const state = { language: 'de', ...NOTHING };
+const state = { language: 'de', turn: 0, letter: { name: '', contact: '', date: '' }, ...NOTHING };
 const element = (id) => document.getElementById(id);
 const labels = () => LABELS[state.language];
-let engine;
+const script = globalThis.document?.currentScript.textContent;
+let clerk;
 
 // ---- Files in
 
 async function take(files) {
-    const [unknown, unread] = [[], []];
+    const [unknown, unread, told] = [[], [], []];
     for (const file of files) {
         const taken = await bytesOf(file);
         if (taken === null) unread.push(file.name);
-        else if (!keep(taken)) unknown.push(file.name);
+        else if (taken.sort === null) unknown.push(file.name);
+        else told.push(...keep(taken));
     }
     state.notices = [
+        ...told,
         ...(unknown.length > 0 ? [labels().unknown(unknown.join(', '))] : []),
         ...(unread.length > 0 ? [labels().unread(unread.join(', '))] : []),
     ];
@@ -38,32 +37,37 @@ async function take(files) {
 
 async function bytesOf(file) {
     try {
-        return { name: file.name, bytes: new Uint8Array(await file.arrayBuffer()) };
+        return known({ name: file.name, bytes: new Uint8Array(await file.arrayBuffer()) });
     } catch {
         return null;
     }
 }
 
-/** Puts a file in the place of one of its sort or, among the books, of its name; false where it is none of ours. */
+const known = (file) => ({ ...file, sort: sortOf(file), rows: rowsIn(file) });
+
+/** Keeps a file, and answers what is to be said of the one whose place it takes. */
 function keep(file) {
-    const sort = sortOf(file);
-    if (sort === 'books') state.books = [...state.books.filter(({ name }) => name !== file.name), file];
-    else if (sort !== null) state.files = { ...state.files, [sort]: file };
-    return sort !== null;
+    const { files, replaced } = withFile(state.files, file);
+    Object.assign(state, { files, newTariff: false });
+    if (replaced === null) return [];
+    const { replaced: again, inPlaceOf } = labels();
+    return [replaced.name === file.name ? again(file.name) : inPlaceOf(file.name, replaced.name)];
 }
 
-/** A folder's own files that may be ours; what lies deeper is left alone. */
-function ofFolder(files) {
-    return [...files].filter(({ name, webkitRelativePath }) => {
-        return /\.(csv|json)$/i.test(name) && webkitRelativePath.split('/').length <= 2;
-    });
+function remove({ remove: name, sort }) {
+    state.files = state.files.filter((file) => file.name !== name || file.sort !== sort);
+    state.notices = [];
+    return work();
 }
 
 const sampleText = (sort) => element(`sample-${sort}`).textContent;
 
 async function trySample() {
     forget();
-    for (const sort of SORTS) keep({ name: `${sort}.csv`, bytes: new TextEncoder().encode(sampleText(sort)) });
+    for (const sort of DUE) {
+        const bytes = new TextEncoder().encode(sampleText(sort));
+        keep({ ...known({ name: `${sort}.csv`, bytes }), sample: true });
+    }
     await work();
 }
 
@@ -73,30 +77,47 @@ function forget() {
 
 // ---- The work
 
-/** Runs the desk on what is there, if all is there, and shows what came of it. */
+const today = () => todayIn('Europe/Berlin');
+
+/** Has the desk run on what is there, if all is there, and shows what came of it, unless it is out of date by then. */
 async function work() {
+    const turn = (state.turn += 1);
     state.result = null;
     show();
-    if (!SORTS.every((sort) => sort in state.files)) return;
+    if (!DUE.every((sort) => state.files.some((file) => file.sort === sort))) return;
     tell(labels().working);
-    await new Promise((done) => setTimeout(done, 30)); // so that this is seen
-    state.months = monthsOf(desk(null, undefined));
-    const known = state.chosen === null || state.months.some(({ month }) => month === state.chosen);
-    state.period = known ? state.chosen : likelyMonth(state.months);
-    const result = desk(state.period, booksBefore(state.books, state.period));
-    agreeStatements(result);
+    showProgress({});
+    const { chosen, language, newTariff } = state;
+    await clerk.ask('files', deskFiles(state.files));
+    const values = { chosen, language, newTariff, today: today() };
+    const result = await clerk.ask('run', values, (told) => turn === state.turn && showProgress(told));
+    if (turn !== state.turn) return;
     state.result = result;
+    rememberSender(result.association);
     show();
+    await showStatement();
 }
 
-function desk(period, books) {
-    return runDesk({ engine, files: { ...state.files, books }, period, language: state.language });
+/** The sender that the books name, unless she has written one. */
+function rememberSender(association) {
+    const { name, contact } = state.letter;
+    if (association && name === '' && contact === '') Object.assign(state.letter, association);
+    for (const key of ['name', 'contact']) element(`letter-${key}`).value = state.letter[key];
 }
 
 // ---- What is shown
 
 function tell(text) {
-    element('status').textContent = [text, ...state.notices].filter((part) => part !== '').join(' ');
+    element('status').textContent = [text, ...state.notices].filter((part) => part !== '').join('\n');
+}
+
+/** How far the work is; without numbers, that there is some; of null, nothing. */
+function showProgress(told) {
+    const bar = element('progress');
+    bar.hidden = told === null;
+    bar.setAttribute('aria-label', labels().progress);
+    if (told?.all) Object.assign(bar, { max: told.all, value: told.done });
+    else bar.removeAttribute('value');
 }
 
 function show() {
@@ -108,101 +129,136 @@ function show() {
     }
     element('slots').innerHTML = slotsHtml(state);
     element('columns').innerHTML = columnsHtml(state);
-    element('forget').hidden = Object.keys(state.files).length + state.books.length === 0;
+    element('forget').hidden = state.files.length === 0;
+    document.body.classList.toggle('have', DUE.every((sort) => state.files.some((file) => file.sort === sort)));
     showResult();
 }
 
+/** With errors the month can still be chosen: it may be what is wrong. */
 function showResult() {
     const { result } = state;
     const settled = result !== null && result.errors === 0;
+    showProgress(null);
     element('mistakes').hidden = result === null || result.mistakes.length === 0;
+    element('month').hidden = result === null || (!settled && result.months.length === 0);
     element('result').hidden = !settled;
-    element('one').hidden = !settled;
+    element('one').hidden = true;
     element('statement').innerHTML = '';
     if (result === null) return tell('');
     showMistakes(result);
+    element('period').innerHTML = monthsHtml(state);
     if (settled) showWages(result);
-    tell(settled ? statusOf(result) : labels().notPriced);
+    return tell(settled ? statusOf(result) : labels().notPriced);
 }
 
-function statusOf({ wages, refused }) {
-    const members = new Set(wages.map(({ member }) => member)).size;
+function statusOf({ wages, members, refused }) {
     const trips = wages.reduce((sum, row) => sum + row.trips, 0);
     const { nothing, priced, refused: told } = labels();
-    return members === 0 ? nothing : [priced(trips, members), ...(refused > 0 ? [told(refused)] : [])].join(' ');
+    return members.length === 0
+        ? nothing
+        : [priced(trips, members.length), ...(refused > 0 ? [told(refused)] : [])].join(' ');
 }
 
 function showMistakes({ mistakes, errors }) {
     const { mend, look } = labels();
     element('mistakes-heading').textContent = mistakesCount(state);
     element('mistakes-hint').textContent = errors > 0 ? mend : look;
+    element('new-tariff').hidden = !mistakes.some(({ key }) => key === 'booksPrices');
     element('mistakes-lists').innerHTML = mistakesHtml(mistakes, state);
 }
 
-/** The wages, and the statement of the member that was chosen, or of the first. */
-function showWages(result) {
-    const { booksHint, booksHintAll } = labels();
-    const members = membersOf(result);
-    const member = members.find(({ name }) => name === state.member) ?? members[0];
-    state.member = member?.name ?? null;
-    element('period').innerHTML = monthsHtml(state);
-    element('wages').innerHTML = wagesHtml(result.wages, state);
-    element('close').disabled = state.period === null;
-    element('books-hint').textContent = state.period === null ? booksHintAll : booksHint;
-    element('one').hidden = member === undefined;
-    if (member) element('statement').innerHTML = statementHtml(member, result, state.language);
+function showWages({ members }) {
+    if (!members.includes(state.member)) state.member = members[0] ?? null;
+    element('wages').innerHTML = members.length > 0 ? wagesHtml(state) : '';
+    element('force').checked = false;
+    showClosing();
 }
 
-function showMember(name) {
+/** Whether the month can be closed, what speaks against it, and that she wants it all the same. */
+function showClosing() {
+    const { period, months, closing } = state.result;
+    const { booksHint, booksHintAll, booksHintClosed } = labels();
+    const closed = months.some(({ month, closed: is }) => is && month === period);
+    const doubtful = closing.some(({ kind }) => kind === 'error');
+    const open = period !== null && !closed;
+    element('books-hint').textContent = open ? booksHint : closed ? booksHintClosed : booksHintAll;
+    element('doubts').innerHTML = open ? doubtsHtml(state) : '';
+    element('sure').hidden = !open || !doubtful;
+    element('close').disabled = !open || (doubtful && !element('force').checked);
+}
+
+// ---- The statement that is shown
+
+async function showStatement() {
+    const { member, turn, letter, result } = state;
+    if (result === null || result.errors > 0 || member === null) return;
+    const html = await clerk.ask('statement', { name: member, letter });
+    if (turn !== state.turn || member !== state.member) return;
+    element('statement').innerHTML = html;
+    element('one').hidden = false;
+    markMember();
+}
+
+/** Marks who is shown in the list, and names who comes before and behind. */
+function markMember() {
+    const { members } = state.result;
+    for (const button of document.querySelectorAll('[data-member]')) {
+        const current = button.dataset.member === state.member;
+        button.toggleAttribute('aria-current', current);
+        button.closest('tr').classList.toggle('current', current);
+    }
+    for (const button of document.querySelectorAll('[data-step]')) {
+        const name = members[members.indexOf(state.member) + Number(button.dataset.step)] ?? '';
+        button.disabled = name === '';
+        button.title = labels().steps[button.dataset.step](name);
+        button.setAttribute('aria-label', button.title);
+    }
+}
+
+async function showMember(name) {
     state.member = name;
-    showWages(state.result);
-    document.querySelector('[data-member][aria-current]').focus();
+    await showStatement();
+    element('one').scrollIntoView({ block: 'start' });
     tell(labels().shown(name));
+}
+
+function step(by) {
+    const { members } = state.result;
+    return showMember(members[members.indexOf(state.member) + Number(by)]);
 }
 
 // ---- Out: saving and printing
 
-const SAVED = {
-    wages: {
-        type: 'text/csv',
-        name: (tail) => `wages${tail}.csv`,
-        text: ({ result, language }) => wagesText(result, 'csv', language),
-    },
-    charges: {
-        type: 'text/csv',
-        name: (tail) => `charges${tail}.csv`,
-        text: ({ result, language }) => chargesText(result, 'csv', language),
-    },
-    statements: {
-        type: 'text/html',
-        name: (tail) => `statements${tail}.html`,
-        text: ({ result, language }) => statementsDocument(result, language, element('statement-style').textContent),
-    },
-    books: {
-        type: 'application/json',
-        name: () => booksName(state.period),
-        text: ({ result }) => booksText(result),
-    },
-};
-
-function save(what) {
-    const { type, name, text } = SAVED[what];
-    download(name(state.period === null ? '' : `-${state.period}`), type, text(state));
+async function saved(what) {
+    const { letter, member: name } = state;
+    const css = element('statement-style').textContent;
+    const file = await clerk.ask('saved', { what, name, letter, css, today: today() });
+    download(file);
+    return file;
 }
 
-function download(name, type, text) {
+function download({ name, type, content }) {
     const link = document.createElement('a');
-    link.href = URL.createObjectURL(new Blob([text], { type: `${type};charset=utf-8` }));
+    link.href = URL.createObjectURL(new Blob([content], { type }));
     link.download = name;
     link.click();
     setTimeout(() => URL.revokeObjectURL(link.href), 10000);
     tell(labels().saved(name));
 }
 
+/** Saves the books, and goes on from them to the month that is open then. */
+async function closeMonth() {
+    const month = monthText(state.result.period, state.language);
+    const { name, content } = await saved('books');
+    keep(known({ name, bytes: new TextEncoder().encode(content) }));
+    state.chosen = undefined;
+    state.notices = [labels().closed(month, name)];
+    await work();
+}
+
 /** All statements are there only while they are printed: of a thousand members they would be a heavy page. */
-function printAll() {
-    const { result, language } = state;
-    element('all').innerHTML = membersOf(result).map((member) => statementHtml(member, result, language)).join('\n');
+async function printAll() {
+    element('all').innerHTML = await clerk.ask('statements', { letter: state.letter });
     window.print();
 }
 
@@ -213,10 +269,17 @@ function listen() {
     on('choose-files', 'change', ({ target }) => takeFrom(target, target.files));
     on('choose-folder', 'change', ({ target }) => takeFrom(target, ofFolder(target.files)));
     on('sample', 'click', trySample);
-    on('forget', 'click', () => (forget(), show(), element('choose-files').focus()));
+    on('forget', 'click', () => (forget(), work(), element('choose-files').focus()));
     on('period', 'change', ({ target }) => ((state.chosen = target.value || null), work()));
+    on('new-tariff', 'click', () => ((state.newTariff = true), work()));
+    on('force', 'change', showClosing);
+    on('close', 'click', closeMonth);
     on('print-one', 'click', () => window.print());
     on('print-all', 'click', printAll);
+    on('to-list', 'click', toList);
+    for (const key of Object.keys(state.letter)) {
+        on(`letter-${key}`, 'change', ({ target }) => ((state.letter[key] = target.value.trim()), showStatement()));
+    }
     window.addEventListener('afterprint', () => (element('all').innerHTML = ''));
     document.addEventListener('click', ({ target }) => clicked(target.closest('button')));
     listenToDrops();
@@ -238,11 +301,18 @@ function takeFrom(input, files) {
     return take(chosen);
 }
 
+function toList() {
+    element('month').scrollIntoView({ block: 'start' });
+    document.querySelector('[data-member][aria-current]')?.focus({ preventScroll: true });
+}
+
 function clicked(button) {
-    const { language, save: what, member, sample } = button?.dataset ?? {};
-    if (what) save(what);
+    const { language, save, member, sample, remove: name, step: by } = button?.dataset ?? {};
+    if (save) saved(save);
     else if (member) showMember(member);
-    else if (sample) download(`${sample}.csv`, 'text/csv', sampleText(sample));
+    else if (by) step(by);
+    else if (name) remove(button.dataset);
+    else if (sample) download({ name: `${sample}.csv`, type: 'text/csv;charset=utf-8', content: sampleText(sample) });
     else if (language) changeLanguage(language);
 }
 
@@ -257,22 +327,24 @@ function listenToDrops() {
     const over = (is) => document.body.classList.toggle('over', is);
     document.addEventListener('dragover', (event) => (event.preventDefault(), over(true)));
     document.addEventListener('dragleave', ({ relatedTarget }) => relatedTarget === null && over(false));
-    document.addEventListener('drop', (event) => {
+    document.addEventListener('drop', async (event) => {
         event.preventDefault();
         over(false);
-        take([...event.dataTransfer.files]);
+        await take(await ofDrop(event.dataTransfer));
     });
 }
 
 /** The page's start: the engine from the page itself. '#try' at the address's end begins with the sample. */
 async function begin() {
-    const encoded = element('engine').textContent;
-    engine = await loadEngine(Uint8Array.from(atob(encoded), (sign) => sign.charCodeAt(0)));
-    element('version').textContent = `Milecopper ${engine.version}`;
+    const engine = Uint8Array.from(atob(element('engine').textContent), (sign) => sign.charCodeAt(0));
+    clerk = await clerkWith(script, engine);
+    element('version').textContent = `Milecopper ${await clerk.ask('version')}`;
+    element('letter-date').value = state.letter.date = today();
     listen();
     show();
     if (location.hash === '#try') await trySample();
     document.body.dataset.ready = 'true';
 }
 
-begin();
+if (globalThis.document) begin();
+else serve(globalThis);

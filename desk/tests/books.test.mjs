@@ -27,7 +27,7 @@ function older(text) {
 test('books keep each trip of their month, with its stops in words and what it was charged', () => {
     const books = JSON.parse(closedOf(OCTOBER + MORNING, '2026-10'));
     assert.deepEqual([books.form, books.period, books.before], ['milecopper books 2', '2026-10', null]);
-    const [cem, anna] = books.members;
+    const [anna, cem] = books.members; // by name
     assert.equal(cem.member, 'Cem');
     const { cents: charged, ...ride } = cem.trips[0];
     assert.deepEqual(ride, {
@@ -44,7 +44,7 @@ test('books keep each trip of their month, with its stops in words and what it w
     ]);
     assert.equal(books.stops['Münster Hbf'], 'ms-hbf');
     const next = JSON.parse(closedOf(OCTOBER + MORNING, '2026-11', { books: JSON.stringify(books) }));
-    assert.deepEqual([next.before, next.members.map(({ trips }) => trips.length)], ['2026-10', [0, 1]]);
+    assert.deepEqual([next.before, next.members.map(({ trips }) => trips.length)], ['2026-10', [1, 0]]);
 });
 
 test('a late trip of a closed month is named, with its line and what to do; what the books have is not told', () => {

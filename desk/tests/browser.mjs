@@ -16,7 +16,7 @@ export async function until(isTrue, what) {
     }
 }
 
-/** Starts the browser with a fresh profile. `page(url)` opens a page; `close()` ends the browser. */
+/** Starts the browser with a fresh profile. `page(url, first)` opens a page, with a script that runs before its own. */
 export async function startBrowser() {
     const folder = mkdtempSync(path.join(os.tmpdir(), 'milecopper-browser-'));
     const own = ['--headless=new', '--remote-debugging-pipe', `--user-data-dir=${folder}/profile`, ...ROOT_NEEDS];
@@ -29,7 +29,7 @@ export async function startBrowser() {
         await ended;
         rmSync(folder, { recursive: true, force: true, maxRetries: 5 });
     };
-    return { folder, send: talk.send, page: (url) => openPage(talk, url), close };
+    return { folder, send: talk.send, page: (url, first) => openPage(talk, url, first), close };
 }
 
 /** Commands and answers as JSON with a zero byte behind each; events go to whoever listens. */
@@ -59,7 +59,7 @@ function talkOver(out, back, ended) {
     return { send, listen: (listener) => listeners.add(listener) };
 }
 
-async function openPage({ send, listen }, url) {
+async function openPage({ send, listen }, url, first = '') {
     const { targetId } = await send('Target.createTarget', { url: 'about:blank' });
     const { sessionId } = await send('Target.attachToTarget', { targetId, flatten: true });
     const own = (method, params) => send(method, params, sessionId);
@@ -71,6 +71,7 @@ async function openPage({ send, listen }, url) {
         if (method === 'Log.entryAdded' && params.entry.level === 'error') complaints.push(params.entry.text);
     });
     for (const domain of ['Page', 'Runtime', 'Network', 'Log', 'DOM']) await own(`${domain}.enable`);
+    if (first !== '') await own('Page.addScriptToEvaluateOnNewDocument', { source: first });
     await own('Page.navigate', { url });
     return { send: own, complaints, requests, ...doing(own) };
 }

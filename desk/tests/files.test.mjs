@@ -1,15 +1,15 @@
-// Files that are dropped on the page: which is which, which books and which month are meant.
+// Files that are dropped on the page: which is which, and which are kept.
 import assert from 'node:assert/strict';
 import { test } from 'node:test';
-import { booksBefore, likelyMonth, linesOf, monthsOf, sortOf } from '../page/files.mjs';
+import { deskFiles, linesOf, sortOf, withFile } from '../page/files.mjs';
 import { sample } from './support.mjs';
 
 const file = (name, text) => ({ name, bytes: new TextEncoder().encode(text) });
 
 test('a file is known by its name', () => {
     const sorts = (...names) => names.map((name) => sortOf(file(name, '')));
-    const known = sorts('areas.csv', 'Stops 2026.CSV', 'trips-oktober.csv', 'books-2026-09.json');
-    assert.deepEqual(known, ['areas', 'stops', 'trips', 'books']);
+    const known = sorts('areas.csv', 'Stops 2026.CSV', 'trips-oktober.csv', 'books-2026-09.json', 'members.csv');
+    assert.deepEqual(known, ['areas', 'stops', 'trips', 'books', 'members']);
     const others = sorts('notes.csv', 'trips.csv.bak', 'tripsters.csv', 'trips.xlsx', '');
     assert.deepEqual(others, [null, null, null, null, null]);
 });
@@ -18,6 +18,7 @@ test('and else by the columns that it names', () => {
     for (const sort of ['areas', 'stops', 'trips']) {
         assert.equal(sortOf(file('Tabelle 1.csv', `\uFEFF${sample(`${sort}.csv`).toUpperCase()}`)), sort);
     }
+    assert.equal(sortOf(file('Stammdaten.csv', 'number;name;email')), 'members');
     assert.equal(sortOf(file('alt.json', '{"form": "milecopper books 1",')), 'books');
     assert.equal(sortOf(file('x.csv', 'a;b\ndepart;x_m')), null);
 });
@@ -26,23 +27,32 @@ test('lines are counted as the mistakes count them', () => {
     assert.deepEqual(linesOf(file('x', 'a\r\nb\n\rc')), ['a', 'b', '', 'c']);
 });
 
-test('of several books those of the last closing before the period', () => {
-    const closed = (month) => file(`books-${month}.json`, `{"period": "${month}"}`);
-    const books = ['2026-09', '2026-11', '2026-10'].map(closed);
-    assert.equal(booksBefore(books, '2026-11').name, 'books-2026-10.json');
-    assert.equal(booksBefore(books, null).name, 'books-2026-11.json');
-    assert.equal(booksBefore(books, '2026-09'), undefined);
-    assert.equal(booksBefore([], '2026-09'), undefined);
-    assert.equal(booksBefore(books.slice(1, 2), '2026-09').name, 'books-2026-11.json'); // told to be closed already
+test('a second file of trips is added; one of its name takes its place, and so does an area’s or stop’s', () => {
+    const own = (sort, name, rest = {}) => ({ sort, name, bytes: new Uint8Array(), ...rest });
+    const all = (...files) => files.reduce((kept, one) => withFile(kept, one).files, []);
+    const names = (files) => files.map(({ name }) => name);
+    const [october, late] = [own('trips', 'trips-10.csv'), own('trips', 'late.csv')];
+    const kept = all(own('areas', 'areas.csv'), october, late, own('books', 'books-2026-09.json'));
+    assert.deepEqual(names(kept), ['areas.csv', 'trips-10.csv', 'late.csv', 'books-2026-09.json']);
+    const again = withFile(kept, own('trips', 'trips-10.csv', { rows: 3 }));
+    assert.equal(again.replaced, october);
+    assert.equal(again.files.length, 4);
+    assert.equal(withFile(kept, own('areas', 'Gebiete.csv')).replaced.name, 'areas.csv');
+    assert.equal(withFile(kept, own('trips', 'trips-11.csv')).replaced, null);
 });
 
-test('the month that is likely meant', () => {
-    const months = (...numbers) => numbers.map((trips, i) => ({ month: `2026-0${i + 1}`, trips }));
-    assert.equal(likelyMonth(months(9, 8, 2)), '2026-02');
-    assert.equal(likelyMonth(months(9, 2, 8)), '2026-03');
-    assert.equal(likelyMonth(months(3)), '2026-01');
-    assert.equal(likelyMonth([]), null);
-    const locals = ['2026-11-01T05:30', '2026-10-31T22:40', '2026-11-02T05:30'];
-    const found = monthsOf({ members: [{ entries: locals.map((local) => ({ checkIn: { local } })) }] });
-    assert.deepEqual(found, [{ month: '2026-10', trips: 1 }, { month: '2026-11', trips: 2 }]);
+test('what is someone’s own takes the sample’s place, sort by sort', () => {
+    const own = (sort, name, sample) => ({ sort, name, bytes: new Uint8Array(), sample });
+    const sampled = [own('areas', 'areas.csv', true), own('stops', 'stops.csv', true), own('trips', 'trips.csv', true)];
+    const { files, replaced } = withFile(sampled, own('trips', 'October.csv'));
+    assert.deepEqual(files.map(({ name }) => name), ['areas.csv', 'stops.csv', 'October.csv']);
+    assert.equal(replaced, null);
+});
+
+test('the desk is given files of trips and books by their names, and one of each other sort', () => {
+    const own = (sort, name) => ({ ...file(name, name), sort, rows: 1 });
+    const given = deskFiles([own('trips', 'b.csv'), own('stops', 's.csv'), own('trips', 'a.csv')]);
+    assert.deepEqual(given.trips.map(({ name }) => name), ['a.csv', 'b.csv']);
+    assert.deepEqual(Object.keys(given.stops), ['name', 'bytes']);
+    assert.deepEqual([given.areas, given.members, given.books], [undefined, undefined, []]);
 });

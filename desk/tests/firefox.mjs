@@ -97,7 +97,8 @@ async function openPage(send, url) {
     await send('WebDriver:Navigate', { url });
     const ask = async (expression) => {
         const script = `const done = arguments[arguments.length - 1];
-            Promise.resolve().then(() => (${expression})).then((value) => done({ value }), (error) => done({ error: String(error) }));`;
+            Promise.resolve().then(() => (${expression}))
+                .then((value) => done({ value }), (error) => done({ error: String(error) }));`;
         const { value } = await send('WebDriver:ExecuteAsyncScript', { script, args: [] });
         if (value.error !== undefined) throw new Error(value.error);
         return value.value;

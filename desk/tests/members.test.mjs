@@ -15,11 +15,11 @@ test('members.csv: the wages have the personnel number behind the amount, as CSV
     assert.equal(
         wagesText(result, 'csv', 'en'),
         'member,period,trips,refused,amount,number\n' +
-            'Cem Yıldız,2026-10,1,0,2.00,4711\nAnna Berg,2026-10,1,0,2.00,0017\n',
+            'Anna Berg,2026-10,1,0,2.00,0017\nCem Yıldız,2026-10,1,0,2.00,4711\n', // by name
     );
     assert.match(wagesText(result, 'csv', 'de'), /^\uFEFFmember;period;trips;refused;amount;number\n/);
     assert.deepEqual(
-        JSON.parse(wagesText(result, 'json', 'en'))[1],
+        JSON.parse(wagesText(result, 'json', 'en'))[0],
         { member: 'Anna Berg', period: '2026-10', trips: 1, refused: 0, cents: 200, number: '0017' },
     );
     assert.deepEqual(result.roster.get('Anna Berg'), { number: '0017', email: 'anna@example.org' });

@@ -51,7 +51,8 @@ function sheetsOf(pdf) {
 
 /** All amounts in cents behind the word, sheet by sheet. */
 function centsBehind(sheets, word) {
-    const found = sheets.flatMap((sheet) => [...sheet.matchAll(new RegExp(`^\\s*${word}\\b.*?(€?[\\d.,]+)\\s*€?$`, 'gm'))]);
+    const line = new RegExp(`^\\s*${word}\\b.*?(€?[\\d.,]+)\\s*€?$`, 'gm');
+    const found = sheets.flatMap((sheet) => [...sheet.matchAll(line)]);
     return found.map(([, amount]) => Number(amount.replace(/\D/g, '')));
 }
 
@@ -71,7 +72,7 @@ function addsUp(sheets, result, language, month) {
     assert.ok(owners.filter((name) => name === 'Zoe Lang').length > 1, 'one window breaks over sheets');
 }
 
-test('printed by Chromium, each window has one sum, and each sheet name, month and number', { skip: READER }, async () => {
+test('printed, each window has one sum, and each sheet name, month and number', { skip: READER }, async () => {
     for (const [language, month, number] of [
         ['de', /Abrechnung Oktober 2026/, (i, all) => `Seite ${i} von ${all}`],
         ['en', /Statement for October 2026/, (i, all) => `Page ${i} of ${all}`],
@@ -79,7 +80,7 @@ test('printed by Chromium, each window has one sum, and each sheet name, month a
         const result = run(longTrips(), { period: '2026-10', language });
         const sheets = sheetsOf(await printedByChromium(written(result, language)));
         addsUp(sheets, result, language, month);
-        sheets.forEach((sheet, i) => assert.ok(sheet.includes(number(i + 1, sheets.length)), number(i + 1, sheets.length)));
+        sheets.forEach((sheet, i) => assert.ok(sheet.includes(number(i + 1, sheets.length)), sheet));
     }
 });
 
@@ -94,7 +95,8 @@ test('a window that fits on a sheet is kept together', { skip: READER }, async (
     const result = run(sample('trips.csv'), { period: '2026-10', language: 'de' });
     const sheets = sheetsOf(await printedByChromium(written(result, 'de')));
     for (const sheet of sheets) {
-        const [begun, ended] = [/^\s*(24-Stunden-Fenster ab|Außerhalb)/gm, /^\s*Summe\b/gm].map((mark) => sheet.match(mark) ?? []);
+        const marks = [/^\s*(24-Stunden-Fenster ab|Außerhalb)/gm, /^\s*Summe\b/gm];
+        const [begun, ended] = marks.map((mark) => sheet.match(mark) ?? []);
         assert.ok(begun.length > 0, 'a sheet of the foot alone');
         assert.equal(begun.length, ended.length, sheet);
     }
