@@ -1,12 +1,8 @@
 // The desk's charges are those of the program that settles a roll (crates/settle_roll), on the same trips: random ones
 // of several members, mixed in one file, among them broken, refused and capped ones, in both clock-change nights too.
 import assert from 'node:assert/strict';
-import { spawnSync } from 'node:child_process';
-import fs from 'node:fs';
-import os from 'node:os';
-import path from 'node:path';
 import { test } from 'node:test';
-import { tripBytes } from '../trips.mjs';
+import { deskLines, rollLines } from './rolls.mjs';
 import { TRIPS, built, numbers, run, sample } from './support.mjs';
 
 const IDS = sample('stops.csv').split('\n').slice(1).filter(Boolean).map((line) => line.split(';')[0]);
@@ -25,32 +21,6 @@ function randomTrip(below, member) {
     return [`Member ${member}`, DAYS[below(DAYS.length)], time(start), time(end), stop(), stop(), ...rest].join(',');
 }
 
-function rollLines(program, tariff, trips) {
-    const folder = fs.mkdtempSync(path.join(os.tmpdir(), 'roll-'));
-    try {
-        fs.writeFileSync(path.join(folder, 'tariff.bin'), tariff);
-        const input = Buffer.concat(trips.map(tripBytes));
-        const { stdout, status } = spawnSync(program, { cwd: folder, input, encoding: 'utf8' });
-        assert.equal(status, 0);
-        return stdout.trim().split('\n');
-    } finally {
-        fs.rmSync(folder, { recursive: true });
-    }
-}
-
-/** What the program would print of a member, out of the desk's entries. */
-function deskLines({ entries }) {
-    const lines = entries.flatMap(({ accepted, refusal, parts }, i) => {
-        if (!accepted) return [`${i + 1} refused ${refusal.number}`];
-        const cents = (part) => part.riders.reduce((sum, { charge }) => sum + charge, 0);
-        return parts.map((part) => [i + 1, part.area, part.km, part.minutes, part.opening, cents(part)].join(' '));
-    });
-    const accepted = entries.filter((entry) => entry.accepted);
-    const sum = accepted.reduce((all, { cents }) => all + cents, 0);
-    const tail = `accepted ${accepted.length} refused ${entries.length - accepted.length} cents ${sum}`;
-    return ['trip area km min open cents', ...lines, tail];
-}
-
 test('the charges are those of the roll program, line by line', () => {
     const program = built('program');
     const seen = { accepted: 0, refused: 0, broken: 0, cut: 0 };
@@ -62,7 +32,7 @@ test('the charges are those of the roll program, line by line', () => {
         for (const member of result.members) {
             assert.deepEqual(
                 deskLines(member),
-                rollLines(program, result.tariff.bytes, member.entries),
+                rollLines(program, [], result.tariff.bytes, member.entries),
                 `seed ${seed}, ${member.name}`,
             );
             for (const { accepted, parts = [] } of member.entries) {

@@ -7,6 +7,8 @@ import { mistakeLine } from '../mistakes.mjs';
 import { runDesk } from '../run.mjs';
 import { builtEngine } from './built.mjs';
 
+export { numbers } from './numbers.mjs';
+
 export const ROOT = path.dirname(path.dirname(path.dirname(fileURLToPath(import.meta.url))));
 export const SAMPLE = path.join(ROOT, 'desk/sample');
 
@@ -33,15 +35,4 @@ export function formatBytes(name) {
     const page = fs.readFileSync(path.join(ROOT, 'docs/FORMAT.md'), 'utf8');
     const block = page.split(`\`\`\`${name}\n`)[1].split('```')[0];
     return Uint8Array.from(block.split(/\s+/).filter(Boolean).map((byte) => parseInt(byte, 16)));
-}
-
-/** Numbers below `most` that look random and are the same each time (mulberry32). */
-export function numbers(seed) {
-    let state = seed;
-    return (most) => {
-        state = (state + 0x6d2b79f5) | 0;
-        let t = Math.imul(state ^ (state >>> 15), 1 | state);
-        t = (t + Math.imul(t ^ (t >>> 7), 61 | t)) ^ t;
-        return ((t ^ (t >>> 14)) >>> 0) % most;
-    };
 }
