@@ -30,6 +30,7 @@ export function booksIn(desk, tariff, closings) {
     const file = closings.get(lastOf(due));
     const books = file ? readBooks(file, mistakes) : null;
     if (books === null) return null;
+    if (closings.get(books.period) !== file) return mistakes.error(file.name, 1, 'booksBroken'); // says two months
     if (period !== null && books.period >= period) {
         mistakes.error(file.name, 1, 'booksClosed', { closed: books.period, period });
     }
@@ -53,7 +54,7 @@ function fitTariff({ newTariff, zone, mistakes }, tariff, books, { name }) {
     if (values === tariff.values) return null;
     const end = startOf(zone, monthBehind(period));
     const open = [...books.books].filter(([, book]) => openUntil(book) > end).map(([member]) => member);
-    if (newTariff) return mistakes.warning(name, 1, 'newTariff', { open });
+    if (newTariff) return mistakes.note('warning', name, 1, 'newTariff', { open }); // no error if strict: it is meant
     return mistakes.error(name, 1, 'booksPrices', { open });
 }
 

@@ -1,7 +1,7 @@
 // Who is who, from the optional members.csv: personnel numbers, for the wages, and which names there are.
 import { readTable } from './csv.mjs';
 import { noteTaken } from './fields.mjs';
-import { nearest, tidy } from './names.mjs';
+import { nearest, personFinder, tidy } from './names.mjs';
 
 /** The columns of members.csv, and whether each has to be there. */
 export const MEMBER_COLUMNS = { number: true, name: true, email: false };
@@ -22,6 +22,8 @@ export function readMembers(file, mistakes) {
     );
 }
 
+const MOST_SUGGESTIONS = 100; // by letters: looking for them takes time, and more unknown names are another crew's
+
 /** Every member of the trips has to be among the members: told once a name, at its first trip. */
 export function checkMembers(trips, members, { name }, mistakes) {
     const unknown = new Map();
@@ -30,8 +32,11 @@ export function checkMembers(trips, members, { name }, mistakes) {
         const known = unknown.get(trip.member);
         unknown.set(trip.member, { first: known?.first ?? trip, count: (known?.count ?? 0) + 1 });
     }
+    const names = [...members.keys()];
+    const finder = personFinder();
+    for (const own of names) finder.add(own);
     for (const [value, { first, count }] of unknown) {
-        const near = nearest(value, [...members.keys()]);
+        const near = finder.near(value) ?? (unknown.size <= MOST_SUGGESTIONS ? nearest(value, names) : null);
         mistakes.error(first.file, first.line, 'noMember', { value, count, near, members: name });
     }
 }

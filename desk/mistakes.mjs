@@ -15,18 +15,31 @@ const place = {
     en: ({ file, line }) => (file ? `${file}:${line}` : `line ${line}`),
 };
 
+const MOST_NAMES = 40;
+
+/** Names one behind another; of more than can be looked at how many there are besides. */
+const listed = {
+    de: (names) => listOf(names, (rest) => ` und ${rest} weitere`),
+    en: (names) => listOf(names, (rest) => ` and ${rest} more`),
+};
+
+function listOf(names, more) {
+    const rest = names.length - MOST_NAMES;
+    return names.slice(0, MOST_NAMES).join(', ') + (rest > 0 ? more(rest) : '');
+}
+
 /** What new prices mean for windows that are open: of whom. */
 const mixed = {
     de: (open) =>
         open.length === 0
             ? 'Kein Fenster ist über das Monatsende hinaus offen, also mischt sich nichts'
             : 'In Fenstern, die über das Monatsende hinaus offen sind, werden die neuen Deckel mit dem verglichen, ' +
-              `was nach dem alten Tarif berechnet ist: ${open.join(', ')}`,
+              `was nach dem alten Tarif berechnet ist: ${listed.de(open)}`,
     en: (open) =>
         open.length === 0
             ? "No window is open beyond the month's end, so nothing mixes"
             : "In windows that are open beyond the month's end the new caps are compared with what was charged under " +
-              `the old tariff: ${open.join(', ')}`,
+              `the old tariff: ${listed.en(open)}`,
 };
 
 const counted = {
@@ -278,22 +291,23 @@ const TEXTS = {
         de: ({ member, month, books }) =>
             `'${member}', nachgereicht oder geändert: die Fahrt liegt im abgeschlossenen Monat ${month}, dessen ` +
             `Bücher (${books}) sie nicht haben, und wird nicht berechnet. Ist ${month} noch nicht ausgezahlt, diese ` +
-            `und spätere Bücher löschen und neu abschließen; sonst zeigt --period ${month}, was der Monat mit ihr ` +
-            'kostet, und der Unterschied ist einzeln abzurechnen',
+            `und spätere Bücher löschen und neu abschließen; sonst zeigt ${month}, als Monat gewählt (--period), ` +
+            'was er mit ihr kostet, und der Unterschied ist einzeln abzurechnen',
         en: ({ member, month, books }) =>
             `'${member}', late or changed: the trip lies in the closed month ${month}, whose books (${books}) do not ` +
             `have it, and is not priced. If ${month} is not paid yet, delete these and later books and close again; ` +
-            `else --period ${month} shows what the month costs with it, and the difference has to be settled by itself`,
+            `else ${month}, chosen as the month (--period), shows what it costs with the trip, and the difference ` +
+            'has to be settled by itself',
     },
     lostWindows: {
         de: ({ names, month, before, cents }) =>
             `vom ${before} sind weder Fahrten noch Bücher da, und in den ersten 24 Stunden des ${month} fahren schon ` +
-            `${names.join(', ')}. War ein Fenster vom Vormonat noch offen, so beginnt es hier neu, und seine Deckel ` +
+            `${listed.de(names)}. War ein Fenster vom Vormonat noch offen, so beginnt es hier neu, und seine Deckel ` +
             `werden zweimal bezahlt: von diesen Fahrten für ${moneyText(cents, 'de')} kann manches zu viel sein. ` +
             `Zu vermeiden mit books-${before}.json oder den Fahrten vom ${before}`,
         en: ({ names, month, before, cents }) =>
             `of ${before} there are neither trips nor books, and in the first 24 hours of ${month} these ride ` +
-            `already: ${names.join(', ')}. Where a window of the month before was still open, it begins anew here, ` +
+            `already: ${listed.en(names)}. Where a window of the month before was still open, it begins anew here, ` +
             `and its caps are paid twice: of these trips, ${moneyText(cents, 'en')} in all, some may be too much. ` +
             `To avoid it, add books-${before}.json or the trips of ${before}`,
     },

@@ -55,8 +55,8 @@ test('a late trip of a closed month is named, with its line and what to do; what
     assert.deepEqual(said(result), [
         "trips.csv:3: warning: 'Anna Berg', late or changed: the trip lies in the closed month 2026-10, whose books " +
             '(books-2026-10.json) do not have it, and is not priced. If 2026-10 is not paid yet, delete these and ' +
-            'later books and close again; else --period 2026-10 shows what the month costs with it, and the ' +
-            'difference has to be settled by itself',
+            'later books and close again; else 2026-10, chosen as the month (--period), shows what it costs with the ' +
+            'trip, and the difference has to be settled by itself',
     ]);
     assert.deepEqual(cents(result), [659]);
 });
@@ -110,9 +110,10 @@ test("an older month's late trips are known where that month's books are given t
 
 test('books whose kept trips are damaged are not books', () => {
     const books = closedOf(OCTOBER, '2026-10');
-    const broken = ['"in":>"on":', '"cents":1841>"cents":18.5', '"refused":10>"cents":-1', '"trips":[>"trips":[null,'];
+    const months = '"period": "2026-10">"period": "2026-10", "period": "2026-11"';
+    const trips = ['"in":>"on":', '"cents":1841>"cents":18.5', '"refused":10>"cents":-1', '"trips":[>"trips":[null,'];
     const rides = ['["Münster Hbf">["Nirgendwo"', '"level":"B">"level":"E"', '[1,2,3]>[1,2]', '"class":1>"class":3'];
-    for (const change of [...broken, ...rides]) {
+    for (const change of [months, ...trips, ...rides]) {
         const [old, now] = change.split('>');
         assert.ok(books.includes(old), old);
         assert.deepEqual(
@@ -211,6 +212,8 @@ test('November alone is told, once and with names: what it may cost, and what av
     assert.deepEqual(said(run(alone + EVENING, { period: '2026-11' })), []);
     assert.deepEqual(said(run(alone, { books: closedOf(EVENING.replace('10-31', '09-30'), '2026-09') })), [told]);
     assert.deepEqual(said(run(TRIPS + late)), []);
+    const many = Array.from({ length: 50 }, (_, i) => MORNING.replace('Anna Berg', `Crew ${i + 1}`)).join('');
+    assert.match(said(run(TRIPS + many))[0], /these ride already: Crew 1, .*, Crew 40 and 10 more\. Where/);
 });
 
 test("November alone: within 24 hours of the month's start, by the minute", () => {
@@ -249,6 +252,8 @@ test('a changed price or cap is told, and accepted with newTariff, with what it 
     const early = closedOf(EVENING.replace('10-31', '10-20'), '2026-10');
     assert.match(said(run(TRIPS + MORNING, { areas, books: early, newTariff: true }))[0], /so nothing mixes$/);
     assert.equal(run(TRIPS + MORNING, { books, newTariff: true }).warnings, 0);
+    const strict = run(TRIPS + MORNING, { areas, books, newTariff: true, strict: true }); // it is meant
+    assert.deepEqual([strict.errors, strict.warnings, cents(strict)], [0, 1, [559]]);
 });
 
 test('a new area behind the others is accepted with newTariff; areas that mean something else never are', () => {

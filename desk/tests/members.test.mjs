@@ -41,6 +41,12 @@ test('a name that is not in members.csv is an error with the near one, told once
     assert.deepEqual(result.wages, []);
 });
 
+test('near names of members are those of persons: swapped, or with an initial', () => {
+    const near = (name) => run(TRIPS + trip(name), { members: MEMBERS }).mistakes[0].values.near;
+    const found = ['Berg Anna', 'A. Berg', 'Cem Yildiz', 'Dora'].map(near);
+    assert.deepEqual(found, ['Anna Berg', 'Anna Berg', 'Cem Yıldız', null]);
+});
+
 test('a number or a name twice in members.csv, or an empty one, is an error', () => {
     const members = `${MEMBERS}17;Anna Berg;\n0017;Dora;\n;Emil;\n5;;\n`;
     assert.deepEqual(said(run(TRIPS + trip('Anna Berg'), { members })), [
