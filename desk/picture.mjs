@@ -89,14 +89,18 @@ const [TALL, FLOOR] = [34, 33]; // heights: the picture, and where its bars stan
 
 /** A month's windows: each a bar at its time, as high as what was charged, and on it what caps took off. */
 export function monthPicture({ bars, minutes, words }, highest) {
-    const drawn = bars.map(({ from, to, charged, off, title }) => {
-        const [paid, all] = [charged, charged + off].map((cents) => ((FLOOR - 1) * cents) / highest);
-        const part = (name, low, top) => {
-            const [y, tall] = [FLOOR - top, top - low].map((number) => number.toFixed(1));
-            return top === low ? '' : rect(name, share(from, minutes), y, share(to - from, minutes), tall);
-        };
-        return `<g><title>${escaped(title)}</title>${part('cut', paid, all)}${part('priced', 0, paid)}</g>`;
-    });
-    return `<svg class="month" role="img" width="100%" height="${TALL}" aria-label="${escaped(words)}">
-${rect('line', 0, FLOOR, '100%', 1)}${drawn.join('')}</svg>`;
+    const height = (cents) => ((FLOOR - 1) * cents) / highest;
+    const paid = bars.map(({ from, to, charged }) => boxPath(from, to, 0, height(charged)));
+    const taken = bars.map(({ from, to, charged, off }) => boxPath(from, to, height(charged), height(charged + off)));
+    const told = [words, ...bars.map(({ title }) => title)].join('\n');
+    return `<svg class="month" role="img" aria-label="${escaped(words)}" width="100%" height="${TALL}"
+viewBox="0 0 ${minutes} ${TALL}" preserveAspectRatio="none"><title>${escaped(told)}</title>
+<path class="line" d="M0 ${FLOOR}h${minutes}v1H0z"/><path class="cut" d="${taken.join('')}"/>
+<path class="priced" d="${paid.join('')}"/></svg>`;
+}
+
+/** A bar as part of a path: of a thousand members' windows, elements of their own would be a heavy page. */
+function boxPath(from, to, low, top) {
+    if (top === low) return '';
+    return `M${from} ${(FLOOR - low).toFixed(1)}V${(FLOOR - top).toFixed(1)}H${to}V${(FLOOR - low).toFixed(1)}z`;
 }

@@ -87,7 +87,8 @@ export function monthsHtml({ language, result: { months, period } }) {
 }
 
 /** The wages' table, with the month at a glance; a member's name is the button that shows the statement. */
-export function wagesHtml({ language, result: { wages, glance, period } }) {
+export function wagesHtml({ wages, period }, glance, language) {
+    if (wages.length === 0) return '';
     const { wages: caption, wageColumns, total, barsTitle } = LABELS[language];
     const highest = Math.max(1, ...glance.flatMap(({ bars }) => bars.map(({ charged, off }) => charged + off)));
     const columns = Object.entries(wageColumns).filter(([name]) => name !== 'period' || period === null);

@@ -5,7 +5,7 @@ import { monthText } from '../words.mjs';
 import { clerkWith, serve } from './clerk.mjs';
 import { DUE, deskFiles, ofDrop, ofFolder, rowsIn, sortOf, withFile } from './files.mjs';
 import { LABELS } from './labels.mjs';
-import { columnsHtml, doubtsHtml, mistakesCount, mistakesHtml, monthsHtml, slotsHtml, wagesHtml } from './layout.mjs';
+import { columnsHtml, doubtsHtml, mistakesCount, mistakesHtml, monthsHtml, slotsHtml } from './layout.mjs';
 
 const NOTHING = {
     ...{ files: [], notices: [], newTariff: false },
@@ -151,12 +151,10 @@ function showResult() {
     return tell(settled ? statusOf(result) : labels().notPriced);
 }
 
-function statusOf({ wages, members, refused }) {
-    const trips = wages.reduce((sum, row) => sum + row.trips, 0);
+function statusOf({ trips, members, refused }) {
     const { nothing, priced, refused: told } = labels();
-    return members.length === 0
-        ? nothing
-        : [priced(trips, members.length), ...(refused > 0 ? [told(refused)] : [])].join(' ');
+    if (members.length === 0) return nothing;
+    return [priced(trips, members.length), ...(refused > 0 ? [told(refused)] : [])].join(' ');
 }
 
 function showMistakes({ mistakes, errors }) {
@@ -167,9 +165,9 @@ function showMistakes({ mistakes, errors }) {
     element('mistakes-lists').innerHTML = mistakesHtml(mistakes, state);
 }
 
-function showWages({ members }) {
+function showWages({ members, wages }) {
     if (!members.includes(state.member)) state.member = members[0] ?? null;
-    element('wages').innerHTML = members.length > 0 ? wagesHtml(state) : '';
+    element('wages').innerHTML = wages;
     element('force').checked = false;
     showClosing();
 }

@@ -7,6 +7,7 @@ import { documentNames, memberDocument, statementHtml, statementsDocument } from
 import { agreeStatements, membersOf } from '../statement.mjs';
 import { chargesText, wagesText } from '../wages.mjs';
 import { zipOf } from '../zip.mjs';
+import { wagesHtml } from './layout.mjs';
 
 /** The tasks, by name: each takes its values and gives what can be sent to another thread. */
 export function tasksWith(engine) {
@@ -34,14 +35,15 @@ function outcomeOf(engine, files, { chosen = OPEN, ...options }, progress) {
     return result;
 }
 
-/** What the page shows of a result. */
+/** What the page shows of a result. The table of the wages is made here, too, since it can be long. */
 function summaryOf(result) {
     const { errors, warnings, months, period, closing, wages, refused, language, association } = result;
     return {
-        ...{ errors, warnings, months, period, closing, wages, refused, association },
+        ...{ errors, warnings, months, period, closing, refused, association },
+        trips: wages.reduce((sum, row) => sum + row.trips, 0),
         mistakes: result.mistakes.map(({ file, line, kind, key, text }) => ({ file, line, kind, key, text })),
         members: membersOf(result).map(({ name }) => name),
-        glance: glanceOf(result, language),
+        wages: wagesHtml(result, glanceOf(result, language), language),
     };
 }
 

@@ -11,6 +11,7 @@ export const FIREFOX = ['firefox-esr', 'firefox'].find((name) => spawnSync(name,
 
 const PREFERENCES = {
     'marionette.port': 0, // a free one, which it then writes into the profile
+    'browser.download.folderList': 2, // a folder of one's own, which is named besides
     'browser.shell.checkDefaultBrowser': false,
     'datareporting.policy.dataSubmissionEnabled': false,
     'toolkit.telemetry.server': '',
@@ -19,10 +20,11 @@ const PREFERENCES = {
     'network.connectivity-service.enabled': false,
 };
 
-/** Starts Firefox with a fresh profile. `page(url)` opens a page in its one window; `close()` ends it. */
-export async function startFirefox(preferences = {}) {
+/** Starts Firefox with a fresh profile. `page(url)` opens a page in its one window, which saves in `saved`. */
+export async function startFirefox() {
     const folder = mkdtempSync(path.join(os.tmpdir(), 'milecopper-firefox-'));
-    const told = Object.entries({ ...PREFERENCES, ...preferences });
+    const saved = path.join(folder, 'saved');
+    const told = Object.entries({ ...PREFERENCES, 'browser.download.dir': saved });
     const lines = told.map(([name, value]) => `user_pref(${JSON.stringify(name)}, ${JSON.stringify(value)});\n`);
     writeFileSync(path.join(folder, 'user.js'), lines.join(''));
     const words = ['--headless', '--no-remote', '--marionette', '--profile', folder, 'about:blank'];
@@ -37,7 +39,7 @@ export async function startFirefox(preferences = {}) {
         await ended;
         rmSync(folder, { recursive: true, force: true, maxRetries: 5 });
     };
-    return { folder, page: (url) => openPage(send, url), close };
+    return { folder, saved, page: (url) => openPage(send, url), close };
 }
 
 async function portIn(file) {

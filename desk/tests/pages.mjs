@@ -94,3 +94,13 @@ export const cells = (page, selector) =>
     page.ask(`[...document.querySelectorAll(${JSON.stringify(selector)})].map((row) =>
         [...row.cells].filter((cell) => cell.className !== 'bars')
             .map((cell) => cell.textContent.replaceAll('\\u00a0', ' ').trim()))`);
+
+/** What is wider than a screen of 390 px or cut off, among all that is seen. */
+export const TOO_WIDE = `[...document.querySelectorAll('body *')].filter((node) => node.checkVisibility())
+    .filter((node) => (!node.closest('svg') || node.matches('svg, text')) && !node.matches('[type=file]'))
+    .filter((node) => {
+        const { left, right, width } = node.getBoundingClientRect();
+        const cut = node.clientWidth > 1 && node.scrollWidth > node.clientWidth + 1
+            && getComputedStyle(node).overflowX !== 'visible';
+        return width > 1 && (right > 390.5 || left < -0.5 || cut);
+    }).map((node) => [node.tagName, node.className.baseVal ?? node.className, node.textContent.slice(0, 30)])`;
