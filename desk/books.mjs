@@ -2,7 +2,7 @@
 // are of. Closing writes it, once a period; everything else reads it. A book's words that are 0 are left out.
 import { textIn } from './encoding.mjs';
 import { BOOK_BYTES } from './engine.mjs';
-import { keptIn, keptLines, stopWords } from './kept.mjs';
+import { areKept, keptLines, stopWords } from './kept.mjs';
 import { isPeriod } from './months.mjs';
 import { structureOf } from './tariff.mjs';
 
@@ -15,8 +15,9 @@ const WORDS = BOOK_BYTES / 4;
 /**
  * What a file says: {period, books: member → book, tariff}, where `tariff` is the hash of the whole tariff. The present
  * form says besides `areas`, how many there were, `structure` and `values`, the hashes of what they mean and of what
- * stands in them; `before`, the month of the books that these went on from, or null; and `trips`, member → all trips
- * that were settled from there on. Of the older form these are undefined. Null, and a mistake, for any other file.
+ * stands in them; `before`, the month of the books that these went on from, or null; `trips`, member → all trips that
+ * were settled from there on (`keptLines`), and `stopIds`, the ids of the words of their stops. Of the older form these
+ * are undefined. Null, and a mistake, for any other file.
  */
 export function readBooks(file, mistakes) {
     const text = textIn(file, mistakes);
@@ -43,8 +44,9 @@ export function parsedBooks(text) {
 function presentForm({ areas, structure, values, before, stops, members, period }) {
     const right = Number.isInteger(areas) && areas > 0 && isHash(structure) && isHash(values);
     const inOrder = before === null || (isPeriod(before) && before < period);
-    const trips = new Map(members.map(({ member, trips: own }) => [member, keptIn(own, stops)]));
-    return right && inOrder && [...trips.values()].every(Boolean) ? { areas, structure, values, before, trips } : null;
+    const whole = members.every(({ trips }) => areKept(trips, stops));
+    const kept = { trips: new Map(members.map(({ member, trips }) => [member, trips])), stopIds: stops };
+    return right && inOrder && whole ? { areas, structure, values, before, ...kept } : null;
 }
 
 const isHash = (text) => typeof text === 'string' && /^[0-9a-f]{64}$/.test(text);

@@ -74,7 +74,7 @@ function tellOld({ mistakes }, books, closings, old, stops) {
     for (const [month, own] of byMonth(old)) {
         const kept = keepersOf(month, books, closings);
         if (kept === null) unknown.push(...own);
-        else for (const trip of notKept(own, kept.trips, stops)) tellLate(mistakes, trip, kept.file.name);
+        else for (const trip of notKept(own, kept, stops)) tellLate(mistakes, trip, kept.file.name);
     }
     if (unknown.length === 0) return;
     const { file, line } = unknown[0];

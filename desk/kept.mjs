@@ -32,38 +32,34 @@ export function keptLines(entries, words) {
 const NOBODY = [0, 0, 0];
 const TIME = /^20\d\d-\d\d-\d\dT\d\d:\d\d[+-]\d\d:\d\d$/;
 
-/**
- * A member's trips as the file has them, with what was left out: {in, out, stops, class, level, party, cents, refused}.
- * `stops` are {word, id}; of `cents` and `refused` one is null. Null where one of them is no trip.
- */
-export function keptIn(trips, ids) {
-    const kept = trips.map((trip) => {
-        const stops = trip.stops.map((word) => ({ word, id: Object.hasOwn(ids, word) ? ids[word] : null }));
-        const { class: travelClass = 2, level = null, party = NOBODY, cents = null, refused = null } = trip;
-        return { in: trip.in, out: trip.out, stops, class: travelClass, level, party, cents, refused };
-    });
-    return kept.every(isKept) ? kept : null;
+/** Whether all of a member's trips are such; `stopIds` has the id of each stop's word. */
+export function areKept(trips, stopIds) {
+    return trips.every((trip) => hasRide(trip, stopIds) && hasOutcome(trip));
 }
 
-function isKept(trip) {
-    const whole = (number) => Number.isInteger(number) && number >= 0;
-    const times = TIME.test(trip.in) && TIME.test(trip.out);
-    const stops = trip.stops.length >= 2 && trip.stops.every(({ id }) => typeof id === 'string');
-    const ride = [1, 2].includes(trip.class) && [null, 'K', 'A', 'B', 'C', 'D'].includes(trip.level);
-    const party = trip.party.length === 3 && trip.party.every(whole);
-    const outcome = (trip.cents === null) !== (trip.refused === null) && whole(trip.cents ?? trip.refused);
-    return times && stops && ride && party && outcome;
+function hasRide({ in: from, out, stops, class: travelClass = 2, level = null, party = NOBODY }, stopIds) {
+    const isStop = (word) => Object.hasOwn(stopIds, word) && typeof stopIds[word] === 'string';
+    const ride = [1, 2].includes(travelClass) && [null, 'K', 'A', 'B', 'C', 'D'].includes(level);
+    const along = party.length === 3 && party.every(isCount);
+    return TIME.test(from) && TIME.test(out) && stops.length >= 2 && stops.every(isStop) && ride && along;
 }
+
+/** Of what it was charged and why it was refused there is one. */
+function hasOutcome({ cents = null, refused = null }) {
+    return (cents === null) !== (refused === null) && isCount(cents ?? refused);
+}
+
+const isCount = (number) => Number.isInteger(number) && number >= 0;
 
 // ---- Which are not among them
 
-/** Those of today's trips that the kept ones, member → trips, lack; one that is there twice has to be kept twice. */
-export function notKept(trips, kept, stops) {
-    const numberOf = stopNumbers(stops);
+/** Those of today's trips that the books' kept ones lack; one that is there twice has to be kept twice. */
+export function notKept(trips, { trips: kept, stopIds }, stops) {
+    const numberOf = stopNumbers(stops, stopIds);
     const left = new Map();
     const add = (key, number) => left.set(key, (left.get(key) ?? 0) + number);
-    for (const [member, own] of kept) {
-        for (const trip of own) add(keyOf(member, trip, trip.stops.map(numberOf)), 1);
+    for (const member of new Set(trips.map((trip) => trip.member))) {
+        for (const trip of kept.get(member) ?? []) add(keyOf(member, trip, trip.stops.map(numberOf)), 1);
     }
     return trips.filter((trip) => {
         const key = keyOf(trip.member, sameAsKept(trip), [trip.from, ...trip.via, trip.to]);
@@ -74,18 +70,18 @@ export function notKept(trips, kept, stops) {
 }
 
 /** A trip's times and party as they are kept. */
-function sameAsKept({ checkIn, checkOut, party: { adults, children, bicycles }, ...rest }) {
-    return { ...rest, in: isoOf(checkIn), out: isoOf(checkOut), party: [adults, children, bicycles] };
+function sameAsKept({ checkIn, checkOut, class: travelClass, level, party: { adults, children, bicycles } }) {
+    return { in: isoOf(checkIn), out: isoOf(checkOut), class: travelClass, level, party: [adults, children, bicycles] };
 }
 
 /** What makes a trip the same again. */
-function keyOf(member, trip, stops) {
-    return JSON.stringify([member, trip.in, trip.out, stops, trip.class, trip.level, trip.party]);
+function keyOf(member, { in: from, out, class: travelClass = 2, level = null, party = NOBODY }, stops) {
+    return [member, from, out, travelClass, level, ...party, ...stops].join('\n');
 }
 
 /** The number that a kept stop has today: by its id, since names are mended, and where that is gone by its word. */
-function stopNumbers(stops) {
+function stopNumbers(stops, stopIds) {
     const find = directory(stops);
     const byId = new Map(stops.map(({ id, index }) => [id, index]));
-    return ({ word, id }) => byId.get(id) ?? find(word)[0]?.index ?? null;
+    return (word) => byId.get(stopIds[word]) ?? find(word)[0]?.index ?? null;
 }

@@ -3,6 +3,7 @@ import assert from 'node:assert/strict';
 import { test } from 'node:test';
 import { booksText } from '../books.mjs';
 import { monthsOf, openMonth } from '../months.mjs';
+import { statementText } from '../statement.mjs';
 import { TRIPS, run, said, sample } from './support.mjs';
 
 const EVENING = 'Anna Berg,2026-10-31,22:40,23:55,Münster Hbf,Bielefeld Hbf,,,,,,\n';
@@ -254,6 +255,17 @@ test('a changed price or cap is told, and accepted with newTariff, with what it 
     assert.equal(run(TRIPS + MORNING, { books, newTariff: true }).warnings, 0);
     const strict = run(TRIPS + MORNING, { areas, books, newTariff: true, strict: true }); // it is meant
     assert.deepEqual([strict.errors, strict.warnings, cents(strict)], [0, 1, [559]]);
+});
+
+test('in a window that goes on under a new tariff, a cap that is passed takes all, and bicycles pay new flats', () => {
+    const tram = 'Anna Berg,2026-10-31,22:10,22:20,Bielefeld Hbf,Bielefeld Rathaus,,,,,,1\n';
+    const books = closedOf(tram + EVENING.replace('Münster', 'Paderborn'), '2026-10');
+    const areas = sample('areas.csv').replace('25,00;3,00', '2,00;3,50').replace('5,50;1,50', '1,00;1,70');
+    const trips = TRIPS + MORNING.replace(',,,,,,', ',,,,,,1');
+    const result = run(trips, { areas, books, newTariff: true });
+    const { riders } = result.members[0].entries[0].parts[0];
+    assert.deepEqual(riders.map(({ sort, charge }) => [sort, charge]), [['holder', 0], ['bicycle', 350 - 170]]);
+    assert.match(statementText(result.members[0], result, 'de'), /abgezogen 18,41 €: 24-Stunden-Deckel Westfalen/);
 });
 
 test('a new area behind the others is accepted with newTariff; areas that mean something else never are', () => {
