@@ -16,8 +16,9 @@ const WORDS = BOOK_BYTES / 4;
  * What a file says: {period, books: member → book, tariff}, where `tariff` is the hash of the whole tariff. The present
  * form says besides `areas`, how many there were, `structure` and `values`, the hashes of what they mean and of what
  * stands in them; `before`, the month of the books that these went on from, or null; `trips`, member → all trips that
- * were settled from there on (`keptLines`), and `stopIds`, the ids of the words of their stops. Of the older form these
- * are undefined. Null, and a mistake, for any other file.
+ * were settled from there on (`keptLines`), and `stopIds`, the ids of the words of their stops; `association`, {name,
+ * contact} of whoever closed the month, or null. Of the older form these are undefined. Null, and a mistake, for any
+ * other file.
  */
 export function readBooks(file, mistakes) {
     const text = textIn(file, mistakes);
@@ -41,12 +42,19 @@ export function parsedBooks(text) {
     }
 }
 
-function presentForm({ areas, structure, values, before, stops, members, period }) {
+function presentForm({ areas, structure, values, before, stops, members, period, association }) {
     const right = Number.isInteger(areas) && areas > 0 && isHash(structure) && isHash(values);
     const inOrder = before === null || (isPeriod(before) && before < period);
     const whole = members.every(({ trips }) => areKept(trips, stops));
     const kept = { trips: new Map(members.map(({ member, trips }) => [member, trips])), stopIds: stops };
-    return right && inOrder && whole ? { areas, structure, values, before, ...kept } : null;
+    const said = { areas, structure, values, before, ...kept, association: senderIn(association) };
+    return right && inOrder && whole ? said : null;
+}
+
+/** Who the statements are from, where the file says so. */
+function senderIn(association) {
+    const { name, contact } = association ?? {};
+    return typeof name === 'string' && typeof contact === 'string' ? { name, contact } : null;
 }
 
 const isHash = (text) => typeof text === 'string' && /^[0-9a-f]{64}$/.test(text);
@@ -80,7 +88,7 @@ function wordsIn(book) {
 }
 
 /** The file's text at the end of the result's period: a member a line, and behind it the trips, a line each. */
-export function booksText({ tariff, period, booksPeriod, books, members }) {
+export function booksText({ tariff, period, booksPeriod, books, members, association }) {
     const words = stopWords(tariff.stops);
     const entries = new Map(members.map((member) => [member.name, member.entries]));
     const lines = [...books].map(([member, book]) => {
@@ -90,7 +98,8 @@ export function booksText({ tariff, period, booksPeriod, books, members }) {
     const { hash, areas, values, stops } = tariff;
     const ids = Object.fromEntries(stops.map(({ id }, stop) => [words[stop], id]));
     const head = { form: MARK, tariff: hash, areas: areas.length, structure: structureOf(areas), values };
-    const said = Object.entries({ ...head, period, before: booksPeriod, stops: ids });
+    const sender = association && (association.name || association.contact) ? { association } : {};
+    const said = Object.entries({ ...head, period, before: booksPeriod, ...sender, stops: ids });
     const top = said.map(([key, value]) => `"${key}": ${JSON.stringify(value)}`).join(',\n ');
     return `{${top},\n "members": [\n${lines.join(',\n')}\n]}\n`;
 }

@@ -59,6 +59,7 @@ export function runDesk({ files, period: asked = null, zone = 'Europe/Berlin', l
         tariff: tariffOf(desk, tariff),
         ...{ period, zone, language, version: engine.version, tripFiles: desk.files.trips.map(({ name }) => name) },
         ...{ booksPeriod: books?.period ?? null, booksFile: books?.file.name ?? null },
+        association: books?.association ?? null,
         ...{ roster, months, open, closing: closingDoubts({ period, today, months, closings, language }) },
         ...{ members, wages, refused, books: kept },
         /** The largest table, made when it is asked for. */

@@ -11,7 +11,7 @@ const NOTHING = {
     ...{ files: [], notices: [], newTariff: false },
     ...{ chosen: undefined, result: null, member: null }, // the month that she chose, what came of it, who is shown
 };
-const state = { language: 'de', turn: 0, letter: { name: '', contact: '', date: '' }, ...NOTHING };
+const state = { language: 'de', turn: 0, ...NOTHING, letter: {} }; // `letter`: who the statements are from, and when
 const element = (id) => document.getElementById(id);
 const labels = () => LABELS[state.language];
 const script = globalThis.document?.currentScript.textContent;
@@ -73,6 +73,7 @@ async function trySample() {
 
 function forget() {
     Object.assign(state, NOTHING);
+    write({ name: '', contact: '', date: today() });
 }
 
 // ---- The work
@@ -101,8 +102,13 @@ async function work() {
 /** The sender that the books name, unless she has written one. */
 function rememberSender(association) {
     const { name, contact } = state.letter;
-    if (association && name === '' && contact === '') Object.assign(state.letter, association);
-    for (const key of ['name', 'contact']) element(`letter-${key}`).value = state.letter[key];
+    if (association && name === '' && contact === '') write(association);
+}
+
+/** Writes into the fields of the letter. */
+function write(letter) {
+    Object.assign(state.letter, letter);
+    for (const [key, text] of Object.entries(letter)) element(`letter-${key}`).value = text;
 }
 
 // ---- What is shown
@@ -337,7 +343,7 @@ async function begin() {
     const engine = Uint8Array.from(atob(element('engine').textContent), (sign) => sign.charCodeAt(0));
     clerk = await clerkWith(script, engine);
     element('version').textContent = `Milecopper ${await clerk.ask('version')}`;
-    element('letter-date').value = state.letter.date = today();
+    forget();
     listen();
     show();
     if (location.hash === '#try') await trySample();

@@ -56,7 +56,8 @@ test('in Firefox: closing goes on to the open month', { skip }, async () => {
 
 test('in Firefox: at 390 px nothing is wider than the screen', { skip }, async () => {
     const frame = path.join(firefox.folder, 'phone.html'); // no window of Firefox is as narrow
-    writeFileSync(frame, `<!DOCTYPE html><iframe src="${address}#try" width="390" height="844" frameborder="0"></iframe>`);
+    const size = 'width="390" height="844" frameborder="0"';
+    writeFileSync(frame, `<!DOCTYPE html><iframe src="${address}#try" ${size}></iframe>`);
     const page = await firefox.page(pathToFileURL(frame).href);
     await page.send('WebDriver:SwitchToFrame', { id: 0 });
     await page.until(`${READY} && innerWidth === 390`);

@@ -244,8 +244,8 @@ test('the month at a glance: a bar a window, and what caps took off adds up', as
     const [first] = glance[0].bars;
     assert.deepEqual([first.from, first.to], [1440 + 5 * 60 + 8, 2 * 1440 + 5 * 60 + 8]); // 2 October, 5:08
     const page = await desk.opened('#try');
-    const drawn = await page.ask(`[...document.querySelectorAll('.wages tbody tr')].map((row) =>
-        ['.priced', '.cut'].map((part) => row.querySelector('.month ' + part).getAttribute('d').split('M').length - 1))`);
+    const drawn = await page.ask(`[...document.querySelectorAll('.wages .month')].map((month) =>
+        ['.priced', '.cut'].map((part) => month.querySelector(part).getAttribute('d').split('M').length - 1))`);
     assert.deepEqual(drawn, [[3, 2], [3, 0], [3, 0], [3, 3]]);
     const words = await page.ask('document.querySelector(".month").getAttribute("aria-label")');
     assert.equal(words, '3 Fenster: 76,51\u00a0€, abgezogen 18,96\u00a0€');

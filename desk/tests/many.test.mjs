@@ -58,7 +58,8 @@ test('many trips: the page is free while they are priced, and a bar shows how fa
     assert.ok(longest < whole / 2, `not free for ${longest} of ${whole} ms`);
     assert.ok(new Set(shown).size >= 3, `the bar showed ${shown}`);
     assert.deepEqual(shown, [...shown].sort((one, other) => one - other));
-    assert.deepEqual([Math.max(...shown) <= 1, await page.ask('document.querySelector("#progress").hidden')], [true, true]);
+    assert.ok(shown.at(-1) <= 1);
+    assert.equal(await page.ask('document.querySelector("#progress").hidden'), true);
     assert.match(await text(page, '#status'), /^36000 Fahrten von 400 Mitgliedern berechnet/);
     desk.quiet(page);
 });
@@ -67,12 +68,13 @@ test('without a worker the page does the work itself, and it is the same', async
     const trips = manyTrips(3);
     const result = run(trips, { period: '2026-09' });
     const due = result.wages.map(({ member, cents }) => [member, cents]);
-    for (const first of ['', 'delete window.Worker', 'window.Worker = class { constructor() { throw new Error("none"); } }']) {
+    const failing = 'window.Worker = class { constructor() { throw new Error("none"); } }';
+    for (const first of ['', 'delete window.Worker', failing]) {
         const page = await desk.opened('', first);
         await page.choose('#choose-files', [AREAS, STOPS, written(3)]);
         await page.until(SETTLED);
-        const shown = (await cells(page, '#wages tbody tr')).map((row) => [row[0], Number(row.at(-1).replace(/\D/g, ''))]);
-        assert.deepEqual(shown, due, first);
+        const rows = await cells(page, '#wages tbody tr');
+        assert.deepEqual(rows.map((row) => [row[0], Number(row.at(-1).replace(/\D/g, ''))]), due, first);
         desk.quiet(page);
     }
 });

@@ -218,7 +218,7 @@ test('the picture: a bar for each trip and how full each cap is, at any width, a
         ['refused', '30.56', '0.69'],
     ]);
     assert.match(svg, /<text x="5\.56%" y="\d+">So<\/text>/); // midnight, 80 minutes on
-    const level = /<dd><span>([^<]*)<\/span><svg class="level".*?"([\d.]+)%" height="100%" rx="2"\/><\/svg><span>([^<]*)/g;
+    const level = /<dd><span>([^<]*)<\/span><svg class="level".*?"([\d.]+)%" height="100%" rx="2"\/><\/svg><span>(.*?)</g;
     assert.deepEqual([...html.matchAll(level)].map(([, ...own]) => own), [
         ['Mitglied', '83.33', '25,00\u00a0€ von 30,00\u00a0€'],
         ['Mitglied', '100.00', 'voll, 25,00\u00a0€'],
