@@ -86,6 +86,7 @@ export function levelPicture(full) {
 // ---- A month
 
 const [TALL, FLOOR] = [34, 33]; // heights: the picture, and where its bars stand
+const GAP = 180; // minutes that a bar is narrower than its window, so that one is told from the next
 
 /** A month's windows: each a bar at its time, as high as what was charged, and on it what caps took off. */
 export function monthPicture({ bars, minutes, words }, highest) {
@@ -102,5 +103,6 @@ viewBox="0 0 ${minutes} ${TALL}" preserveAspectRatio="none"><title>${escaped(tol
 /** A bar as part of a path: of a thousand members' windows, elements of their own would be a heavy page. */
 function boxPath(from, to, low, top) {
     if (top === low) return '';
-    return `M${from} ${(FLOOR - low).toFixed(1)}V${(FLOOR - top).toFixed(1)}H${to}V${(FLOOR - low).toFixed(1)}z`;
+    const [bottom, high] = [FLOOR - low, FLOOR - top].map((place) => place.toFixed(1));
+    return `M${from} ${bottom}V${high}H${to - GAP}V${bottom}z`;
 }

@@ -139,6 +139,25 @@ test('closing with doubts needs a second word', async () => {
     desk.quiet(page);
 });
 
+test('books of other prices: the page says so, and a button goes on with the new ones', async () => {
+    const folder = path.join(desk.folder, 'dearer');
+    mkdirSync(folder, { recursive: true });
+    const [books, areas] = ['books-2026-10.json', 'areas.csv'].map((name) => path.join(folder, name));
+    writeFileSync(books, booksText(expected()));
+    const [head, state, ...rest] = sample('areas.csv').split('\n');
+    const at = head.split(';').indexOf('base');
+    const dearer = state.split(';').map((cell, i) => (i === at ? '1,99' : cell)).join(';');
+    writeFileSync(areas, [head, dearer, ...rest].join('\n'));
+    const page = await desk.opened();
+    await page.choose('#choose-files', [areas, STOPS, TRIPS, books]);
+    await page.until('!document.querySelector("#mistakes").hidden');
+    assert.deepEqual(await hidden(page, 'new-tariff', 'period', 'result'), [false, false, true]);
+    await page.click('#new-tariff button');
+    await page.until(`${SETTLED} && document.querySelector('#period').value === '2026-11'`);
+    assert.deepEqual(await hidden(page, 'new-tariff'), [true]);
+    desk.quiet(page);
+});
+
 // ---- A phone
 
 test('at 390 px nothing is wider than the screen: no amount is cut off, and pictures fit', async () => {
