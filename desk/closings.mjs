@@ -143,7 +143,7 @@ export function closingDoubts({ period, today, months, closings, language }) {
         ...(closings.has(period) ? [['error', 'closeTwice', { period, file: closings.get(period).name }]] : []),
         ...(present !== null && period > present ? [['error', 'closeFuture', { period, today }]] : []),
         ...(open.length > 0 ? [['error', 'closeGap', { period, months: open }]] : []),
-        ...(later.length > 0 ? [['error', 'closeEarlier', { period, later: lastOf(later) }]] : []),
+        ...(later.length > 0 ? [['error', 'closeEarlier', { later: lastOf(later) }]] : []),
         ...(period === present ? [['warning', 'closeRunning', { period, today }]] : []),
     ];
     return doubts.map(([kind, key, values]) => ({ kind, key, values, text: mistakeText({ key, values }, language) }));

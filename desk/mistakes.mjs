@@ -1,6 +1,6 @@
 // What is amiss in the files, by file and line, in words: both languages beside each other. Errors are what has to be
 // mended before anything is priced; warnings are what is priced as it stands and should be looked at.
-import { moneyText } from './words.mjs';
+import { dayText, moneyText, monthText } from './words.mjs';
 
 const meant = {
     de: (near) => (near ? `; war '${near}' gemeint?` : ''),
@@ -43,8 +43,8 @@ const mixed = {
 };
 
 const counted = {
-    de: ({ month, trips }) => `${month} (Fahrten: ${trips})`,
-    en: ({ month, trips }) => `${month} (trips: ${trips})`,
+    de: ({ month, trips }) => `${monthText(month, 'de')} (Fahrten: ${trips})`,
+    en: ({ month, trips }) => `${monthText(month, 'en')} (trips: ${trips})`,
 };
 
 const TEXTS = {
@@ -240,8 +240,10 @@ const TEXTS = {
         en: () => 'these are not books as closing writes them',
     },
     booksTwice: {
-        de: ({ period, name, other }) => `zweimal Bücher von ${period}: ${other} und ${name}; nur eine kann gelten`,
-        en: ({ period, name, other }) => `books of ${period} twice: ${other} and ${name}; only one can count`,
+        de: ({ period, name, other }) =>
+            `zweimal Bücher vom ${monthText(period, 'de')}: ${other} und ${name}; nur eine Datei kann gelten`,
+        en: ({ period, name, other }) =>
+            `books of ${monthText(period, 'en')} twice: ${other} and ${name}; only one file can count`,
     },
     booksTariff: {
         de: () =>
@@ -289,27 +291,29 @@ const TEXTS = {
     },
     lateTrip: {
         de: ({ member, month, books }) =>
-            `'${member}', nachgereicht oder geändert: die Fahrt liegt im abgeschlossenen Monat ${month}, dessen ` +
-            `Bücher (${books}) sie nicht haben, und wird nicht berechnet. Ist ${month} noch nicht ausgezahlt, diese ` +
-            `und spätere Bücher löschen und neu abschließen; sonst zeigt ${month}, als Monat gewählt (--period), ` +
-            'was er mit ihr kostet, und der Unterschied ist einzeln abzurechnen',
+            `'${member}', nachgereicht oder geändert: die Fahrt liegt im abgeschlossenen ${monthText(month, 'de')}, ` +
+            `dessen Bücher (${books}) sie nicht haben, und wird nicht berechnet. Ist der Monat noch nicht ` +
+            `ausgezahlt, diese und spätere Bücher löschen und neu abschließen; sonst zeigt ${month}, als Monat ` +
+            'gewählt (--period), was er mit ihr kostet, und der Unterschied ist einzeln abzurechnen',
         en: ({ member, month, books }) =>
-            `'${member}', late or changed: the trip lies in the closed month ${month}, whose books (${books}) do not ` +
-            `have it, and is not priced. If ${month} is not paid yet, delete these and later books and close again; ` +
-            `else ${month}, chosen as the month (--period), shows what it costs with the trip, and the difference ` +
-            'has to be settled by itself',
+            `'${member}', late or changed: the trip lies in ${monthText(month, 'en')}, which is closed and whose ` +
+            `books (${books}) do not have it, and is not priced. If the month is not paid yet, delete these and ` +
+            `later books and close again; else ${month}, chosen as the month (--period), shows what it costs with ` +
+            'the trip, and the difference has to be settled by itself',
     },
     lostWindows: {
         de: ({ names, month, before, cents }) =>
-            `vom ${before} sind weder Fahrten noch Bücher da, und in den ersten 24 Stunden des ${month} fahren schon ` +
-            `${listed.de(names)}. War ein Fenster vom Vormonat noch offen, so beginnt es hier neu, und seine Deckel ` +
-            `werden zweimal bezahlt: von diesen Fahrten für ${moneyText(cents, 'de')} kann manches zu viel sein. ` +
-            `Zu vermeiden mit books-${before}.json oder den Fahrten vom ${before}`,
+            `vom ${monthText(before, 'de')} sind weder Fahrten noch Bücher da, und in den ersten 24 Stunden des ` +
+            `${monthText(month, 'de')} fahren schon ${listed.de(names)}. War ein Fenster vom Vormonat noch offen, so ` +
+            'beginnt es hier neu, und seine Deckel werden zweimal bezahlt: von diesen Fahrten für ' +
+            `${moneyText(cents, 'de')} kann manches zu viel sein. Zu vermeiden mit books-${before}.json oder den ` +
+            'Fahrten des Vormonats',
         en: ({ names, month, before, cents }) =>
-            `of ${before} there are neither trips nor books, and in the first 24 hours of ${month} these ride ` +
-            `already: ${listed.en(names)}. Where a window of the month before was still open, it begins anew here, ` +
-            `and its caps are paid twice: of these trips, ${moneyText(cents, 'en')} in all, some may be too much. ` +
-            `To avoid it, add books-${before}.json or the trips of ${before}`,
+            `of ${monthText(before, 'en')} there are neither trips nor books, and in the first 24 hours of ` +
+            `${monthText(month, 'en')} these ride already: ${listed.en(names)}. Where a window of the month before ` +
+            'was still open, it begins anew here, and its caps are paid twice: of these trips, ' +
+            `${moneyText(cents, 'en')} in all, some may be too much. To avoid it, add books-${before}.json or the ` +
+            'trips of the month before',
     },
     beforeBooks: {
         de: ({ until }) => `beginnt vor dem letzten Check-out in den Büchern (${until}); wird abgelehnt (10)`,
@@ -317,27 +321,32 @@ const TEXTS = {
     },
     // closing a month
     closeTwice: {
-        de: ({ period, file }) => `${period} ist schon abgeschlossen (${file}): ein Monat wird einmal abgeschlossen`,
-        en: ({ period, file }) => `${period} is closed already (${file}): a month is closed once`,
+        de: ({ period, file }) =>
+            `${monthText(period, 'de')} ist schon abgeschlossen (${file}): ein Monat wird einmal abgeschlossen`,
+        en: ({ period, file }) => `${monthText(period, 'en')} is closed already (${file}): a month is closed once`,
     },
     closeFuture: {
-        de: ({ period, today }) => `${period} liegt in der Zukunft (heute ist der ${today})`,
-        en: ({ period, today }) => `${period} lies in the future (today is ${today})`,
+        de: ({ period, today }) =>
+            `${monthText(period, 'de')} liegt in der Zukunft (heute ist ${dayText(today, 'de')})`,
+        en: ({ period, today }) => `${monthText(period, 'en')} lies in the future (today is ${dayText(today, 'en')})`,
     },
     closeGap: {
-        de: ({ period, months }) => `vor ${period} ist noch nicht abgeschlossen: ${months.map(counted.de).join(', ')}`,
-        en: ({ period, months }) => `before ${period} these are not closed yet: ${months.map(counted.en).join(', ')}`,
+        de: ({ period, months }) =>
+            `vor ${monthText(period, 'de')} ist noch nicht abgeschlossen: ${months.map(counted.de).join(', ')}`,
+        en: ({ period, months }) =>
+            `before ${monthText(period, 'en')} these are not closed yet: ${months.map(counted.en).join(', ')}`,
     },
     closeEarlier: {
-        de: ({ period, later }) =>
-            `${later} ist schon abgeschlossen, und seine Bücher wissen nichts von denen für ${period}`,
-        en: ({ period, later }) => `${later} is closed already, and its books know nothing of those for ${period}`,
+        de: ({ later }) => `${monthText(later, 'de')} ist schon abgeschlossen, und seine Bücher wüssten hiervon nichts`,
+        en: ({ later }) => `${monthText(later, 'en')} is closed already, and its books would know nothing of this`,
     },
     closeRunning: {
         de: ({ period, today }) =>
-            `${period} ist noch nicht vorbei (heute ist der ${today}); was noch kommt, wird nicht mehr berechnet`,
+            `${monthText(period, 'de')} ist noch nicht vorbei (heute ist ${dayText(today, 'de')}); ` +
+            'was danach noch kommt, wird nicht mehr berechnet',
         en: ({ period, today }) =>
-            `${period} is not over yet (today is ${today}); what is still to come will not be priced`,
+            `${monthText(period, 'en')} is not over yet (today is ${dayText(today, 'en')}); ` +
+            'what is still to come will not be priced',
     },
     // what is no longer told one by one
     further: {

@@ -54,10 +54,10 @@ test('a late trip of a closed month is named, with its line and what to do; what
     const late = 'Anna Berg,2026-10-14,12:00,12:30,Hamm Hbf,Hamm Betriebshof,,,,,,\n';
     const result = run(TRIPS + EVENING + late + MORNING, { books: [file('books-2026-10.json', books)] });
     assert.deepEqual(said(result), [
-        "trips.csv:3: warning: 'Anna Berg', late or changed: the trip lies in the closed month 2026-10, whose books " +
-            '(books-2026-10.json) do not have it, and is not priced. If 2026-10 is not paid yet, delete these and ' +
-            'later books and close again; else 2026-10, chosen as the month (--period), shows what it costs with the ' +
-            'trip, and the difference has to be settled by itself',
+        "trips.csv:3: warning: 'Anna Berg', late or changed: the trip lies in October 2026, which is closed and " +
+            'whose books (books-2026-10.json) do not have it, and is not priced. If the month is not paid yet, ' +
+            'delete these and later books and close again; else 2026-10, chosen as the month (--period), shows ' +
+            'what it costs with the trip, and the difference has to be settled by itself',
     ]);
     assert.deepEqual(cents(result), [659]);
 });
@@ -102,7 +102,7 @@ test("an older month's late trips are known where that month's books are given t
     const second = file('books-2026-10.json', closedOf(september + EVENING, '2026-10', { books: first }));
     const trips = TRIPS + september + late + EVENING + MORNING;
     const [told, ...more] = said(run(trips, { books: [first, second] }));
-    assert.match(told, /^trips\.csv:3: warning: 'Cem', late or changed: .* 2026-09, .*\(books-2026-09\.json\)/);
+    assert.match(told, /^trips\.csv:3: warning: 'Cem', late or changed: .* September 2026, .*\(books-2026-09\.json\)/);
     assert.deepEqual(more, []);
     assert.match(said(run(trips, { books: [second] }))[0], /^trips\.csv:2: warning: closed to 2026-10: .*\(trips: 2,/);
     const whole = file('books-2026-10.json', closedOf(september + EVENING, '2026-10'));
@@ -140,7 +140,7 @@ test('of several books those before the period count, and two of one month are a
     const copy = file('kopie.json', new TextDecoder().decode(october.bytes));
     const result = run(trips, { books: [october, november, copy], period: '2026-11' });
     assert.deepEqual(said(result), [
-        'kopie.json:1: books of 2026-10 twice: books-2026-10.json and kopie.json; only one can count',
+        'kopie.json:1: books of October 2026 twice: books-2026-10.json and kopie.json; only one file can count',
     ]);
     assert.deepEqual(result.wages, []);
     const broken = run(trips, { books: [october, file('books-x.json', '{"form": "milecopper books 2"}')] });
@@ -163,7 +163,7 @@ test('what speaks against closing: the future, months left open, a later one clo
     assert.deepEqual(ask('2026-09', '2026-12-01', [october]), ['error closeEarlier']);
     const { closing } = run(trips, { period: '2027-01', today: '2027-02-01', books: [october], language: 'de' });
     assert.deepEqual(closing.map(({ text }) => text), [
-        'vor 2027-01 ist noch nicht abgeschlossen: 2026-11 (Fahrten: 1), 2026-12 (Fahrten: 0)',
+        'vor Januar 2027 ist noch nicht abgeschlossen: November 2026 (Fahrten: 1), Dezember 2026 (Fahrten: 0)',
     ]);
 });
 
@@ -203,10 +203,10 @@ test('November alone is told, once and with names: what it may cost, and what av
     const [november, cem] = [MORNING, MORNING.replace('Anna Berg', 'Cem')];
     const late = MORNING.replace('Anna Berg', 'Dora').replace('11-01', '11-02');
     const told =
-        'trips.csv:2: warning: of 2026-10 there are neither trips nor books, and in the first 24 hours of 2026-11 ' +
-        'these ride already: Anna Berg, Cem. Where a window of the month before was still open, it begins anew here, ' +
-        'and its caps are paid twice: of these trips, €36.82 in all, some may be too much. To avoid it, add ' +
-        'books-2026-10.json or the trips of 2026-10';
+        'trips.csv:2: warning: of October 2026 there are neither trips nor books, and in the first 24 hours of ' +
+        'November 2026 these ride already: Anna Berg, Cem. Where a window of the month before was still open, it ' +
+        'begins anew here, and its caps are paid twice: of these trips, €36.82 in all, some may be too much. To ' +
+        'avoid it, add books-2026-10.json or the trips of the month before';
     const alone = TRIPS + november + cem + late;
     for (const period of [null, '2026-11', 'open']) assert.deepEqual(said(run(alone, { period })), [told]);
     assert.deepEqual(said(run(alone, { books: closedOf(EVENING, '2026-10') })), []);

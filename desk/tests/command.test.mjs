@@ -130,13 +130,13 @@ test('closing a month of the future, or one that leaves an earlier month open, a
     assert.deepEqual([early.status, early.out], [2, '']);
     assert.equal(
         early.told,
-        './milecopper: not closed: 2026-11 lies in the future (today is 2026-10-15); ' +
-            'before 2026-11 these are not closed yet: 2026-10 (trips: 1). If it is meant: --force\n',
+        './milecopper: not closed: November 2026 lies in the future (today is Thu 15 Oct 2026); ' +
+            'before November 2026 these are not closed yet: October 2026 (trips: 1). If it is meant: --force\n',
     );
     assert.deepEqual(fs.readdirSync(place), ['areas.csv', 'stops.csv', 'trips.csv']);
     const running = close('--period', '2026-10', '--today', '2026-10-31');
     assert.equal(running.status, 0);
-    assert.match(running.told, /2026-10 is not over yet \(today is 2026-10-31\)/);
+    assert.match(running.told, /October 2026 is not over yet \(today is Sat 31 Oct 2026\)/);
     assert.equal(close('--period', '2026-12', '--today', '2027-01-02').status, 2);
     assert.equal(close('--period', '2026-12', '--today', '2027-01-02', '--force').status, 0);
     assert.equal(close('--period', '2026-11', '--today', '2027-01-02').status, 2); // a later month is closed
@@ -171,7 +171,7 @@ test('two books of one month in a folder are an error that names both, and one t
     fs.copyFileSync(path.join(place, 'books-2026-10.json'), path.join(place, 'books-2026-10 (1).json'));
     const both = called('wages', place, '--period', '2026-11', '--language', 'en');
     assert.deepEqual([both.status, both.out], [2, '']);
-    assert.match(both.told, /books of 2026-10 twice: books-2026-10 \(1\)\.json and books-2026-10\.json/);
+    assert.match(both.told, /books of October 2026 twice: books-2026-10 \(1\)\.json and books-2026-10\.json/);
     const books = path.join(place, 'books-2026-10.json');
     const one = called('wages', place, '--period', '2026-11', '--language', 'en', '--books', books);
     assert.deepEqual([one.status, one.out.split('\n')[1]], [0, 'Anna,2026-11,1,0,6.59']);
