@@ -15,9 +15,10 @@ export function statementHtml(member, result, language, letter = null) {
 <header><h2>${escaped(member.name)}</h2><p>${escaped(title)}</p></header>
 <div class="sheet">
 <p class="sum"><span>${escaped(counts)}</span> <strong>${escaped(words.total)} ${escaped(total)}</strong></p>
-${windows.map((window) => windowHtml(window, words)).join('\n')}
+${windows.slice(0, -1).map((window) => windowHtml(window, words)).join('\n')}
+<div class="end">${windowHtml(windows.at(-1), words)}
 <footer>${legendHtml(windows, words)}
-<p>${escaped(foot.tariff)}. ${escaped(foot.version)}.</p><p class="hash">${escaped(foot.hash)}</p></footer>
+<p>${escaped(foot.tariff)}. ${escaped(foot.version)}.</p><p class="hash">${escaped(foot.hash)}</p></footer></div>
 </div></article>`;
 }
 

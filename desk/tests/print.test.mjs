@@ -5,9 +5,10 @@ import { readFileSync, writeFileSync } from 'node:fs';
 import path from 'node:path';
 import { after, before, test } from 'node:test';
 import { pathToFileURL } from 'node:url';
-import { statementsDocument } from '../sheets.mjs';
+import { memberDocument, statementsDocument } from '../sheets.mjs';
 import { membersOf } from '../statement.mjs';
 import { startBrowser } from './browser.mjs';
+import { CREW } from './crew.mjs';
 import { FIREFOX, startFirefox } from './firefox.mjs';
 import { ROOT, run, sample } from './support.mjs';
 
@@ -43,6 +44,10 @@ async function printedByChromium(url) {
     return Buffer.from(data, 'base64');
 }
 
+async function printedByFirefox(url) {
+    return (await firefox.page(url)).printed();
+}
+
 /** The text of each sheet of a PDF. */
 function sheetsOf(pdf) {
     const text = execFileSync('pdftotext', ['-layout', '-', '-'], { input: pdf, encoding: 'utf8' });
@@ -69,7 +74,7 @@ function addsUp(sheets, result, language, month) {
         const due = result.wages.find(({ member }) => member === name).cents;
         assert.equal(centsBehind(own, SUMS[language]).reduce((sum, cents) => sum + cents, 0), due, name);
     }
-    assert.ok(owners.filter((name) => name === 'Zoe Lang').length > 1, 'one window breaks over sheets');
+    assert.ok(owners.length > members.length, 'a member has several sheets');
 }
 
 test('printed, each window has one sum, and each sheet name, month and number', { skip: READER }, async () => {
@@ -84,17 +89,37 @@ test('printed, each window has one sum, and each sheet name, month and number', 
     }
 });
 
+test('of the crew of 21, printed, the windows on a member’s sheets add up to the amount', { skip: READER }, async () => {
+    const all = run(readFileSync(path.join(CREW, 'trips.csv'), 'utf8'), { period: '2026-10', language: 'de' });
+    const result = { ...all, members: all.members.slice(0, 5) }; // all of them are a hundred sheets
+    const sheets = sheetsOf(await printedByChromium(written(result, 'de')));
+    addsUp(sheets, result, 'de', /Abrechnung Oktober 2026/);
+});
+
+test('a member’s own file counts its own sheets, and has the sender on the first', { skip: READER }, async () => {
+    const result = run(sample('trips.csv'), { period: '2026-10', language: 'de' });
+    const marta = membersOf(result).find(({ name }) => name === 'Marta Nowak');
+    const letter = { name: 'Fahrgemeinschaft Nord', contact: 'ute@example.org', date: '2026-11-03' };
+    const file = path.join(browser.folder, 'Marta-Nowak-2026-10.html');
+    writeFileSync(file, memberDocument(marta, result, 'de', CSS, letter));
+    const sheets = sheetsOf(await printedByChromium(pathToFileURL(file).href));
+    assert.match(sheets[0], /^\s*Fahrgemeinschaft Nord +03\.11\.2026\n\s*ute@example\.org\s+Marta Nowak\n/);
+    for (const sheet of sheets.slice(1)) assert.match(sheet, /^\s*Marta Nowak\n\s*Abrechnung Oktober 2026\n/);
+    sheets.forEach((sheet, i) => assert.ok(sheet.includes(`Seite ${i + 1} von ${sheets.length}`)));
+    assert.equal(centsBehind(sheets, 'Summe').reduce((sum, cents) => sum + cents, 0), 12390);
+});
+
 const noFirefox = FIREFOX ? READER : 'Firefox is not here (firefox-esr or firefox)';
 test('printed by Firefox, each window has one sum, and each sheet name and month', { skip: noFirefox }, async () => {
     const result = run(longTrips(), { period: '2026-10', language: 'de' });
-    const page = await firefox.page(written(result, 'de'));
-    addsUp(sheetsOf(await page.printed()), result, 'de', /Abrechnung Oktober 2026/);
+    addsUp(sheetsOf(await printedByFirefox(written(result, 'de'))), result, 'de', /Abrechnung Oktober 2026/);
 });
 
-test('a window that fits on a sheet is kept together', { skip: READER }, async () => {
+test('a window that fits on a sheet is kept together, and the foot never stands alone', { skip: READER }, async () => {
     const result = run(sample('trips.csv'), { period: '2026-10', language: 'de' });
-    const sheets = sheetsOf(await printedByChromium(written(result, 'de')));
-    for (const sheet of sheets) {
+    const address = written(result, 'de');
+    const prints = [await printedByChromium(address), ...(FIREFOX ? [await printedByFirefox(address)] : [])];
+    for (const sheet of prints.flatMap(sheetsOf)) {
         const marks = [/^\s*(24-Stunden-Fenster ab|Außerhalb)/gm, /^\s*Summe\b/gm];
         const [begun, ended] = marks.map((mark) => sheet.match(mark) ?? []);
         assert.ok(begun.length > 0, 'a sheet of the foot alone');
