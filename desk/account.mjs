@@ -3,7 +3,8 @@
 import { clockOf } from './clock.mjs';
 import { momentIn, tripBytes } from './trips.mjs';
 
-const WINDOW = 1440;
+/** The minutes of a window. */
+export const WINDOW = 1440;
 
 // ---- The book's words (docs/FORMAT.md, "The book")
 

@@ -1,6 +1,6 @@
 // Closed months: which books there are, from which of them the trips go on, whether those fit the tariff, which trips
 // of a closed month the books lack, and what speaks against closing a month now.
-import { openUntil } from './account.mjs';
+import { WINDOW, openUntil } from './account.mjs';
 import { closedIn, parsedBooks, readBooks } from './books.mjs';
 import { decoded } from './encoding.mjs';
 import { notKept } from './kept.mjs';
@@ -105,16 +105,14 @@ function keepersOf(month, books, closings) {
 
 // ---- What came before
 
-const WINDOW = 1440;
-
 /**
  * Where nothing is known of the month before, neither trips nor books, a window that was opened there is begun anew by
  * the first trips of the month. Told once, with those whom it may concern and what these trips cost.
  */
-export function warnOfLostWindows({ period, months, zone, mistakes }, books, members) {
+export function warnOfLostWindows({ period, months, zone, mistakes }, members) {
     const entries = members.flatMap((member) => member.entries);
     const first = period ?? firstOf(entries.map(({ month }) => month));
-    if (first === null || isKnown(monthBefore(first), books, months)) return;
+    if (first === null || months.some(({ month }) => month === monthBefore(first))) return;
     const end = startOf(zone, first) + WINDOW; // no window from before is open then
     const early = entries.filter((entry) => entry.accepted && entry.month === first && entry.checkOut.minute < end);
     if (early.length === 0) return;
@@ -123,9 +121,6 @@ export function warnOfLostWindows({ period, months, zone, mistakes }, books, mem
     const { file, line } = early[0];
     mistakes.warning(file, line, 'lostWindows', { names, month: first, before: monthBefore(first), cents });
 }
-
-const isKnown = (month, books, months) =>
-    books?.period === month || months.some((own) => own.month === month && own.trips > 0);
 
 // ---- Whether to close
 

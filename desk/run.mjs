@@ -129,7 +129,7 @@ function tariffIn({ engine, files, mistakes }) {
 function settledOrNot(desk, tariff, books, closings, trips) {
     try {
         const settled = settleAll(desk, tariff, books, dueTrips(desk, books, closings, trips, tariff));
-        warnOfLostWindows(desk, books, settled?.members ?? []);
+        warnOfLostWindows(desk, settled?.members ?? []);
         return settled;
     } catch (error) {
         if (!(error instanceof Disagreement)) throw error;

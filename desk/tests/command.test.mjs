@@ -176,6 +176,8 @@ test('two books of one month in a folder are an error that names both, and one t
     const one = called('wages', place, '--period', '2026-11', '--language', 'en', '--books', books);
     assert.deepEqual([one.status, one.out.split('\n')[1]], [0, 'Anna,2026-11,1,0,6.59']);
     assert.equal(called('wages', place, '--period', '2026-11', '--books', books, '--books', books).status, 2);
+    const closed = called('wages', place, '--period', '2026-10', '--language', 'en', '--books', books);
+    assert.match(closed.told, /the books are closed to 2026-10 already, and 2026-10 is asked for/);
 });
 
 test("README's commands run as they stand, and print the table that it shows", () => {
