@@ -1,7 +1,7 @@
 // A member's account: trips settled one after another on the member's book, and what they come to, window by window.
 // Every amount is the library's. What is added up here is compared with the book's own words after each trip.
 import { clockOf } from './clock.mjs';
-import { momentIn, tripBytes } from './trips.mjs';
+import { momentIn, putTrip } from './trips.mjs';
 
 /** The minutes of a window. */
 export const WINDOW = 1440;
@@ -45,13 +45,20 @@ function paidByBook(view, areas, slot) {
 }
 
 /** The sums of a window's riders where they are not 0, for whoever shows how full a cap is. */
-function sumsOf(book, areas) {
-    const view = viewOf(book);
+function sumsOf(view, areas) {
     const sums = [];
     for (let slot = 0; slot < RIDERS; slot += 1) {
-        if (allIn(view, slot, 0) === 0) continue;
-        const sumsIn = (_, area) => ({ area, second: secondIn(view, slot, area), all: allIn(view, slot, area) });
-        sums.push({ ...PARTY[slot], areas: areas.map(sumsIn).filter(({ all }) => all > 0) });
+        const { sort, number } = PARTY[slot];
+        if (allIn(view, slot, 0) > 0) sums.push({ sort, number, areas: areaSums(view, slot, areas) });
+    }
+    return sums;
+}
+
+function areaSums(view, slot, areas) {
+    const sums = [];
+    for (let area = 0; area < areas.length; area += 1) {
+        const all = allIn(view, slot, area);
+        if (all > 0) sums.push({ area, second: secondIn(view, slot, area), all });
     }
     return sums;
 }
@@ -73,18 +80,10 @@ function slotOf(i, { adults, children }) {
 
 // ---- Statements
 
-/** The parts of a statement, with each of the party's charge. */
-function partsOf(engine, statement) {
-    const parts = [];
-    for (let at = 0; at < statement.length; ) {
-        const record = engine.read(statement, at);
-        if (!record.accepted) throw new Error(`a charge record is refused with ${record.refusal.number}`);
-        const { area, km, minutes, opening, charges } = record.fields;
-        const riders = charges.map((charge, i) => chargeOf(charge, slotOf(i, record.fields)));
-        parts.push({ area, km, minutes, opening, riders });
-        at += record.size;
-    }
-    return parts;
+/** A part of a trip from the fields of its charge record, with each of the party's charge. */
+function partOf(fields) {
+    const { area, km, minutes, opening, charges } = fields;
+    return { area, km, minutes, opening, riders: charges.map((charge, i) => chargeOf(charge, slotOf(i, fields))) };
 }
 
 function chargeOf({ cents, off, capArea, capClass }, slot) {
@@ -116,46 +115,56 @@ export class Disagreement extends Error {
  * count; the others came before. Each is priced once, on the book that its window began in.
  */
 export function settleMember({ engine, tariff, zone, name, book, trips, inPeriod }) {
-    const account = { name, book, view: viewOf(book), windows: [], clock: clockOf(zone), areas: tariff.areas };
+    const open = engine.open(tariff.bytes, book, putTrip);
+    const account = { name, view: open.view(), windows: [], clock: clockOf(zone), areas: tariff.areas };
+    account.opening = tripsIn(account.view) === 0 ? null : openingIn(account.view);
     account.paid = PARTY.map((_, slot) => paidByBook(account.view, tariff.areas, slot));
     for (const entry of trips) {
-        const answer = engine.settle(tariff.bytes, account.book, tripBytes(entry));
+        const sums = sumsBefore(account, entry);
+        const answer = open.settle(entry);
         entry.inPeriod = inPeriod(entry);
         entry.accepted = answer.accepted;
-        if (answer.accepted) accept(account, entry, partsOf(engine, answer.statement), answer.book);
+        if (answer.accepted) accept(account, entry, answer.records.map(partOf), sums);
         else entry.refusal = { number: answer.refusal.number, place: answer.refusal.place };
         putInWindow(account, entry);
     }
-    closeWindow(account);
-    return { name, entries: trips, windows: account.windows, book: account.book };
+    closeWindow(account, sumsOf(account.view, account.areas));
+    return { name, entries: trips, windows: account.windows, book: open.book() };
 }
 
-function accept(account, entry, parts, book) {
+/** The sums of the window that a trip ends, since it checks out when that is over (R9.2); null of any other trip. */
+function sumsBefore({ opening, view, areas }, { checkOut }) {
+    return opening !== null && checkOut.minute > opening + WINDOW ? sumsOf(view, areas) : null;
+}
+
+function accept(account, entry, parts, sums) {
     const opening = parts[0].opening;
-    if (tripsIn(account.view) === 0 || openingIn(account.view) !== opening) {
-        closeWindow(account);
+    if (account.opening !== opening) {
+        const lost = account.opening !== null && sums === null; // a window that is over otherwise than is known here
+        if (lost) throw new Disagreement(account.name, `window, ${placeOf(entry)}`);
+        closeWindow(account, sums);
+        account.opening = opening;
         account.paid.fill(0);
     }
     for (const { riders } of parts) for (const { slot, charge } of riders) account.paid[slot] += charge;
     entry.window = opening;
     entry.cents = centsOf(parts);
     entry.parts = parts;
-    account.book = book;
-    account.view = viewOf(book);
     agree(account, entry);
 }
 
+const placeOf = ({ file, line }) => `${file}:${line}`;
+
 /** The window, the last check-out, and what every rider and bicycle has paid in it: the book has to say the same. */
 function agree({ name, view, paid, areas }, entry) {
-    const place = `${entry.file}:${entry.line}`;
-    if (openingIn(view) !== entry.window) throw new Disagreement(name, `opening, ${place}`);
-    if (lastCheckOutIn(view) !== entry.checkOut.minute) throw new Disagreement(name, `check-out, ${place}`);
-    paid.forEach((cents, slot) => {
+    if (openingIn(view) !== entry.window) throw new Disagreement(name, `opening, ${placeOf(entry)}`);
+    if (lastCheckOutIn(view) !== entry.checkOut.minute) throw new Disagreement(name, `check-out, ${placeOf(entry)}`);
+    for (let slot = 0; slot < paid.length; slot += 1) {
         const due = paidByBook(view, areas, slot);
-        if (cents === due) return;
+        if (paid[slot] === due) continue;
         const { sort, number } = PARTY[slot];
-        throw new Disagreement(name, `${sort} ${number}, ${place}: ${cents} and ${due} cents`);
-    });
+        throw new Disagreement(name, `${sort} ${number}, ${placeOf(entry)}: ${paid[slot]} and ${due} cents`);
+    }
 }
 
 // ---- Windows
@@ -177,7 +186,7 @@ function openAt(window, minute) {
 }
 
 /** Keeps the sums that the book has when the window's last trip is in it. */
-function closeWindow({ windows, book, view, areas }) {
-    const window = windows.findLast(({ opening }) => opening === openingIn(view));
-    if (window) window.sums = sumsOf(book, areas);
+function closeWindow({ windows, opening }, sums) {
+    const window = opening === null ? null : windows.findLast((one) => one.opening === opening);
+    if (window) window.sums = sums;
 }

@@ -1,5 +1,6 @@
 // The clock on the wall and the minutes that are counted: minute 0 is 2000-01-01 00:00 UTC, as in the library.
 // The offset of a time zone comes from the machine's own tables (Intl), asked once a day that occurs.
+import { remembered } from './remembered.mjs';
 
 const DAY = 1440;
 const EPOCH = Date.UTC(2000, 0, 1);
@@ -30,31 +31,30 @@ export function timeOf(text) {
     return { minutes: Number(found[1]) * 60 + Number(found[2]), offset: ahead };
 }
 
-const clocks = new Map();
-
 /** The clock of a zone by name. */
-export function clockOf(zone) {
-    if (!clocks.has(zone)) clocks.set(zone, makeClock(zone));
-    return clocks.get(zone);
-}
+export const clockOf = remembered(makeClock);
 
 function makeClock(zone) {
     const numeric = { year: 'numeric', month: 'numeric', day: 'numeric', hour: 'numeric', minute: 'numeric' };
     const format = new Intl.DateTimeFormat('en', { ...numeric, timeZone: zone, hourCycle: 'h23', calendar: 'gregory' });
-    const days = new Map();
     const asked = (minute) => {
         const shown = {};
         for (const { type, value } of format.formatToParts(EPOCH + minute * 60000)) shown[type] = Number(value);
         const wall = Date.UTC(shown.year, shown.month - 1, shown.day, shown.hour, shown.minute);
         return (wall - EPOCH) / 60000 - minute;
     };
+    const offsetsIn = remembered((day) => offsetsOf(asked, day * DAY));
     const offsetAt = (minute) => {
-        const day = Math.floor(minute / DAY);
-        if (!days.has(day)) days.set(day, offsetsOf(asked, day * DAY));
-        const { before, behind, change } = days.get(day);
+        const { before, behind, change } = offsetsIn(Math.floor(minute / DAY));
         return minute < change ? before : behind;
     };
-    return { zone, offsetAt };
+    // the offset on a day, on that before it and on two behind; null where the clock is changed meanwhile
+    const steadyOffset = remembered((day) => {
+        const near = [-1, 0, 1, 2].map((by) => offsetsIn(day + by));
+        const offset = near[0].before;
+        return near.every(({ before, behind }) => before === offset && behind === offset) ? offset : null;
+    });
+    return { zone, offsetAt, steadyOffset };
 }
 
 /** The offsets of a day of UTC, in which the clock is changed once at most, and the first minute of the later one. */
@@ -86,6 +86,18 @@ export function momentsOf(clock, day, minuteOfDay) {
  * one in which the trip does not end before it began. Else `faults`: which column is amiss, and how.
  */
 export function tripTimes(clock, day, depart, arrive) {
+    const offset = clock.steadyOffset(day);
+    const plain = offset !== null && depart.offset === null && arrive.offset === null;
+    return plain ? plainTimes(day * DAY - offset, offset, depart, arrive) : changingTimes(clock, day, depart, arrive);
+}
+
+/** Where the clock is not changed and no offset is written: of a day that begins at this minute. */
+function plainTimes(start, offset, depart, arrive) {
+    const end = start + arrive.minutes + (arrive.minutes < depart.minutes ? DAY : 0);
+    return { checkIn: { minute: start + depart.minutes, offset }, checkOut: { minute: end, offset } };
+}
+
+function changingTimes(clock, day, depart, arrive) {
     const starts = written(momentsOf(clock, day, depart.minutes), depart);
     if (starts.fault) return { faults: [{ column: 'depart', ...starts }] };
     const late = arrive.minutes >= DAY;
@@ -120,14 +132,35 @@ function onlyOne(readings) {
     return { faults: faults.filter(({ offsets }) => offsets.length > 1) };
 }
 
+/** A day as '2026-10-31', and its month, '2026-10'. */
+const wordsOf = remembered((day) => {
+    const date = new Date(EPOCH + day * DAY * 60000).toISOString().slice(0, 10);
+    return { date, month: date.slice(0, 7) };
+});
+
+const two = (number) => String(number).padStart(2, '0');
+
+const CLOCK_TIMES = Array.from({ length: DAY }, (_, minute) => `T${two(Math.floor(minute / 60))}:${two(minute % 60)}`);
+
+/** A minute of the wall as '2026-10-31T23:50'. */
+function wallText(wall) {
+    const day = Math.floor(wall / DAY);
+    return wordsOf(day).date + CLOCK_TIMES[wall - day * DAY];
+}
+
 /** What the clock shows at a minute: '2026-10-31T23:50'. */
 export function localOf(clock, minute) {
-    return new Date(EPOCH + (minute + clock.offsetAt(minute)) * 60000).toISOString().slice(0, 16);
+    return wallText(minute + clock.offsetAt(minute));
+}
+
+/** A minute with what the clock shows then, `offset` ahead of UTC. */
+export function momentOf({ minute, offset }) {
+    return { minute, local: wallText(minute + offset), offset: offsetText(offset) };
 }
 
 /** The month that a minute belongs to in a zone, '2026-10': the one place that decides to whose wages a trip goes. */
 export function monthOf(zone, minute) {
-    return localOf(clockOf(zone), minute).slice(0, 7);
+    return wordsOf(Math.floor((minute + clockOf(zone).offsetAt(minute)) / DAY)).month;
 }
 
 /** Today's date in a zone, '2026-11-03', by the machine's clock. */
@@ -136,8 +169,7 @@ export function todayIn(zone) {
 }
 
 /** An offset in minutes as it is written: '+01:00'. */
-export function offsetText(offset) {
-    const two = (number) => String(number).padStart(2, '0');
+export const offsetText = remembered((offset) => {
     const ahead = Math.abs(offset);
     return `${offset < 0 ? '-' : '+'}${two(Math.floor(ahead / 60))}:${two(ahead % 60)}`;
-}
+});

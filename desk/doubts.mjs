@@ -32,13 +32,15 @@ function warnOfLong(trips, mistakes) {
 
 /** Tells of trips in a year of which there is only one day, far from all others: so New Year's night is none. */
 function warnOfYears(trips, mistakes) {
+    const months = new Set(trips.map(({ month }) => month));
+    if (new Set([...months].map((month) => month.slice(0, 4))).size < 2) return;
     const days = new Map(); // year → its only day, or null where it has several
     for (const { checkIn } of trips) {
         const day = checkIn.local.slice(0, 10);
         const year = day.slice(0, 4);
         days.set(year, days.has(year) && days.get(year) !== day ? null : day);
     }
-    for (const [year, day] of days) if (day !== null && days.size > 1) warnOfYear(trips, year, mistakes);
+    for (const [year, day] of days) if (day !== null) warnOfYear(trips, year, mistakes);
 }
 
 function warnOfYear(trips, year, mistakes) {
@@ -53,15 +55,26 @@ function warnOfYear(trips, year, mistakes) {
 
 /** Tells of every trip of a member that stands in the files twice. Those with one check-in stand side by side. */
 function warnOfTwins(trips, several, mistakes) {
-    let firsts = new Map();
-    trips.forEach((trip, at) => {
-        const alone = (other) => trips[other]?.checkIn.minute !== trip.checkIn.minute;
-        if (alone(at - 1) && alone(at + 1)) return;
-        if (alone(at - 1)) firsts = new Map();
+    for (let at = 0; at < trips.length; ) {
+        const end = endOfMinute(trips, at);
+        if (end - at > 1) warnAmong(trips.slice(at, end), several, mistakes);
+        at = end;
+    }
+}
+
+function endOfMinute(trips, at) {
+    let end = at + 1;
+    while (end < trips.length && trips[end].checkIn.minute === trips[at].checkIn.minute) end += 1;
+    return end;
+}
+
+function warnAmong(trips, several, mistakes) {
+    const firsts = new Map();
+    for (const trip of trips) {
         const key = keyOf(trip);
         if (firsts.has(key)) mistakes.warning(trip.file, trip.line, 'tripTwice', placeOf(firsts.get(key), several));
         else firsts.set(key, trip);
-    });
+    }
 }
 
 function keyOf({ checkOut, from, via, to, class: travelClass, level, party: { adults, children, bicycles } }) {

@@ -1,6 +1,6 @@
 // The proved library, compiled for WebAssembly (host/built wasm), for Node and for browsers alike. Bytes go in and
 // bytes come out: each slice is copied into the library's memory and what it wrote is copied out, so nothing that is
-// lent or given back is shared with it.
+// lent or given back is shared with it. Only an account, for many trips on one book, leaves tariff and book in there.
 import { refusalText } from './words.mjs';
 
 // The lengths of include/milecopper.h, which says what they are of.
@@ -48,21 +48,77 @@ export async function loadLibrary(wasmBytes) {
     const { memory, __heap_base, milecopper_version, ...functions } = instance.exports;
     const bytes = new Uint8Array(memory.buffer);
     const places = placesFrom(__heap_base.value, bytes.length);
+    const room = roomIn(bytes, places);
     const call = (name, slices) => {
+        room.hold(null);
         const words = FUNCTIONS[name].flatMap((slice) => {
-            if (slice === 'at') return [0n];
-            const lent = deciding(slice, slices[slice]);
-            bytes.set(lent, places[slice]);
-            return [places[slice], BigInt(lent.length)];
+            return slice === 'at' ? [0n] : [places[slice], room.lend(slice, slices[slice])];
         });
         const answer = BigInt.asUintN(64, functions[name](...words));
-        const after = (slice) => {
-            const length = Math.min(slices[slice].length, DECIDING_BYTES[slice]);
-            return bytes.slice(places[slice], places[slice] + length);
-        };
+        const after = (slice) => room.copied(slice, Math.min(slices[slice].length, DECIDING_BYTES[slice]));
         return { answer, after };
     };
-    return { version: textAt(bytes, milecopper_version.value), call };
+    const open = (...given) => openIn(room, places, functions, ...given);
+    return { version: textAt(bytes, milecopper_version.value), call, open };
+}
+
+/**
+ * The memory in which slices are lent. An account may hold it, so that its tariff and book stay in there from one trip
+ * to the next; before anyone else's are lent, it takes its book out.
+ */
+function roomIn(bytes, places) {
+    let holder = null;
+    const lend = (slice, lent) => {
+        const decides = deciding(slice, lent);
+        bytes.set(decides, places[slice]);
+        return BigInt(decides.length);
+    };
+    const hold = (next) => {
+        if (holder === next) return;
+        holder?.leave();
+        holder = next;
+        holder?.enter();
+    };
+    const copied = (slice, length) => bytes.slice(places[slice], places[slice] + length);
+    const trip = bytes.subarray(places.trip, places.trip + DECIDING_BYTES.trip);
+    return { lend, hold, copied, trip, view: new DataView(bytes.buffer) };
+}
+
+/**
+ * A book under a tariff, for trips one after another, of which `put` writes the record and answers its length. `settle`
+ * gives the answer's number, `read` that for the charge record at an offset of what was written, and `fields` what it
+ * read. `view` shows the book as it is now, until another call; `book` copies it.
+ */
+function openIn(room, places, functions, tariff, book, put) {
+    let own = deciding('book', book).slice();
+    let lengths;
+    const holder = {
+        enter: () => (lengths = { tariff: room.lend('tariff', tariff), book: room.lend('book', own) }),
+        leave: () => (own = room.copied('book', own.length)),
+    };
+    const [statementLength, fieldsLength] = [LARGEST_STATEMENT_BYTES, LARGEST_FIELDS_BYTES].map(BigInt);
+    return {
+        settle: (trip) => {
+            room.hold(holder);
+            return functions.milecopper_settle(
+                ...[places.tariff, lengths.tariff, places.book, lengths.book],
+                ...[places.trip, BigInt(put(room.trip, trip)), places.statement, statementLength],
+            );
+        },
+        read: (at, length) => {
+            const records = BigInt(length - at);
+            return functions.milecopper_read(places.statement + at, records, 0n, places.fields, fieldsLength);
+        },
+        fields: () => fieldsOf(room.view, places.fields),
+        view: () => {
+            room.hold(holder);
+            return new DataView(room.view.buffer, places.book, own.length);
+        },
+        book: () => {
+            room.hold(holder);
+            return room.copied('book', own.length);
+        },
+    };
 }
 
 // Where each slice is copied to, one behind the other: no two overlap.
@@ -86,11 +142,11 @@ function textAt(bytes, at) {
     return String.fromCharCode(...bytes.subarray(at, bytes.indexOf(0, at)));
 }
 
-// An answer's number is the bytes written or, from 2^32 on, a refusal's number and its place.
-function answerOf(number) {
-    const refused = Number(number >> 32n);
-    const rest = Number(number & 0xffffffffn);
-    if (refused === 0) return { accepted: true, bytes: rest };
+// An answer's number is the bytes written or, from 2^32 on, a refusal's number and its place: it is below 2^53.
+function answerOf(answer) {
+    const number = Number(answer);
+    if (number < 2 ** 32) return { accepted: true, bytes: number };
+    const [refused, rest] = [Math.floor(number / 2 ** 32), number % 2 ** 32];
     const text = { de: refusalText(refused, 'de'), en: refusalText(refused, 'en') };
     return { accepted: false, refusal: { number: refused, place: rest, text } };
 }
@@ -128,29 +184,54 @@ export async function loadEngine(wasmBytes) {
         const fields = new Uint8Array(LARGEST_FIELDS_BYTES);
         const { answer, after } = library.call('milecopper_read', { records: records.subarray(at), fields });
         const told = answerOf(answer);
-        return told.accepted ? { accepted: true, size: told.bytes, fields: fieldsOf(after('fields')) } : told;
+        if (!told.accepted) return told;
+        const { buffer, byteOffset } = after('fields');
+        return { accepted: true, size: told.bytes, fields: fieldsOf(new DataView(buffer), byteOffset) };
     };
 
-    return { version: library.version, checkTariff, settle, quote, post, read, refusalText };
+    // A book under a tariff, on which trips are settled one after another without a copy of either for each; `put`
+    // writes the record of a trip into the library's memory and answers its length. A trip that is accepted gives the
+    // fields of its charge records. The tariff that is lent must stay as it is meanwhile.
+    const open = (tariff, book, put) => {
+        const account = library.open(tariff, book, put);
+        const recordsOf = (length) => {
+            const records = [];
+            for (let at = 0; at < length; ) {
+                const told = answerOf(account.read(at, length));
+                if (!told.accepted) throw new Error(`a charge record is refused with ${told.refusal.number}`);
+                records.push(account.fields());
+                at += told.bytes;
+            }
+            return records;
+        };
+        const settled = (trip) => {
+            const told = answerOf(account.settle(trip));
+            return told.accepted ? { accepted: true, records: recordsOf(told.bytes) } : told;
+        };
+        return { settle: settled, view: account.view, book: account.book };
+    };
+
+    return { version: library.version, checkTariff, settle, quote, post, read, open, refusalText };
 }
 
-// What milecopper_read writes, in names: a head of 14 bytes, and ten for each charge.
-function fieldsOf(bytes) {
-    const view = new DataView(bytes.buffer, bytes.byteOffset);
-    const charges = Array.from({ length: bytes[1] }, (_, i) => {
-        const at = 14 + 10 * i;
-        const [cents, off] = [view.getUint32(at, true), view.getUint32(at + 4, true)];
-        return { cents, off, capArea: bytes[at + 8], capClass: bytes[at + 9] };
-    });
+// What milecopper_read writes at a place, in names: a head of 14 bytes, and ten for each charge.
+function fieldsOf(view, start) {
+    const charges = [];
+    const end = start + 14 + 10 * view.getUint8(start + 1);
+    for (let at = start + 14; at < end; at += 10) {
+        const cents = view.getUint32(at, true);
+        const off = view.getUint32(at + 4, true);
+        charges.push({ cents, off, capArea: view.getUint8(at + 8), capClass: view.getUint8(at + 9) });
+    }
     return {
-        kind: bytes[0],
-        opening: view.getUint32(10, true),
-        area: bytes[5],
-        km: view.getUint16(6, true),
-        minutes: view.getUint16(8, true),
-        adults: bytes[2],
-        children: bytes[3],
-        bicycles: bytes[4],
+        kind: view.getUint8(start),
+        opening: view.getUint32(start + 10, true),
+        area: view.getUint8(start + 5),
+        km: view.getUint16(start + 6, true),
+        minutes: view.getUint16(start + 8, true),
+        adults: view.getUint8(start + 2),
+        children: view.getUint8(start + 3),
+        bicycles: view.getUint8(start + 4),
         charges,
     };
 }

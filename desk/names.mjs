@@ -1,4 +1,5 @@
 // Names as people write them: when two are one, and which is near one that is not there.
+import { remembered } from './remembered.mjs';
 
 /** One spelling for what looks alike: composed letters, single blanks. */
 export function tidy(text) {
@@ -65,12 +66,13 @@ export function closest(text, names) {
  */
 export function personFinder() {
     const known = new Map();
+    const keysOf = remembered(personKeys);
     return {
         add: (name) => {
-            for (const key of personKeys(name).own) if (!known.has(key)) known.set(key, name);
+            for (const key of keysOf(name).own) if (!known.has(key)) known.set(key, name);
         },
         near: (name) => {
-            const key = personKeys(name).looked.find((one) => known.has(one));
+            const key = known.size === 0 ? undefined : keysOf(name).looked.find((one) => known.has(one));
             return key === undefined ? null : known.get(key);
         },
     };

@@ -1,6 +1,6 @@
 // A member's statement, to hand over: as words and figures (`statementOf`), which all forms share, and as text. Amounts
 // are those of the entries; what is added up here are totals, and they have to be the wages'.
-import { Disagreement } from './account.mjs';
+import { Disagreement, centsOf } from './account.mjs';
 import { clockOf, dayOf, momentsOf } from './clock.mjs';
 import { momentIn } from './trips.mjs';
 import { STATEMENT, capClassText, capText, classText, dayText, moneyText, monthText } from './words.mjs';
@@ -53,7 +53,7 @@ function agree(name, shown, due) {
 }
 
 function totalOf(entries) {
-    return ridersOf(entries).reduce((sum, { charge }) => sum + charge, 0);
+    return entries.reduce((sum, { parts }) => sum + centsOf(parts ?? []), 0);
 }
 
 /** All that was charged to anyone in the entries. */

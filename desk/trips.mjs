@@ -1,9 +1,10 @@
 // Trips from trips.csv: names become stops, clock times minutes, and each is made a trip record (docs/FORMAT.md).
-import { clockOf, dayOf, localOf, monthOf, offsetText, timeOf, tripTimes } from './clock.mjs';
+import { clockOf, dayOf, momentOf, monthOf, offsetText, timeOf, tripTimes } from './clock.mjs';
 import { readTable } from './csv.mjs';
 import { wholeIn, wordIn } from './fields.mjs';
 import { tidy } from './names.mjs';
-import { directory, nearThing, recordBytes } from './tariff.mjs';
+import { remembered } from './remembered.mjs';
+import { directory, nearThing } from './tariff.mjs';
 
 const LEVELS = ['K', 'A', 'B', 'C', 'D'];
 const MOST_STOPS = 32;
@@ -37,21 +38,38 @@ function tripsIn(file, stopIn, clock, mistakes) {
     return readTable(file, TRIP_COLUMNS, mistakes, take) ?? [];
 }
 
+const tidied = remembered(tidy);
+
 function readTrip(file, row, stopIn, clock, note) {
-    const member = tidy(row.member);
+    const member = tidied(row.member);
     if (member === '') note('blank', { column: 'member' });
-    const times = timesIn(row, clock, note);
-    const via = row.via.split('|').map(tidy).filter((text) => text !== '').map((text) => stopIn('via', text, note));
-    if (via.length + 2 > MOST_STOPS) note('tooManyStops', { found: via.length + 2 });
-    const [from, to] = ['from', 'to'].map((column) => {
-        const text = tidy(row[column]);
-        return text === '' ? note('blank', { column }) : stopIn(column, text, note);
-    });
-    const rest = { class: classIn(row, note), level: levelIn(row, note), party: partyIn(row, note) };
-    return { file, line: row.line, member, ...times, from, to, via, ...rest };
+    const { checkIn, checkOut, month } = timesIn(row, clock, note);
+    const via = viaIn(row, stopIn, note);
+    const from = endIn(row, 'from', stopIn, note);
+    const to = endIn(row, 'to', stopIn, note);
+    const [travelClass, level, party] = [classIn(row, note), levelIn(row, note), partyIn(row, note)];
+    const none = undefined; // what settling puts into a trip has its place from the start: each is of one form and size
+    return {
+        file, line: row.line, member, checkIn, checkOut, month, from, to, via, class: travelClass, level, party,
+        inPeriod: none, accepted: none, refusal: none, window: none, cents: none, parts: none,
+    };
 }
 
 // ---- Stops
+
+const NO_CHANGES = Object.freeze([]);
+
+function viaIn(row, stopIn, note) {
+    if (row.via === '') return NO_CHANGES;
+    const texts = row.via.split('|').filter((text) => tidied(text) !== '');
+    if (texts.length + 2 > MOST_STOPS) note('tooManyStops', { found: texts.length + 2 });
+    return texts.map((text) => stopIn('via', text, note));
+}
+
+/** The stop at a trip's beginning or end. */
+function endIn(row, column, stopIn, note) {
+    return row[column] === '' ? note('blank', { column }) : stopIn(column, row[column], note);
+}
 
 const MOST_SUGGESTIONS = 500; // looking for near names takes time, and a file with more unknown ones is of other stops
 
@@ -59,15 +77,14 @@ const MOST_SUGGESTIONS = 500; // looking for near names takes time, and a file w
 function stopFinder(stops) {
     if (!stops) return () => null;
     const find = directory(stops);
-    const answers = new Map();
     let unknown = 0;
     const near = (text) => {
         unknown += 1;
         return unknown <= MOST_SUGGESTIONS ? nearThing(text, stops) : null;
     };
+    const answers = remembered((text) => answerFor(tidy(text), find(tidy(text)), near));
     return (column, text, note) => {
-        if (!answers.has(text)) answers.set(text, answerFor(text, find(text), near));
-        const answer = answers.get(text);
+        const answer = answers(text);
         return answer.key ? note(answer.key, { column, ...answer.values }) : answer.index;
     };
 }
@@ -80,27 +97,31 @@ function answerFor(value, found, near) {
 
 // ---- Times
 
+const NO_TIMES = {};
+const daysBy = remembered(dayOf);
+const timesBy = remembered(timeOf);
+
 function timesIn(row, clock, note) {
     const day = dateIn(row, note);
     const depart = timeIn(row, 'depart', '23:59', note);
     const arrive = timeIn(row, 'arrive', '47:59', note);
-    if (day === null || depart === null || arrive === null) return {};
+    if (day === null || depart === null || arrive === null) return NO_TIMES;
     const { faults, checkIn, checkOut } = tripTimes(clock, day, depart, arrive);
     for (const fault of faults ?? []) noteFault(fault, row, note);
-    if (faults) return {};
+    if (faults) return NO_TIMES;
     const month = monthOf(clock.zone, checkIn.minute); // to whose wages it goes
-    return { checkIn: momentIn(clock, checkIn.minute), checkOut: momentIn(clock, checkOut.minute), month };
+    return { checkIn: momentOf(checkIn), checkOut: momentOf(checkOut), month };
 }
 
 function dateIn(row, note) {
     if (row.date === '') return note('blank', { column: 'date' });
-    return dayOf(row.date) ?? note('badDate', { value: row.date });
+    return daysBy(row.date) ?? note('badDate', { value: row.date });
 }
 
 function timeIn(row, column, most, note) {
     const value = row[column];
     if (value === '') return note('blank', { column });
-    const time = timeOf(value);
+    const time = timesBy(value);
     return time && (most === '47:59' || time.minutes < 1440) ? time : note('badTime', { column, value, most });
 }
 
@@ -112,7 +133,7 @@ function noteFault({ column, fault, offsets = [] }, row, note) {
 
 /** A minute with what the clock shows then. */
 export function momentIn(clock, minute) {
-    return { minute, local: localOf(clock, minute), offset: offsetText(clock.offsetAt(minute)) };
+    return momentOf({ minute, offset: clock.offsetAt(minute) });
 }
 
 /** Such a moment as one text: '2026-10-31T23:50+01:00'. */
@@ -131,7 +152,10 @@ function levelIn(row, note) {
     return LEVELS.includes(level) ? level : note('noLevel', { value: row.level });
 }
 
+const NOBODY = Object.freeze({ adults: 0, children: 0, bicycles: 0 });
+
 function partyIn(row, note) {
+    if (row.adults === '' && row.children === '' && row.bicycles === '') return NOBODY;
     const number = (column) => wholeIn(row, column, 0, 10, note, 0);
     return { adults: number('adults'), children: number('children'), bicycles: number('bicycles') };
 }
@@ -152,16 +176,47 @@ export function tripsByMember(trips) {
     return members;
 }
 
-function stampFields({ local, offset }) {
-    const [year, month, day, hour, minute] = local.split(/[-T:]/).map(Number);
-    return [[2, year], [1, month], [1, day], [1, hour], [1, minute], [1, Number(offset.slice(1, 3))]];
+/** The number that two figures of a text say. */
+const figures = (text, at) => 10 * (text.charCodeAt(at) - 48) + text.charCodeAt(at + 1) - 48;
+
+/** A number as two bytes, the lower one first. */
+function putTwo(bytes, at, number) {
+    bytes[at] = number & 255;
+    bytes[at + 1] = number >> 8;
+}
+
+/** Year, month, day, hour, minute and hours ahead, from '2026-10-31T23:50' and '+01:00', as seven bytes. */
+function putStamp(bytes, at, { local, offset }) {
+    putTwo(bytes, at, 100 * figures(local, 0) + figures(local, 2));
+    for (let i = 0; i < 4; i += 1) bytes[at + 2 + i] = figures(local, 5 + 3 * i);
+    bytes[at + 6] = figures(offset, 1);
+}
+
+/**
+ * Writes the trip's record and answers its length: first its length without these two bytes, then its kind, two stamps,
+ * the ride and the stops.
+ */
+export function putTrip(bytes, { checkIn, checkOut, class: travelClass, level, party, from, via, to }) {
+    const number = via.length + 2;
+    const length = 24 + 2 * number;
+    putTwo(bytes, 0, length - 2);
+    putTwo(bytes, 2, 7);
+    putStamp(bytes, 4, checkIn);
+    putStamp(bytes, 11, checkOut);
+    bytes[18] = travelClass;
+    bytes[19] = LEVELS.indexOf(level) + 1;
+    bytes[20] = party.adults;
+    bytes[21] = party.children;
+    bytes[22] = party.bicycles;
+    bytes[23] = number;
+    putTwo(bytes, 24, from);
+    for (let i = 0; i < via.length; i += 1) putTwo(bytes, 26 + 2 * i, via[i]);
+    putTwo(bytes, length - 2, to);
+    return length;
 }
 
 /** The trip's record. */
 export function tripBytes(trip) {
-    const stops = [trip.from, ...trip.via, trip.to];
-    const { adults, children, bicycles } = trip.party;
-    const ride = [trip.class, LEVELS.indexOf(trip.level) + 1, adults, children, bicycles, stops.length];
-    const stamps = [...stampFields(trip.checkIn), ...stampFields(trip.checkOut)];
-    return recordBytes(7, [...stamps, ...ride.map((value) => [1, value]), ...stops.map((stop) => [2, stop])]);
+    const bytes = new Uint8Array(24 + 2 * MOST_STOPS);
+    return bytes.subarray(0, putTrip(bytes, trip));
 }

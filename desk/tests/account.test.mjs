@@ -210,20 +210,20 @@ test('names that a spreadsheet would run as formulas are harmless in every colum
 });
 
 test('sums that do not agree with the book are an error, and nothing is put out', () => {
-    const word = (at, by) => (book) => {
-        const changed = book.slice();
-        const view = new DataView(changed.buffer);
-        view.setUint32(4 * at, view.getUint32(4 * at, true) + by, true);
-        return changed;
-    };
+    const word = (at, by) => (view) => view.setUint32(4 * at, view.getUint32(4 * at, true) + by, true);
     const window = { opening: word(1, 1), 'check-out': word(2, 1) };
     const party = { 'holder 1': word(4, 1), 'adult 1': word(68, 1), 'bicycle 1': word(1357, 5) };
     for (const [what, change] of Object.entries({ ...window, ...party })) {
-        const settle = (...slices) => {
-            const answer = engine.settle(...slices);
-            return answer.accepted ? { ...answer, book: change(answer.book) } : answer;
+        const open = (...slices) => {
+            const account = engine.open(...slices);
+            const settle = (trip) => {
+                const answer = account.settle(trip);
+                change(account.view());
+                return answer;
+            };
+            return { ...account, settle };
         };
-        const result = run(TRIPS + EVENING.replace(',,,,,,', ',,,,1,,1'), { engine: { ...engine, settle } });
+        const result = run(TRIPS + EVENING.replace(',,,,,,', ',,,,1,,1'), { engine: { ...engine, open } });
         assert.equal(result.errors, 1, what);
         const due = `^trips.csv:1: the sums of 'Anna Berg' do not agree with the book \\(${what}, trips\\.csv:2`;
         assert.match(said(result)[0], new RegExp(due));

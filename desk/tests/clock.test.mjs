@@ -58,6 +58,21 @@ test('an arrival earlier than the departure is the next day, and so is 24:21', (
     );
 });
 
+test('on days without a change the times are those that are read with the offset written, all the year', () => {
+    for (let day = dayOf('2026-01-01'); day < dayOf('2027-01-01'); day += 1) {
+        const noon = berlin.offsetAt(day * 1440 + 720);
+        for (const [depart, arrive] of [['08:00', '09:10'], ['23:50', '00:21'], ['05:00', '24:00']]) {
+            const read = (offset) => tripTimes(berlin, day, { ...timeOf(depart), offset }, timeOf(arrive));
+            const next = berlin.offsetAt((day + 1) * 1440 + 720);
+            if (noon === next && noon === berlin.offsetAt((day - 1) * 1440)) assert.deepEqual(read(null), read(noon));
+        }
+    }
+    assert.equal(berlin.steadyOffset(dayOf('2026-07-01')), 120);
+    assert.equal(berlin.steadyOffset(dayOf('2026-12-01')), 60);
+    const near = ['2026-10-23', '2026-10-24', '2026-10-25', '2026-10-26', '2026-03-28', '2026-03-29'];
+    for (const date of near) assert.equal(berlin.steadyOffset(dayOf(date)), null, date);
+});
+
 test('the October night: the order tells the hours apart where it can', () => {
     const due = [utc(2026, 10, 25, 0, 50), utc(2026, 10, 25, 1, 10)];
     assert.deepEqual(minutes(times('2026-10-25', '02:50', '02:10')), due);

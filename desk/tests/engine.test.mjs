@@ -212,6 +212,66 @@ test('what is lent stays, and what is given back belongs to the caller', () => {
     assert.deepEqual({ statement: first.statement, book: first.book }, kept);
 });
 
+// Accounts settle what single calls settle, and nobody's tariff or book gets into another's.
+const put = (room, trip) => (room.set(trip), trip.length);
+
+function singly(prices, trips) {
+    let book = freshBook();
+    const answers = trips.map((trip) => {
+        const answer = engine.settle(prices, book, trip);
+        if (!answer.accepted) return answer;
+        book = answer.book;
+        const records = [];
+        for (let at = 0; at < answer.statement.length; at += engine.read(answer.statement, at).size) {
+            records.push(engine.read(answer.statement, at).fields);
+        }
+        return { accepted: true, records };
+    });
+    return { answers, book };
+}
+
+test('an account settles trips as single calls do, refused ones too', async () => {
+    const trips = [...recordsOf(await bytesOf('samples/roll.bin'))];
+    const due = singly(tariff, trips);
+    const account = engine.open(tariff, freshBook(), put);
+    assert.deepEqual(trips.map((trip) => account.settle(trip)), due.answers);
+    assert.deepEqual(account.book(), due.book);
+    assert.ok(due.answers.some(({ accepted }) => !accepted));
+});
+
+test('accounts beside each other and single calls between: another tariff is taken when one is given', async () => {
+    const trips = [...recordsOf(await bytesOf('samples/roll.bin'))].slice(0, 6);
+    const base = 2 * 29 + 6; // the place of the third area's base price
+    const others = [changed(tariff, base, tariff[base] + 5), tariff, changed(tariff, base, 1)];
+    const accounts = others.map((prices) => engine.open(prices, freshBook(), put));
+    const answers = others.map(() => []);
+    for (const trip of trips) {
+        accounts.forEach((account, i) => {
+            answers[i].push(account.settle(trip));
+            engine.quote(others[(i + 1) % 3], freshBook(), trip);
+            engine.checkTariff(new Uint8Array(3));
+        });
+    }
+    const due = others.map((prices) => singly(prices, trips));
+    assert.deepEqual(answers, due.map((one) => one.answers));
+    assert.deepEqual(accounts.map((account) => account.book()), due.map(({ book }) => book));
+    assert.notDeepEqual(answers[0], answers[1]);
+    const words = (book) => new DataView(book.buffer).getUint32(0, true);
+    assert.deepEqual(accounts.map((account) => account.view().getUint32(0, true)), due.map(({ book }) => words(book)));
+});
+
+test('an account leaves the book that is lent, and gives back one of its own', () => {
+    const lent = freshBook();
+    const account = engine.open(tariff, lent, put);
+    account.settle(tripOf({}));
+    const book = account.book();
+    assert.deepEqual(lent, freshBook());
+    account.settle(tripOf({ from: [2026, 11, 1, 1, 0], to: [2026, 11, 1, 1, 9] }));
+    assert.notDeepEqual(account.book(), book);
+    refused(engine.open(tariff, lent.subarray(1), put).settle(tripOf({})), 4);
+    refused(engine.open(new Uint8Array(0), lent, put).settle(tripOf({})), 2, 0);
+});
+
 test('what are no bytes, or no offset, is told at once', () => {
     assert.throws(() => engine.checkTariff([1, 2, 3]), TypeError);
     assert.throws(() => engine.settle(tariff, undefined, tripOf({})), TypeError);
