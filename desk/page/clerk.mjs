@@ -28,7 +28,7 @@ function seldom(tell) {
     };
 }
 
-/** `ask(task, values, tell)` has a task done; while it goes on, `tell` is given {done, all}. */
+/** `ask(task, values, tell)` has a task done; while it goes on, `tell` is given {done, all}. `where` says by whom. */
 export async function clerkWith(script, engine) {
     try {
         return await inWorker(script, engine);
@@ -52,7 +52,7 @@ async function inWorker(script, engine) {
             worker.postMessage({ number, task, values });
         });
     await ask('begin', engine);
-    return { ask };
+    return { ask, where: 'worker' };
 }
 
 function answered(waiting, { number, value, told, failure }) {
@@ -68,5 +68,5 @@ async function onPage(engine) {
         await new Promise((done) => setTimeout(done, 30)); // so that it is seen that something is done
         return tasks[task](values);
     };
-    return { ask };
+    return { ask, where: 'page' };
 }

@@ -103,11 +103,12 @@ export function wagesHtml({ wages, period }, glance, language) {
 }
 
 /** A row's cells by column, as HTML. */
-function cellsOf({ member, period, ...numbers }, glance, highest, language) {
+function cellsOf({ member, period, number, ...numbers }, glance, highest, language) {
     const name = escaped(member);
+    const told = number === undefined ? '' : ` <small>${escaped(number)}</small>`;
     return {
         ...numberCells({ ...numbers, off: glance.off }, language),
-        member: `<button type="button" data-member="${name}">${name}</button>`,
+        member: `<button type="button" data-member="${name}">${name}</button>${told}`,
         period: escaped(monthText(period, language)),
         bars: monthPicture(glance, highest),
     };

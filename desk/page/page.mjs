@@ -45,10 +45,10 @@ async function bytesOf(file) {
 
 const known = (file) => ({ ...file, sort: sortOf(file), rows: rowsIn(file) });
 
-/** Keeps a file, and answers what is to be said of the one whose place it takes. */
+/** Keeps a file, and answers what is to be said of the one whose place it takes. With books another month is open. */
 function keep(file) {
     const { files, replaced } = withFile(state.files, file);
-    Object.assign(state, { files, newTariff: false });
+    Object.assign(state, { files, newTariff: false, ...(file.sort === 'books' ? { chosen: undefined } : {}) });
     if (replaced === null) return [];
     const { replaced: again, inPlaceOf } = labels();
     return [replaced.name === file.name ? again(file.name) : inPlaceOf(file.name, replaced.name)];
@@ -169,6 +169,7 @@ function showMistakes({ mistakes, errors }) {
     element('mistakes-hint').textContent = errors > 0 ? mend : look;
     element('new-tariff').hidden = !mistakes.some(({ key }) => key === 'booksPrices');
     element('mistakes-lists').innerHTML = mistakesHtml(mistakes, state);
+    element('mistakes-lists').classList.toggle('short', errors === 0);
 }
 
 function showWages({ members, wages }) {
@@ -255,7 +256,6 @@ async function closeMonth() {
     const month = monthText(state.result.period, state.language);
     const { name, content } = await saved('books');
     keep(known({ name, bytes: new TextEncoder().encode(content) }));
-    state.chosen = undefined;
     state.notices = [labels().closed(month, name)];
     await work();
 }
@@ -342,6 +342,7 @@ function listenToDrops() {
 async function begin() {
     const engine = Uint8Array.from(atob(element('engine').textContent), (sign) => sign.charCodeAt(0));
     clerk = await clerkWith(script, engine);
+    document.body.dataset.work = clerk.where;
     element('version').textContent = `Milecopper ${await clerk.ask('version')}`;
     forget();
     listen();

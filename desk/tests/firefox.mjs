@@ -22,6 +22,14 @@ const PREFERENCES = {
 
 /** Starts Firefox with a fresh profile. `page(url)` opens a page in its one window, which saves in `saved`. */
 export async function startFirefox() {
+    try {
+        return await started();
+    } catch {
+        return started(); // a busy machine's first try may never be answered
+    }
+}
+
+async function started() {
     const folder = mkdtempSync(path.join(os.tmpdir(), 'milecopper-firefox-'));
     const saved = path.join(folder, 'saved');
     const told = Object.entries({ ...PREFERENCES, 'browser.download.dir': saved });
@@ -30,16 +38,24 @@ export async function startFirefox() {
     const words = ['--headless', '--no-remote', '--marionette', '--profile', folder, 'about:blank'];
     const child = spawn(FIREFOX, words, { stdio: 'ignore' });
     const ended = new Promise((done) => child.once('exit', done));
-    const port = await portIn(path.join(folder, 'MarionetteActivePort'));
-    const { send, hangUp } = await talkTo(port, ended);
-    await send('WebDriver:NewSession', { capabilities: { alwaysMatch: { acceptInsecureCerts: false } } });
-    const close = async () => {
-        await send('Marionette:Quit', { flags: ['eForceQuit'] }).catch(() => {});
-        hangUp();
+    const removed = async () => {
         await ended;
         rmSync(folder, { recursive: true, force: true, maxRetries: 5 });
     };
-    return { folder, saved, page: (url) => openPage(send, url), close };
+    try {
+        const { send, hangUp } = await talkTo(await portIn(path.join(folder, 'MarionetteActivePort')), ended);
+        await send('WebDriver:NewSession', { capabilities: { alwaysMatch: { acceptInsecureCerts: false } } });
+        const close = async () => {
+            await send('Marionette:Quit', { flags: ['eForceQuit'] }).catch(() => {});
+            hangUp();
+            await removed();
+        };
+        return { folder, saved, page: (url) => openPage(send, url), close };
+    } catch (error) {
+        child.kill('SIGKILL');
+        await removed();
+        throw error;
+    }
 }
 
 async function portIn(file) {

@@ -37,7 +37,7 @@ async function saved(page, selector, name) {
 
 test('in Firefox: files by choosing, and wages and statements are those of the core', { skip }, async () => {
     const page = await opened();
-    assert.equal(await page.ask('typeof Worker'), 'function');
+    assert.equal(await page.ask('document.body.dataset.work'), 'worker');
     await page.choose('#choose-files', [AREAS, STOPS, TRIPS]);
     await page.until(SETTLED);
     for (const name of ['Anna Berg', 'Marta Nowak']) {

@@ -91,6 +91,23 @@ test('a dropped folder is taken as a chosen one, and there is a place that says 
     desk.quiet(page);
 });
 
+test('members.csv among the files: numbers in the list and in the wages, and mistakes beside its lines', async () => {
+    const file = path.join(desk.folder, 'Stammdaten.csv'); // known by its columns
+    const members = ['Anna Berg', 'Cem Yıldız', 'Jonas Kröger', 'Marta Nowak'].map((name, i) => `00${i + 1};${name};`);
+    writeFileSync(file, `Personalnummer;Name;E-Mail\n${members.join('\n')}\n`);
+    const page = await desk.opened('#try');
+    await page.drop([file]);
+    await page.until(`${SETTLED} && document.querySelector('#slots').textContent.includes('Stammdaten.csv')`);
+    assert.equal((await cells(page, '#wages tbody tr'))[1][0], 'Cem Yıldız 002');
+    const wages = await desk.saved(page, '[data-save=wages]', 'wages-2026-10.csv');
+    assert.match(wages, /^Cem Yıldız;2026-10;7;1;70,58;002$/m);
+    writeFileSync(file, `Personalnummer;Name;E-Mail\n${[...members, '001;Dora;'].join('\n')}\n`);
+    await page.drop([file]);
+    await page.until('!document.querySelector("#mistakes").hidden && document.querySelector("#result").hidden');
+    assert.deepEqual((await cells(page, '#mistakes tbody tr'))[0].slice(0, 2), ['6', '001;Dora;']);
+    desk.quiet(page);
+});
+
 // ---- Months
 
 test('after closing, the open month is chosen and the selector stays; the closed one can be looked at', async () => {

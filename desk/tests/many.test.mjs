@@ -71,6 +71,7 @@ test('without a worker the page does the work itself, and it is the same', async
     const failing = 'window.Worker = class { constructor() { throw new Error("none"); } }';
     for (const first of ['', 'delete window.Worker', failing]) {
         const page = await desk.opened('', first);
+        assert.equal(await page.ask('document.body.dataset.work'), first === '' ? 'worker' : 'page');
         await page.choose('#choose-files', [AREAS, STOPS, written(3)]);
         await page.until(SETTLED);
         const rows = await cells(page, '#wages tbody tr');

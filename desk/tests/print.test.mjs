@@ -10,16 +10,15 @@ import { membersOf } from '../statement.mjs';
 import { startBrowser } from './browser.mjs';
 import { CREW } from './crew.mjs';
 import { FIREFOX, startFirefox } from './firefox.mjs';
-import { ROOT, run, sample } from './support.mjs';
+import { CSS, READY, madePage } from './pages.mjs';
+import { run, sample } from './support.mjs';
 
 const READER = spawnSync('pdftotext', ['-v']).error ? 'pdftotext is not here (the package poppler-utils)' : false;
-const CSS = readFileSync(path.join(ROOT, 'desk/page/statement.css'), 'utf8');
 
 let [browser, firefox] = [];
 
 before(async () => {
     browser = await startBrowser();
-    if (FIREFOX) firefox = await startFirefox();
 });
 after(() => Promise.all([browser?.close(), firefox?.close()]));
 
@@ -45,6 +44,7 @@ async function printedByChromium(url) {
 }
 
 async function printedByFirefox(url) {
+    firefox ??= await startFirefox();
     return (await firefox.page(url)).printed();
 }
 
@@ -107,6 +107,28 @@ test('a member’s own file counts its own sheets, and has the sender on the fir
     for (const sheet of sheets.slice(1)) assert.match(sheet, /^\s*Marta Nowak\n\s*Abrechnung Oktober 2026\n/);
     sheets.forEach((sheet, i) => assert.ok(sheet.includes(`Seite ${i + 1} von ${sheets.length}`)));
     assert.equal(centsBehind(sheets, 'Summe').reduce((sum, cents) => sum + cents, 0), 12390);
+});
+
+test('printed from the page, one statement or all: their sheets and no others', { skip: READER }, async () => {
+    const result = run(sample('trips.csv'), { period: '2026-10', language: 'de' });
+    const page = await browser.page(`${madePage()}#try`, 'window.print = () => {}');
+    await page.until(READY);
+    const printed = async () => {
+        const { data } = await page.send('Page.printToPDF', { preferCSSPageSize: true });
+        return sheetsOf(Buffer.from(data, 'base64'));
+    };
+    const sums = (sheets) => centsBehind(sheets, 'Summe').reduce((sum, cents) => sum + cents, 0);
+    await page.click('[data-member="Jonas Kröger"]');
+    await page.until('document.querySelector("#statement h2").textContent === "Jonas Kröger"');
+    const one = await printed();
+    for (const sheet of one) assert.match(sheet, /^\s*(\d\d\.\d\d\.\d{4}\s+)?Jonas Kröger\n/);
+    assert.equal(sums(one), 4504);
+    await page.click('#print-all');
+    await page.until('document.querySelector("#all .statement") !== null');
+    const all = await printed();
+    const names = membersOf(result).map(({ name }) => name).join('|');
+    for (const sheet of all) assert.match(sheet, new RegExp(`^\\s*(\\d\\d\\.\\d\\d\\.\\d{4}\\s+)?(${names})\n`));
+    assert.equal(sums(all), 31603);
 });
 
 const noFirefox = FIREFOX ? READER : 'Firefox is not here (firefox-esr or firefox)';
