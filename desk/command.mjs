@@ -16,6 +16,7 @@ import { OPEN, runDesk } from './run.mjs';
 import { agreeStatements, membersOf, statementText } from './statement.mjs';
 import { HELP, USAGE, WORDS, reasonText } from './usage.mjs';
 import { chargesText, wagesText } from './wages.mjs';
+import { prepared } from './workbook.mjs';
 
 const ROOT = path.dirname(path.dirname(fileURLToPath(import.meta.url)));
 const LANGUAGES = ['de', 'en'];
@@ -129,7 +130,7 @@ function versionLine() {
 async function perform(call) {
     const { folder, period, language, words, today, strict, 'new-tariff': newTariff } = call;
     const found = await orMistaken(language, () => fs.readdirSync(folder), (why) => words.folder(folder, why));
-    const files = filesOf(call, found);
+    const files = await prepared(filesOf(call, found));
     const engine = await orMistaken(language, () => engineOf(words), words.engineless);
     const progress = progressLine(words);
     const result = runDesk({ engine, files, period, language, today, strict, newTariff, progress });
@@ -153,10 +154,10 @@ function filesOf(call, found) {
     const { folder, words, language } = call;
     const inFolder = (names) => names.map((name) => path.join(folder, name));
     const places = {
-        areas: [call.areas ?? path.join(folder, 'areas.csv')],
-        stops: [call.stops ?? path.join(folder, 'stops.csv')],
-        members: call.members ? [call.members] : inFolder(found.filter((name) => name === 'members.csv')),
-        trips: call.trips ?? inFolder(tripsIn(found)),
+        areas: call.areas ? [call.areas] : inFolder(tablesIn(found, /^areas\.\w+$/, 'areas.csv')),
+        stops: call.stops ? [call.stops] : inFolder(tablesIn(found, /^stops\.\w+$/, 'stops.csv')),
+        members: call.members ? [call.members] : inFolder(tablesIn(found, /^members\.\w+$/)),
+        trips: call.trips ?? inFolder(tablesIn(found, /^trips/i, 'trips.csv')),
         books: call.books ?? inFolder(booksAmong(found)),
     };
     if (places.trips.length > 1) tell(words.trips(places.trips));
@@ -169,10 +170,12 @@ function filesOf(call, found) {
     return { areas, stops, members, trips: apart.trips, books: named ? apart.books[0] : apart.books };
 }
 
-/** The names of a folder's files of trips, in their order; where there is none, of the one that is due. */
-function tripsIn(found) {
-    const names = found.filter((name) => /^trips.*\.csv$/i.test(name)).sort();
-    return names.length > 0 ? names : ['trips.csv'];
+/** A folder's tables of such a name, in order, those that are saved as CSV as that; of none the one that is due. */
+function tablesIn(found, pattern, ...due) {
+    const saved = new Set(found.filter((name) => /\.csv$/i.test(name)).map((name) => path.parse(name).name));
+    const isTable = (name) => /\.csv$/i.test(name) || (/\.xlsx$/i.test(name) && !saved.has(path.parse(name).name));
+    const names = found.filter((name) => pattern.test(name) && isTable(name)).sort();
+    return names.length > 0 ? names : due;
 }
 
 /** Those of a folder's books, whatever they close. */

@@ -108,10 +108,13 @@ function closingQuote(text, from) {
 
 // ---- Tables
 
+/** A column that has to be there, but may be empty in a row. */
+export const IN_HEADER = 'header';
+
 /**
  * What `take` makes of a file's rows, objects by column with their line; a row that it makes null of is left out. What
- * is amiss goes to the mistakes. `columns` has for each name whether it is due; one that is not, and not there, is
- * empty in every row. Null where no row can be read.
+ * is amiss goes to the mistakes. `columns` has for each name whether it is due: true, false or IN_HEADER; one that is
+ * not, and not there, is empty in every row. Null where no row can be read.
  */
 export function readTable(file, columns, mistakes, take = (row) => row) {
     if (file.bytes === null) return mistakes.error(file.name, 1, 'missing');
@@ -151,7 +154,8 @@ function tableOf(name, cells, line, columns, mistakes) {
     for (const column of missing) {
         if (!meant.includes(column)) mistakes.error(name, line, 'columnMissing', { column });
     }
-    const least = 1 + Math.max(...due.map((column) => places.get(column)));
+    const filled = due.filter((column) => columns[column] !== IN_HEADER);
+    const least = 1 + Math.max(...filled.map((column) => places.get(column)));
     return missing.length === 0 ? { name, places: [...places], width: cells.length, least } : null;
 }
 

@@ -67,8 +67,17 @@ function firstForeignLine(bytes) {
     return 1;
 }
 
+// The first bytes of workbooks: of .xlsx and .ods, which are zips, and of .xls.
+const WORKBOOKS = [[0x50, 0x4b, 3, 4], [0xd0, 0xcf, 0x11, 0xe0]];
+
+/** Whether bytes are a workbook's and no text. */
+export function isWorkbook(bytes) {
+    return WORKBOOKS.some((first) => first.every((byte, at) => bytes[at] === byte));
+}
+
 /** The text of a file that holds one; null, and a mistake, where it does not. */
 export function textIn({ name, bytes }, mistakes) {
+    if (isWorkbook(bytes)) return mistakes.error(name, 1, 'workbook');
     const { text, amiss } = decoded(bytes);
     if (text === null) return mistakes.error(name, amiss.line, amiss.key);
     if (amiss !== null) mistakes.warning(name, amiss.line, amiss.key);

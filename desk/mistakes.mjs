@@ -57,6 +57,10 @@ const TEXTS = {
         de: () => "teils UTF-8, teils nicht; die Datei bitte als 'CSV UTF-8' speichern",
         en: () => "UTF-8 in parts only; please save the file as 'CSV UTF-8'",
     },
+    workbook: {
+        de: () => "diese Tabelle ist so nicht lesbar; bitte mit 'Speichern unter' als 'CSV UTF-8' speichern",
+        en: () => "this workbook cannot be read as it is; please save it with 'Save as' as 'CSV UTF-8'",
+    },
     ansi: {
         de: () => 'kein UTF-8; als Windows-1252 gelesen: stimmen die Umlaute?',
         en: () => 'not UTF-8; read as Windows-1252: are the umlauts right?',

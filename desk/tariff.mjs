@@ -1,5 +1,5 @@
 // The tariff from areas.csv and stops.csv: its bytes (docs/FORMAT.md), and which line each of its records comes from.
-import { readTable } from './csv.mjs';
+import { IN_HEADER, readTable } from './csv.mjs';
 import { centsIn, noteTaken, wholeIn, wordIn } from './fields.mjs';
 import { sha256 } from './hash.mjs';
 import { nearest, tidy } from './names.mjs';
@@ -11,11 +11,12 @@ const NO_DAY_CAP = 65535;
 
 const due = (names) => Object.fromEntries(names.map((name) => [name, true]));
 const free = (names) => Object.fromEntries(names.map((name) => [name, false]));
+const inHeader = (names) => Object.fromEntries(names.map((name) => [name, IN_HEADER]));
 
 /** The columns of areas.csv, and whether each has to be there. */
 export const AREA_COLUMNS = {
-    ...due(['id', 'name', 'level', 'within', 'base', 'per_km', 'valid_min', 'first_percent', 'child_percent']),
-    ...due(['day_cap', 'bicycle', 'factor']),
+    ...due(['id', 'name', 'level', 'base', 'per_km', 'valid_min', 'first_percent', 'child_percent', 'bicycle']),
+    ...inHeader(['within', 'day_cap', 'factor']), // what is empty there says something, too
     ...free(['kind', 'city_whole', 'trip_cap', 'trip_cap_min', ...TICKETS.map((ticket) => `cap_${ticket}`)]),
     ...free(['bicycle_trip', 'town', 'child_ticket', ...TICKETS.map((ticket) => `child_${ticket}`)]),
 };

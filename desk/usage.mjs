@@ -16,10 +16,10 @@ close      schließt den Monat ab und schreibt die Bücher, books-2026-10.json; 
 
 Im Ordner (ohne Angabe: hier) liegen areas.csv, stops.csv und trips.csv, dazu gegebenenfalls die Bücher; die des
 letzten Abschlusses vor dem Monat gelten. Einzelne Dateien lassen sich stattdessen nennen. Die Fahrten können in
-mehreren Dateien stehen: genommen wird jede trips*.csv des Ordners, oder --trips mehrmals. Eine members.csv sagt, wer
-wer ist; die Lohnliste hat dann die Personalnummern. --period open ist der Monat,
-der offen ist: der erste mit Fahrten hinter den letzten Büchern. --out schreibt Dateien, statt zu drucken.
---strict: auch was nur zweifelhaft ist, eine Warnung also, gilt als Fehler.
+mehreren Dateien stehen: genommen wird jede trips*.csv des Ordners, oder --trips mehrmals. Statt einer CSV darf es
+eine Mappe sein, .xlsx, deren erstes Blatt gelesen wird. Eine members.csv sagt, wer wer ist; die Lohnliste hat dann
+die Personalnummern. --period open ist der Monat, der offen ist: der erste mit Fahrten hinter den letzten Büchern.
+--out schreibt Dateien, statt zu drucken. --strict: auch was nur zweifelhaft ist, eine Warnung also, gilt als Fehler.
 --new-tariff: Gebiete haben seit dem Abschließen andere Preise oder Deckel, und das ist so gewollt. --force schließt
 auch einen Monat ab, der in der Zukunft liegt oder frühere offen lässt. --today: ein anderes Datum als das der Uhr.
 Der Rechenkern wird beim ersten Mal gebaut, was ihn beweist und einige Minuten dauert.
@@ -36,11 +36,12 @@ close      closes the month and writes the books, books-2026-10.json; once a mon
 
 The folder (none: the present one) holds areas.csv, stops.csv and trips.csv and, if there are, the books; those of the
 last closing before the month count. Single files can be named instead. The trips may stand in several files: every
-trips*.csv of the folder is taken, or --trips more than once. A members.csv says who is who; the wages then have the
-personnel numbers. --period open is the month that is open: the first with trips behind the last books. --out writes
-files instead of printing. --strict: warnings are errors. --new-tariff: areas have other prices or caps since the
-closing, and that is meant. --force closes a month, too, that lies in the future or leaves earlier ones open. --today:
-another date than the clock's.
+trips*.csv of the folder is taken, or --trips more than once. Instead of a CSV there may be a workbook, .xlsx, of
+which the first sheet is read. A members.csv says who is who; the wages then have the personnel numbers. --period open
+is the month that is open: the first with trips behind the last books. --out writes files instead of printing.
+--strict: warnings are errors. --new-tariff: areas have other prices or caps since the closing, and that is meant.
+--force closes a month, too, that lies in the future or leaves earlier ones open. --today: another date than the
+clock's.
 The engine is built the first time, which proves it and takes some minutes.
 
 Status 0: all trips are priced. 1: a trip is refused. 2: mistakes in files or call; nothing is written then.

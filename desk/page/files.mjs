@@ -16,8 +16,8 @@ export const DUE = Object.keys(SORTS).filter((sort) => SORTS[sort].due);
 
 // ---- Which is which
 
-const ENDING = /\.(csv|json)$/i;
-const NAMED = /^(areas|stops|trips|books|members)\b.*\.(csv|json)$/i;
+const ENDING = /\.(csv|json|xlsx)$/i;
+const NAMED = /^(areas|stops|trips|books|members)\b.*\.(csv|json|xlsx?|ods)$/i;
 const MARKS = { trips: 'depart', stops: 'x_m', areas: 'per_km', members: 'number' };
 
 /** What a file holds, by its name, else by the columns that its first line names; null for any other. */

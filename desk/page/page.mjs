@@ -1,7 +1,9 @@
 // The page: files in by choosing or dropping, the desk's work on them, and its outcome laid out, saved and printed.
 // Everything is in `state`, and nothing is kept anywhere else.
 import { todayIn } from '../clock.mjs';
+import { isWorkbook } from '../encoding.mjs';
 import { monthText } from '../words.mjs';
+import { preparedFile } from '../workbook.mjs';
 import { clerkWith, serve } from './clerk.mjs';
 import { DUE, deskFiles, ofDrop, ofFolder, rowsIn, sortOf, withFile } from './files.mjs';
 import { LABELS } from './labels.mjs';
@@ -20,16 +22,17 @@ let clerk;
 // ---- Files in
 
 async function take(files) {
-    const [unknown, unread, told] = [[], [], []];
+    const [unknown, workbooks, unread, told] = [[], [], [], []];
     for (const file of files) {
         const taken = await bytesOf(file);
         if (taken === null) unread.push(file.name);
-        else if (taken.sort === null) unknown.push(file.name);
+        else if (taken.sort === null) (isWorkbook(taken.bytes) ? workbooks : unknown).push(file.name);
         else told.push(...keep(taken));
     }
     state.notices = [
         ...told,
         ...(unknown.length > 0 ? [labels().unknown(unknown.join(', '))] : []),
+        ...(workbooks.length > 0 ? [labels().workbooks(workbooks.join(', '))] : []),
         ...(unread.length > 0 ? [labels().unread(unread.join(', '))] : []),
     ];
     await work();
@@ -37,7 +40,7 @@ async function take(files) {
 
 async function bytesOf(file) {
     try {
-        return known({ name: file.name, bytes: new Uint8Array(await file.arrayBuffer()) });
+        return known(await preparedFile({ name: file.name, bytes: new Uint8Array(await file.arrayBuffer()) }));
     } catch {
         return null;
     }

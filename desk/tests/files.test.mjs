@@ -10,7 +10,7 @@ test('a file is known by its name', () => {
     const sorts = (...names) => names.map((name) => sortOf(file(name, '')));
     const known = sorts('areas.csv', 'Stops 2026.CSV', 'trips-oktober.csv', 'books-2026-09.json', 'members.csv');
     assert.deepEqual(known, ['areas', 'stops', 'trips', 'books', 'members']);
-    const others = sorts('notes.csv', 'trips.csv.bak', 'tripsters.csv', 'trips.xlsx', '');
+    const others = sorts('notes.csv', 'trips.csv.bak', 'tripsters.csv', 'trips.pdf', '');
     assert.deepEqual(others, [null, null, null, null, null]);
 });
 

@@ -11,6 +11,7 @@ import { membersOf } from '../statement.mjs';
 import { chargesText, wagesText } from '../wages.mjs';
 import { AREAS, CSS, SETTLED, STOPS, TRIPS, cells, chooseMonth, expected, hidden, letter } from './pages.mjs';
 import { showsStatement, startPages, text } from './pages.mjs';
+import { workbookOf } from './workbooks.mjs';
 
 let desk;
 
@@ -69,6 +70,21 @@ test('a folder by choosing: its own files, with the books of the last closing be
     assert.equal(result.errors, 0);
     await showsStatement(page, 'Anna Berg', result);
     assert.match(await page.ask('document.querySelector("#statement").textContent'), /schon abgerechnet/);
+    desk.quiet(page);
+});
+
+test('workbooks by choosing: the first sheet is read, and what cannot be read is told in a sentence', async () => {
+    const [stops, trips] = [STOPS, TRIPS].map((name) => workbookOf(readFileSync(name, 'utf8')));
+    const put = (name, bytes) => {
+        writeFileSync(path.join(desk.folder, name), bytes);
+        return path.join(desk.folder, name);
+    };
+    const page = await desk.opened();
+    const old = put('alt.xls', Uint8Array.of(0xd0, 0xcf, 0x11, 0xe0));
+    await page.choose('#choose-files', [AREAS, put('stops.xlsx', stops), put('Fahrten.xlsx', trips), old]);
+    await page.until(SETTLED);
+    await showsStatement(page, 'Anna Berg', expected());
+    assert.match(await text(page, '#status'), /So nicht lesbar: alt\.xls\. Bitte mit „Speichern unter“/);
     desk.quiet(page);
 });
 

@@ -64,6 +64,7 @@ test('empty cells behind the last column, in the header or in rows, and rows tha
     assert.deepEqual([run(longer).wages, run(longer).warnings], [due, run(sample('trips.csv')).warnings]);
     assert.deepEqual(run(longer.replace(/;;$/m, '')).wages, due); // the header without them
     assert.deepEqual(run(sample('trips.csv').replace(/;+$/gm, '')).wages, due);
+    assert.deepEqual(run(sample('trips.csv'), { areas: sample('areas.csv').replace(/;+$/gm, '') }).wages, due);
 });
 
 test('a row with more than the header names, or without a column that is due, is told', () => {
