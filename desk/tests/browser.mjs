@@ -5,7 +5,7 @@ import os from 'node:os';
 import path from 'node:path';
 
 const ROOT_NEEDS = process.getuid?.() === 0 ? ['--no-sandbox'] : [];
-export const PATIENCE = 60000; // milliseconds, since machines may be busy
+export const PATIENCE = 120000; // milliseconds, since machines may be busy
 
 const pause = () => new Promise((done) => setTimeout(done, 25));
 
