@@ -84,6 +84,7 @@ const OPTIONS = {
     version: { type: 'boolean' },
 };
 
+const OF_ONE = ['settle', 'statement', 'wages']; // what can be had of one member
 const ACTIONS = { check: checked, settle: settled, statement: stated, wages: waged, close: closed };
 
 async function callOf(args) {
@@ -100,6 +101,7 @@ async function callOf(args) {
     const format = values.format ?? 'csv';
     if (!FORMATS.includes(format)) throw new Mistaken(words.allowed('format', FORMATS), true);
     if (action === 'close' && values.period === undefined) throw new Mistaken(words.due, true);
+    if (values.member !== undefined && !OF_ONE.includes(action)) throw new Mistaken(words.one(OF_ONE), true);
     return { ...values, ...datesOf(values, words), action, folder, format, language, words };
 }
 
@@ -230,17 +232,27 @@ function isClean(result) {
 }
 
 async function settled(call, result) {
-    if (isClean(result)) await put(call, [[`charges.${call.format}`, chargesText(result, call.format, call.language)]]);
+    if (!isClean(result)) return;
+    await put(call, [[`charges.${call.format}`, chargesText(asked(call, result), call.format, call.language)]]);
 }
 
 async function waged(call, result) {
-    if (isClean(result)) await put(call, [[`wages.${call.format}`, wagesText(result, call.format, call.language)]]);
+    if (!isClean(result)) return;
+    await put(call, [[`wages.${call.format}`, wagesText(asked(call, result), call.format, call.language)]]);
+}
+
+/** What the tables are made of: all of it, or of the member who is asked for. */
+function asked({ member, words }, result) {
+    if (member === undefined) return result;
+    const { tariff, tripFiles, roster } = result;
+    const members = membersOf(result).filter(({ name }) => name === member);
+    if (members.length === 0) throw new Mistaken(words.member(member));
+    return { tariff, tripFiles, roster, members, wages: result.wages.filter((row) => row.member === member) };
 }
 
 async function stated(call, result) {
     if (!isClean(result)) return;
-    const due = membersOf(result).filter(({ name }) => call.member === undefined || name === call.member);
-    if (call.member !== undefined && due.length === 0) throw new Mistaken(call.words.member(call.member));
+    const due = membersOf(asked(call, result));
     const names = fileSafe(due.map(({ name }) => name));
     const texts = agreed(call, () => due.map((member) => statementText(member, result, call.language)));
     await put(call, texts.map((text, i) => [`statement-${names[i]}.txt`, text]));

@@ -11,6 +11,7 @@ import { isPeriod, monthsOf, openMonth } from './months.mjs';
 import { readTariff, recordAt } from './tariff.mjs';
 import { momentIn, readTrips, tripsByMember } from './trips.mjs';
 import { agreeWages, chargesOf, wagesOf } from './wages.mjs';
+import { reasonText } from './words.mjs';
 
 const NAMES = { areas: 'areas.csv', stops: 'stops.csv', trips: 'trips.csv', members: 'members.csv' };
 
@@ -151,7 +152,7 @@ function settleAll(desk, tariff, books, due) {
         if (member.entries.some(({ refusal }) => refusal?.number === 4)) {
             return mistakes.error(books.file.name, 1, 'bookUnsound', { member: name });
         }
-        warnOfRefused(desk, member, book);
+        warnOfRefused(desk, tariff, member, book);
         members.push(member);
         kept.set(name, member.book);
         done += own.length;
@@ -169,14 +170,14 @@ function byName(members, language) {
 }
 
 /** Tells of each refused trip, and of one that begins too early what it runs into. */
-function warnOfRefused({ engine, zone, mistakes, several }, member, book) {
+function warnOfRefused({ zone, mistakes, several }, tariff, member, book) {
     let last = null;
     for (const entry of member.entries) {
         if (entry.accepted) last = entry;
         if (entry.accepted || !entry.inPeriod) continue;
         const note = (key, values) => mistakes.warning(entry.file, entry.line, key, values);
         const number = entry.refusal.number;
-        if (number !== 10) note('refused', { number, text: engine.refusalText(number, mistakes.language) });
+        if (number !== 10) note('refused', { number, text: reasonText(entry, tariff, mistakes.language) });
         else if (last) note('overlaps', placeOf(last, several));
         else note('beforeBooks', { until: momentIn(clockOf(zone), lastCheckOut(book)).local.replace('T', ' ') });
     }

@@ -4,7 +4,7 @@ import { Disagreement, centsOf } from './account.mjs';
 import { clockOf, dayOf, momentsOf } from './clock.mjs';
 import { momentIn } from './trips.mjs';
 import { STATEMENT, capClassText, capText, classText, dayText, moneyText, monthText } from './words.mjs';
-import { refusalText, riderText, seasonText } from './words.mjs';
+import { reasonText, riderText, seasonText } from './words.mjs';
 
 const WINDOW = 1440;
 
@@ -163,9 +163,10 @@ function tripOf(entry, number, saying) {
 }
 
 /** Why a trip is refused, and where it stands; its file is named where there are several. */
-function refusedText({ refusal, line, file }, { language, words, result: { tripFiles } }) {
+function refusedText(entry, { language, words, result: { tariff, tripFiles } }) {
+    const { line, file } = entry;
     const place = words.place(line, tripFiles.length > 1 ? file : null);
-    return words.refused(refusalText(refusal.number, language), place);
+    return words.refused(reasonText(entry, tariff, language), place);
 }
 
 function stateOf({ accepted, parts }) {

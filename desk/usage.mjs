@@ -10,8 +10,9 @@ export const HELP = {
     de: `
 check      nennt jeden Fehler in den Dateien, mit Zeile
 settle     jeder einzelne Betrag: eine Tabelle
-statement  eine Abrechnung je Mitglied, als Text; --member NAME: nur diese
+statement  eine Abrechnung je Mitglied, als Text
 wages      für das Lohnbüro: eine Zeile je Mitglied und Monat
+           settle, statement und wages mit --member NAME: nur von diesem Mitglied
 close      schließt den Monat ab und schreibt die Bücher, books-2026-10.json; einmal je Monat
 
 Im Ordner (ohne Angabe: hier) liegen areas.csv, stops.csv und trips.csv, dazu gegebenenfalls die Bücher; die des
@@ -30,8 +31,9 @@ nichts geschrieben.
     en: `
 check      tells every mistake in the files, with its line
 settle     every single charge: a table
-statement  a statement for each member, as text; --member NAME: only this one
+statement  a statement for each member, as text
 wages      for the wage office: a row for each member and month
+           settle, statement and wages with --member NAME: of this member only
 close      closes the month and writes the books, books-2026-10.json; once a month
 
 The folder (none: the present one) holds areas.csv, stops.csv and trips.csv and, if there are, the books; those of the
@@ -59,6 +61,7 @@ export const WORDS = {
         month: (word) => `--period '${word}': kein Monat wie 2026-10`,
         date: (word) => `--today '${word}': kein Datum wie 2026-11-03`,
         due: 'zum Abschließen gehört --period',
+        one: (words) => `--member gehört nur zu ${words.join(', ')}`,
         folder: (folder, why) => `der Ordner ${folder} ist nicht lesbar: ${why}`,
         unread: (files) => `nicht lesbar: ${files.map(({ place, why }) => `${place} (${why})`).join(', ')}`,
         there: (file) => `${file} ist schon da: ein Monat wird einmal abgeschlossen`,
@@ -86,6 +89,7 @@ export const WORDS = {
         month: (word) => `--period '${word}': not a month like 2026-10`,
         date: (word) => `--today '${word}': not a date like 2026-11-03`,
         due: 'closing needs --period',
+        one: (words) => `--member is only for ${words.join(', ')}`,
         folder: (folder, why) => `the folder ${folder} cannot be read: ${why}`,
         unread: (files) => `cannot be read: ${files.map(({ place, why }) => `${place} (${why})`).join(', ')}`,
         there: (file) => `${file} is there already: a month is closed once`,

@@ -81,6 +81,41 @@ export function refusalText(number, language) {
     return (REFUSALS[number] ?? unknown)[language];
 }
 
+// Refusal 6 has several causes, and a trip says which.
+const CAUSES = {
+    class: { de: () => 'Es gibt nur 1. und 2. Klasse.', en: () => 'There are only first and second class.' },
+    level: { de: () => 'Diese Preisstufe gibt es nicht.', en: () => 'There is no such ticket level.' },
+    party: {
+        de: () => 'Mehr als 10 Erwachsene, Kinder oder Fahrräder können nicht mitfahren.',
+        en: () => 'No more than 10 adults, children or bicycles can be taken along.',
+    },
+    stops: {
+        de: () => 'Eine Fahrt hat 2 bis 32 Haltestellen.',
+        en: () => 'A trip has 2 to 32 stops.',
+    },
+    town: {
+        de: (town) => `In ${town} gibt es keine 1. Klasse.`,
+        en: (town) => `There is no first class in ${town}.`,
+    },
+};
+
+/** Why a refused trip is refused, in a sentence. */
+export function reasonText(trip, tariff, language) {
+    const [cause, town] = trip.refusal.number === 6 ? causeOf(trip, tariff) : [null];
+    return cause === null ? refusalText(trip.refusal.number, language) : CAUSES[cause][language](town);
+}
+
+/** The cause of refusal 6, by R5.1 and R5.7, and the town without first class that the trip touches, or towns. */
+function causeOf({ class: travelClass, level, party, from, via, to }, { areas, stops }) {
+    const touched = [from, ...via, to].map((stop) => areas[stops[stop].area]);
+    const towns = new Set(touched.filter(({ town }) => town > 0).map(({ name }) => name));
+    if (travelClass !== 1 && travelClass !== 2) return ['class'];
+    if (level !== null && !'KABCD'.includes(level)) return ['level'];
+    if (Object.values(party).some((number) => number > 10)) return ['party'];
+    if (via.length + 2 > 32) return ['stops'];
+    return travelClass === 1 && towns.size > 0 ? ['town', [...towns].join(', ')] : [null];
+}
+
 // ---- Money
 
 /** Cents as '1.234,50 €' or '€1,234.50'. */

@@ -99,6 +99,24 @@ test('a statement for each member, printed or written, and of one alone', () => 
     assert.equal(called('statement', place, '--member', 'Bert').status, 2);
 });
 
+test('wages and charges of one member, and of none that is not there', () => {
+    const place = folder('one', NIGHT + NIGHT.replace(TRIPS, '').replaceAll('Anna', 'Cem'));
+    const words = ['--language', 'en', '--member'];
+    const wages = called('wages', place, ...words, 'Cem');
+    assert.equal(
+        wages.out,
+        'member,period,trips,refused,amount\nCem,2026-10,1,0,18.41\nCem,2026-11,1,0,6.59\n',
+    );
+    const charges = called('settle', place, '--format', 'json', ...words, 'Cem');
+    assert.deepEqual(JSON.parse(charges.out).map(({ member, line }) => [member, line]), [['Cem', 4], ['Cem', 5]]);
+    const none = called('wages', place, ...words, 'Bert');
+    assert.deepEqual([none.status, none.out], [2, '']);
+    assert.equal(none.told, "./milecopper: no member 'Bert' with trips in this period\n");
+    const check = called('check', place, ...words, 'Cem');
+    assert.deepEqual([check.status, check.out], [2, '']);
+    assert.match(check.told, /--member is only for settle, statement, wages/);
+});
+
 test('a month is closed once, and the next one goes on from its books', () => {
     const place = folder('months', NIGHT);
     const books = path.join(place, 'books-2026-10.json');

@@ -1,6 +1,8 @@
 // Every mistake that a file can have, with its exact words.
 import assert from 'node:assert/strict';
 import { test } from 'node:test';
+import { statementText } from '../statement.mjs';
+import { reasonText } from '../words.mjs';
 import { TRIPS, run, said, sample } from './support.mjs';
 
 const GOOD = 'Anna Berg,2026-10-31,23:50,00:21,Münster Hbf,Hamm Hbf,,,,,,\n';
@@ -182,6 +184,25 @@ Anna Berg,2026-10-05,09:00,09:40,Hamm Hbf,Münster Hbf,,,,,,
 test('other refusals are warnings in words', () => {
     const [one] = trips('Anna Berg,2026-10-31,10:00,34:01,Münster Hbf,Hamm Hbf,,,,,,\n');
     assert.match(one, /^warning: refused \(9\): .*24 hours/);
+});
+
+test('refusal 6 says which of its causes it is: the town that has no first class', () => {
+    const first = 'Anna Berg,2026-10-31,10:00,10:20,Stolberg Hbf,Stolberg Altstadt,,1,,,,\n';
+    assert.deepEqual(trips(first), ['warning: refused (6): There is no first class in Stolberg.']);
+    const german = run(TRIPS + first, { language: 'de' });
+    assert.deepEqual(said(german), ['trips.csv:2: Warnung: wird abgelehnt (6): In Stolberg gibt es keine 1. Klasse.']);
+    const statement = statementText(german.members[0], german, 'de').replace(/\s+/g, ' ');
+    assert.match(statement, /Abgelehnt: In Stolberg gibt es keine 1\. Klasse\. \(Zeile 2 der Fahrten\)/);
+    const { tariff } = german;
+    const trip = { ...german.members[0].entries[0], class: 2 };
+    const party = { ...trip.party, children: 11 };
+    const reasons = [{ class: 3 }, { level: 'E' }, { party }, { via: Array(31).fill(0) }];
+    assert.deepEqual(reasons.map((change) => reasonText({ ...trip, ...change }, tariff, 'en')), [
+        'There are only first and second class.',
+        'There is no such ticket level.',
+        'No more than 10 adults, children or bicycles can be taken along.',
+        'A trip has 2 to 32 stops.',
+    ]);
 });
 
 test('too many stops', () => {
