@@ -67,9 +67,14 @@ export function deskFiles(files) {
 
 /** A chosen folder's own files that may be ours; what lies deeper is left alone. */
 export function ofFolder(files) {
-    return [...files].filter(({ name, webkitRelativePath }) => {
-        return ENDING.test(name) && webkitRelativePath.split('/').length <= 2;
-    });
+    return ours([...files].filter(({ webkitRelativePath }) => webkitRelativePath.split('/').length <= 2));
+}
+
+/** Those of a folder that may be ours; a workbook that is there as CSV, too, is left out: its trips would be twice. */
+function ours(files) {
+    const names = new Set(files.map(({ name }) => name.toLowerCase()));
+    const isSaved = (name) => /\.xlsx$/i.test(name) && names.has(name.toLowerCase().replace(/xlsx$/, 'csv'));
+    return files.filter(({ name }) => ENDING.test(name) && !isSaved(name));
 }
 
 /** What was dropped: files, and of each folder its own files that may be ours. To be called within the drop itself. */
@@ -89,16 +94,14 @@ async function inFolder(entry, handle) {
     const folder = await handle?.catch?.(() => null);
     if (folder) return byHandle(folder);
     const entries = await allEntries(entry.createReader());
-    const own = entries.filter(({ isFile, name }) => isFile && ENDING.test(name));
+    const own = ours(entries.filter(({ isFile }) => isFile));
     return Promise.all(own.map((file) => new Promise((done, fail) => file.file(done, fail))));
 }
 
 async function byHandle(folder) {
     const found = [];
-    for await (const handle of folder.values()) {
-        if (handle.kind === 'file' && ENDING.test(handle.name)) found.push(await handle.getFile());
-    }
-    return found;
+    for await (const handle of folder.values()) if (handle.kind === 'file') found.push(handle);
+    return Promise.all(ours(found).map((handle) => handle.getFile()));
 }
 
 /** A reader gives its entries in portions, and at the end an empty one. */

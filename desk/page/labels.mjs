@@ -29,8 +29,10 @@ export const LABELS = {
         unread: (names) => `Nicht lesbar: ${names}`,
         helpSummary: 'Wie die Dateien aussehen',
         helpText:
-            'CSV-Dateien mit einer Kopfzeile, die Spalten in beliebiger Reihenfolge, als „CSV UTF-8“ gespeichert. ' +
-            'Gebiete und Haltestellen schreibt jemand einmal; die Fahrten kommen jeden Monat dazu:',
+            'CSV oder Excel (.xlsx, das erste Blatt) mit einer Kopfzeile, die Spalten in beliebiger Reihenfolge. Sie ' +
+            'heißen wie hier oder auf Deutsch: Mitglied, Datum, Abfahrt, Ankunft, von, nach, über, Klasse, ' +
+            'Preisstufe, Erwachsene, Kinder, Fahrräder. Gebiete und Haltestellen schreibt jemand einmal; die ' +
+            'Fahrten kommen jeden Monat dazu:',
         columns: {
             'member, date, depart, arrive, from, to':
                 'Mitglied, Tag (2026-10-31 oder 31.10.2026), Abfahrt und Ankunft (23:48), Start und Ziel, mit Name ' +
@@ -120,8 +122,8 @@ export const LABELS = {
         unread: (names) => `Not readable: ${names}`,
         helpSummary: 'What the files look like',
         helpText:
-            'CSV files with a header, columns in any order, saved as ‘CSV UTF-8’. Areas and stops are written once ' +
-            'by someone; trips are added each month:',
+            'CSV or Excel (.xlsx, the first sheet) with a header, columns in any order, called as here or in German. ' +
+            'Areas and stops are written once by someone; trips are added each month:',
         columns: {
             'member, date, depart, arrive, from, to':
                 'Member, day (2026-10-31 or 31.10.2026), departure and arrival (23:48), first and last stop, by name ' +

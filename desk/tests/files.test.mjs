@@ -1,7 +1,7 @@
 // Files that are dropped on the page: which is which, and which are kept.
 import assert from 'node:assert/strict';
 import { test } from 'node:test';
-import { deskFiles, linesOf, sortOf, withFile } from '../page/files.mjs';
+import { deskFiles, linesOf, ofFolder, sortOf, withFile } from '../page/files.mjs';
 import { sample } from './support.mjs';
 
 const file = (name, text) => ({ name, bytes: new TextEncoder().encode(text) });
@@ -39,6 +39,13 @@ test('a second file of trips is added; one of its name takes its place, and so d
     assert.equal(again.files.length, 4);
     assert.equal(withFile(kept, own('areas', 'Gebiete.csv')).replaced.name, 'areas.csv');
     assert.equal(withFile(kept, own('trips', 'trips-11.csv')).replaced, null);
+});
+
+test('of a folder its own files, and a workbook only where it is not there as CSV, too', () => {
+    const names = ['trips.csv', 'Trips.xlsx', 'stops.xlsx', 'notes.txt', 'old/areas.csv', 'books-2026-09.json'];
+    const files = names.map((name) => ({ name: name.split('/').at(-1), webkitRelativePath: `Oktober/${name}` }));
+    const due = ['trips.csv', 'stops.xlsx', 'books-2026-09.json'];
+    assert.deepEqual(ofFolder(files).map(({ name }) => name), due);
 });
 
 test('what is someone’s own takes the sample’s place, sort by sort', () => {
