@@ -154,7 +154,7 @@ test('a refused trip outside of every window stands under a heading of its own',
     const [text] = textsOf(result, 'de');
     assert.match(text, /^Außerhalb der 24-Stunden-Fenster$/m);
     const words = text.replace(/\s+/g, ' ');
-    assert.match(words, /Abgelehnt: Klasse.* keine 1\. Klasse\. \(Zeile 2 der Fahrten\) Summe 0,00 €/);
+    assert.match(words, /Abgelehnt: In Baesweiler gibt es keine 1\. Klasse\. \(Zeile 2 der Fahrten\) Summe 0,00 €/);
 });
 
 test('the HTML says what the text says', () => {
