@@ -46,7 +46,7 @@ const WATCH = `window.watched = { halts: [], shown: [], begun: performance.now()
 
 test('many trips: the page is free while they are priced, and a bar shows how far that is', async () => {
     const page = await desk.opened('', WATCH);
-    const trips = written(400);
+    const trips = written(1000);
     await page.ask('void Object.assign(window.watched, { halts: [], begun: performance.now() })');
     await page.choose('#choose-files', [AREAS, STOPS, trips]);
     await page.until(SETTLED);
@@ -60,7 +60,7 @@ test('many trips: the page is free while they are priced, and a bar shows how fa
     assert.deepEqual(shown, [...shown].sort((one, other) => one - other));
     assert.ok(shown.at(-1) <= 1);
     assert.equal(await page.ask('document.querySelector("#progress").hidden'), true);
-    assert.match(await text(page, '#status'), /^36000 Fahrten von 400 Mitgliedern berechnet/);
+    assert.match(await text(page, '#status'), /^90000 Fahrten von 1000 Mitgliedern berechnet/);
     desk.quiet(page);
 });
 
