@@ -2,7 +2,7 @@
 // The offset of a time zone comes from the machine's own tables (Intl), asked once a day that occurs.
 import { remembered } from './remembered.mjs';
 
-const DAY = 1440;
+export const DAY = 1440; // minutes
 const EPOCH = Date.UTC(2000, 0, 1);
 
 /**
@@ -138,7 +138,8 @@ const wordsOf = remembered((day) => {
     return { date, month: date.slice(0, 7) };
 });
 
-const two = (number) => String(number).padStart(2, '0');
+/** A number in two figures at least: '05'. */
+export const two = (number) => String(number).padStart(2, '0');
 
 const CLOCK_TIMES = Array.from({ length: DAY }, (_, minute) => `T${two(Math.floor(minute / 60))}:${two(minute % 60)}`);
 

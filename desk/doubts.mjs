@@ -1,10 +1,10 @@
 // What is priced as it stands and may yet be a slip: trips are looked at by themselves and beside each other, and what
 // is found is told as warnings.
+import { DAY } from './clock.mjs';
 import { personFinder } from './names.mjs';
 
 const LONG_MINUTES = 360;
 const NEAR_DAYS = 31;
-const DAY = 1440;
 
 /** Where a row stands, for whoever names it beside another; the file is named where there are several. */
 export function placeOf({ file, line }, several) {

@@ -1,5 +1,6 @@
 // A workbook, .xlsx: its first sheet as CSV, so that it is read like any other file. Each row of the sheet is a line,
 // so mistakes name its number. Dates and times, which are numbers there, are known by the form in which they are shown.
+import { two } from './clock.mjs';
 import { isWorkbook } from './encoding.mjs';
 import { unzipper } from './unzip.mjs';
 import { attributeIn, readXml } from './xml.mjs';
@@ -131,8 +132,7 @@ function formsIn(xml) {
     return styles.map((number) => (codes.has(number) ? writtenForm(codes.get(number)) : knownForm(number)));
 }
 
-const DAY = 86400;
-const two = (number) => String(number).padStart(2, '0');
+const DAY = 86400; // seconds
 
 /** Days, and parts of one, as '2026-10-31', '23:50' or both, as they are shown. */
 function momentText(days, { date, time, elapsed }, since) {

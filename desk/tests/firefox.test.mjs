@@ -9,6 +9,7 @@ import { wagesText } from '../wages.mjs';
 import { until } from './browser.mjs';
 import { FIREFOX, startFirefox } from './firefox.mjs';
 import { AREAS, READY, SETTLED, STOPS, TOO_WIDE, TRIPS, expected, madePage, showsStatement, text } from './pages.mjs';
+import { workbookOf } from './workbooks.mjs';
 
 const skip = FIREFOX ? false : 'Firefox is not here (firefox-esr or firefox)';
 
@@ -45,6 +46,15 @@ test('in Firefox: files by choosing, and wages and statements are those of the c
         await showsStatement(page, name, expected());
     }
     assert.equal(await saved(page, '[data-save=wages]', 'wages-2026-10.csv'), wagesText(expected(), 'csv', 'de'));
+});
+
+test('in Firefox: a workbook’s first sheet is read', { skip }, async () => {
+    const workbook = path.join(firefox.folder, 'Fahrten.xlsx');
+    writeFileSync(workbook, workbookOf(readFileSync(TRIPS, 'utf8')));
+    const page = await opened();
+    await page.choose('#choose-files', [AREAS, STOPS, workbook]);
+    await page.until(SETTLED);
+    await showsStatement(page, 'Anna Berg', expected());
 });
 
 test('in Firefox: closing goes on to the open month', { skip }, async () => {
