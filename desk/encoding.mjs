@@ -84,7 +84,7 @@ export function textIn({ name, bytes }, mistakes) {
     return text;
 }
 
-/** The text of bytes, whatever they are: for showing, not for reading. */
+/** The text of bytes, whatever they are: for showing, not for reading. A workbook has none. */
 export function shownText(bytes) {
-    return decoded(bytes).text ?? new TextDecoder('utf-8').decode(bytes);
+    return isWorkbook(bytes) ? '' : decoded(bytes).text ?? new TextDecoder('utf-8').decode(bytes);
 }

@@ -1,5 +1,4 @@
 // Names as people write them: when two are one, and which is near one that is not there.
-import { remembered } from './remembered.mjs';
 
 /** One spelling for what looks alike: composed letters, single blanks. */
 export function tidy(text) {
@@ -60,15 +59,21 @@ export function closest(text, names) {
 
 // ---- Persons
 
+const MOST_PERSONS = 5000; // a file with more names is none of a crew's, and to keep all of them takes memory
+
 /**
  * Names of which two may be one person: equal but for capitals, umlauts and signs; one letter more, less, other or
  * moved; swapped; or with an initial. Figures tell persons apart. `near` gives the first that was added and is near.
  */
 export function personFinder() {
     const known = new Map();
-    const keysOf = remembered(personKeys);
+    let last = null; // one who is looked for is often added then
+    const keysOf = (name) => (last?.name === name ? last : (last = { name, ...personKeys(name) }));
+    let added = 0;
     return {
         add: (name) => {
+            added += 1;
+            if (added > MOST_PERSONS) return;
             for (const key of keysOf(name).own) if (!known.has(key)) known.set(key, name);
         },
         near: (name) => {
