@@ -94,7 +94,7 @@ test('printed, each window has one sum, and each sheet name, month and number', 
     }
 });
 
-test('of the crew of 21, printed, the windows on a member’s sheets add up to the amount', { skip: READER }, async () => {
+test('of the crew of 21, printed, a member’s windows add up to the amount', { skip: READER }, async () => {
     const all = run(readFileSync(path.join(CREW, 'trips.csv'), 'utf8'), { period: '2026-10', language: 'de' });
     const result = { ...all, members: all.members.slice(0, 3) }; // all of them are a hundred sheets
     const sheets = sheetsOf(await printedByChromium(written(result, 'de')));
