@@ -88,7 +88,7 @@
  *     readings of one statement. They may share one tariff. A page is one slice, so calls on one page do not run at the same
  *     time, whoever the members are and of whichever association.
  *   - Where milecopper_check_tariff is called, at least 256 bytes of stack are free.
- *   - Where milecopper_settle is called, at least 1,024 bytes of stack are free.
+ *   - Where milecopper_settle is called, at least 832 bytes of stack are free.
  *   - Where milecopper_quote is called, at least 1,536 bytes of stack are free.
  *   - Where milecopper_post is called, at least 2,048 bytes of stack are free.
  *   - Where milecopper_read is called, at least 512 bytes of stack are free.

@@ -10,7 +10,7 @@ use crate::library::{
 pub const FUNCTIONS: [Function; 8] = [
     Function {
         name: "milecopper_settle",
-        limit: 1_024,
+        limit: 832,
         start: milecopper_settle as *const (),
         before: ALL,
         numbers: 0,

@@ -15,7 +15,7 @@ use Rattle.wire.specs.Each.{each}
 use Rattle.wire.proofs.Number.{get-same}
 use Rattle.tariff.specs.declared.Counts.{Counts}
 use Rattle.tariff.specs.Areas.{Read}
-use Rattle.book.specs.Words.{bookSize}
+use Rattle.ledger.specs.Words.{bookSize}
 use Rattle.settle.specs.Outcome.{Outcome, refused, accepted, settledUnder, bookAfter}
 use Rattle.accounts.specs.declared.places.Spot.{Spot}
 use Rattle.accounts.specs.declared.places.Spot.the-variants.{Nowhere, At}

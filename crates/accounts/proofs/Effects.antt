@@ -12,13 +12,15 @@ use Rattle.tariff.specs.declared.Reading.{Reading}
 use Rattle.tariff.specs.declared.Reading.the-variants.{Fault, Faultless}
 use Rattle.tariff.specs.Scan.{readTariff}
 use Rattle.tariff.specs.Areas.{Read}
-use Rattle.book.specs.Words.{bookSize}
-use Rattle.book.proofs.SoundLaws.{sound-has}
+use Rattle.ledger.specs.Words.{bookSize}
+use Rattle.ledger.proofs.SoundLaws.{sound-has}
 use Rattle.statement.specs.Record.{Part}
-use Rattle.settle.specs.declared.decide.Decision.{Decision}
-use Rattle.settle.specs.declared.decide.Decision.the-variants as decision
-use Rattle.settle.specs.Outcome.{Outcome, refused, accepted, decidedUnder, tripPosted, acceptedTrip, settledUnder, bookAfter, statementAfter}
-use Rattle.settle.proofs.Ways.{clear-found, no-row, refused-under, accepted-under, all-clear}
+use Rattle.deciding.specs.declared.decide.Decision.{Decision}
+use Rattle.deciding.specs.declared.decide.Decision.the-variants as decision
+use Rattle.deciding.specs.Deciding.{decidedUnder}
+use Rattle.settle.specs.Outcome.{Outcome, refused, accepted, tripPosted, acceptedTrip, settledUnder, bookAfter, statementAfter}
+use Rattle.deciding.proofs.Decisions.{clear-found, no-row, all-clear}
+use Rattle.settle.proofs.Ways.{refused-under, accepted-under}
 use Rattle.settle.proofs.Clear.{parts-right}
 use Rattle.accounts.specs.declared.places.Spot.the-variants.{Nowhere, At}
 use Rattle.accounts.specs.declared.checks.Account.the-variants.{WrongPage, Absent, Present}

@@ -21,8 +21,8 @@ use Rattle.tariff.specs.declared.Reading.{Reading}
 use Rattle.tariff.specs.declared.Reading.the-variants.{Fault, Faultless}
 use Rattle.tariff.specs.Scan.{readTariff}
 use Rattle.tariff.specs.Areas.{Read}
-use Rattle.book.specs.Words.{bookSize, freshBook}
-use Rattle.book.proofs.WordLaws.{fresh-size}
+use Rattle.ledger.specs.Words.{bookSize, freshBook}
+use Rattle.ledger.proofs.WordLaws.{fresh-size}
 use Rattle.statement.specs.Record.{Part}
 use Rattle.settle.specs.Outcome.{Outcome, refused, accepted, settledUnder, settled, answerOf, bookAfter, statementAfter}
 use Rattle.settle.specs.Runs.{Offer, runFrom, bookFrom}

@@ -6,7 +6,7 @@ use mathlib.Core.Path.{_≡_, refl, ap, _∙_}
 use mathlib.Core.List.{List, _++_}
 use lib.ListN.{length, take, drop, take-append-drop}
 use Rattle.tariff.specs.declared.Counts.{Counts}
-use Rattle.book.specs.Words.{bookSize}
+use Rattle.ledger.specs.Words.{bookSize}
 use Rattle.settle.specs.declared.Answer.{Answer}
 use Rattle.settle.specs.declared.Answer.the-variants.{Refused, Written}
 use Rattle.settle.specs.Outcome.{Outcome, refused, accepted, settledUnder}

@@ -8,7 +8,7 @@ use mathlib.Core.Path.{_≡_, refl, sym, ap, _∙_}
 use mathlib.Core.List.{List, [], _∷_}
 use mathlib.Core.Bool.{true}
 use borrow.Author.Tests.{eq-eqb, ne-eqb}
-use Rattle.book.specs.Words.{freshBook}
+use Rattle.ledger.specs.Words.{freshBook}
 use Rattle.statement.specs.Record.{statementOf}
 use Rattle.settle.specs.Runs.{Settlement, runFrom, bookFrom}
 use Rattle.accounts.specs.Pages.{places, bookAt, changed}

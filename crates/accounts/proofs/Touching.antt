@@ -9,7 +9,7 @@ use mathlib.Core.List.{List}
 use lib.ListN.{length, getD}
 use Rattle.wire.specs.Number.{getLe}
 use Rattle.wire.proofs.Number.{get-same}
-use Rattle.book.specs.Words.{bookSize}
+use Rattle.ledger.specs.Words.{bookSize}
 use Rattle.accounts.specs.Pages.{numberSize, placeSize, places, pageSize, startOf, placeAt, numberAt, bookAt, replaced, mostNumber}
 use Rattle.accounts.specs.Words.{Passing, Touched}
 use Rattle.accounts.proofs.Replacing.{

@@ -12,7 +12,7 @@ use Rattle.wire.specs.Each.{each}
 use Rattle.tariff.specs.declared.Counts.{Counts}
 use Rattle.tariff.specs.declared.Reading.the-variants.{Fault, Faultless}
 use Rattle.tariff.specs.Scan.{readTariff}
-use Rattle.book.specs.Words.{bookSize}
+use Rattle.ledger.specs.Words.{bookSize}
 use Rattle.settle.specs.Outcome.{Outcome, refused, accepted, refusedAs, settledUnder}
 use Rattle.accounts.specs.declared.places.Spot.{Spot}
 use Rattle.accounts.specs.declared.places.Spot.the-variants.{Nowhere, At}

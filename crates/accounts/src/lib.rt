@@ -7,11 +7,11 @@
 // clear.rt         a place cleared, or written for a new member
 //
 // Decide first, write last: a refusal changes no byte. Nothing is copied: settling is lent the book where it stands on the page.
-use book::words::SIZE;
 use checks::Account;
 use checks::account_of;
 use clear::clear;
 use clear::write_new;
+use ledger::words::SIZE;
 use places::NUMBER_SIZE;
 use places::PLACE_SIZE;
 use places::Spot;

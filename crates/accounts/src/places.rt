@@ -1,5 +1,5 @@
 // A page's places: a member's number in 4 bytes, then the book.
-use book::words::SIZE;
+use ledger::words::SIZE;
 use wire::four_at;
 ghost use mathlib.Core.Path.{_≡_};
 ghost use Prim.Native.Nat.{_<_};

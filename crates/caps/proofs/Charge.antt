@@ -11,7 +11,7 @@ use borrow.Author.Tests.{ne-eqb}
 use Rattle.caps.specs.declared.Caps.{Caps}
 use Rattle.caps.specs.Limits.{cappedHere, AtMost, Left}
 use Rattle.caps.specs.Tree.{foldUp, Tree, IsTree, climb, within, chargeIn, SmallestLeft}
-use Rattle.caps.proofs.Cut.{Fills, less-left, here-most, here-left, here-greatest, here-full, here-again}
+use Rattle.caps.proofs.OneArea.{Fills, less-left, here-most, here-left, here-greatest, here-full, here-again}
 use Rattle.caps.proofs.Climb.{fold-related, upwards, climb-top, climb-up, climb-past, within-self, within-parent, top-alone, within-cases}
 
 module _ {t : Tree} (tree : IsTree t) (second all : ℕ → ℕ) (class : ℕ) where

@@ -4,6 +4,6 @@ pub mod Window
 pub mod Children
 pub mod Charge
 pub mod Climb
-pub mod Cut
+pub mod OneArea
 pub mod Named
 pub mod NamedCaps

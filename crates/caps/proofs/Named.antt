@@ -20,7 +20,7 @@ use Rattle.caps.specs.Limits.{leftOf, cappedHere, AtMost, Left}
 use Rattle.caps.specs.Tree.{foldUp, Tree, IsTree, climb, chargeIn}
 use Rattle.caps.specs.Named.{noName, leaves, namedHere, nameIn}
 use Rattle.caps.specs.Contracts.{restUnder, limitOf, LeftBy, restWith, RestWith, restHere, uncappedAt, nameOf}
-use Rattle.caps.proofs.Cut.{fits-capped, less-left, here-most, here-left}
+use Rattle.caps.proofs.OneArea.{fits-capped, less-left, here-most, here-left}
 use Rattle.caps.proofs.Climb.{fold-related, climb-past}
 use Rattle.caps.proofs.Charge.{charge-past, charge-class}
 

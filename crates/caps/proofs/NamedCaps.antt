@@ -237,8 +237,8 @@ module _ {t : Tree} (tree : IsTree t) (second all : ℕ → ℕ) (class : ℕ) w
     abbrev charge : ℕ
     charge = chargeIn t second all class a price
 
-    -- no cap left less than the charge
-    charge-least : (other : Name) (n : ℕ) → CapLeft t second all class a other n → charge ≤ n
+    -- No cap left less than the charge.
+    pub charge-least : (other : Name) (n : ℕ) → CapLeft t second all class a other n → charge ≤ n
     unfolding leftOf
     charge-least other n cap = go (charge-smallest tree second all class a here price .left (other .area) (cap .inside)) (cap .its)
       where

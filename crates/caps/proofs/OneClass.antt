@@ -37,7 +37,7 @@ use Rattle.caps.specs.Rides.{
   pricesOf,
   Reordered,
 }
-use Rattle.caps.proofs.Cut.{stays-full, smaller-full, full-or-not, fits-capped, full-capped, capped-mono}
+use Rattle.caps.proofs.OneArea.{stays-full, smaller-full, full-or-not, fits-capped, full-capped, capped-mono}
 use Rattle.caps.proofs.Climb.{top-alone, within-cases, state-level}
 use Rattle.caps.proofs.Window.{no-more-than-price, no-cap-passed, cut-leaves-full, state-total}
 use Rattle.caps.proofs.Children.{child-is, over-mono, over-nothing, ownCharges, total-in-parts}

@@ -23,7 +23,7 @@ use Rattle.caps.specs.Rides.{
   all-full,
   second-full,
 }
-use Rattle.caps.proofs.Cut.{Fills, fills-all, fills-second, nothing-fits, counted-fits}
+use Rattle.caps.proofs.OneArea.{Fills, fills-all, fills-second, nothing-fits, counted-fits}
 use Rattle.caps.proofs.Climb.{within-state, within-there}
 use Rattle.caps.proofs.Charge.{charge-smallest, charge-full}
 use Rattle.caps.proofs.NamedCaps.{name-says, filled, full-unpassed}

@@ -11,7 +11,7 @@ pub struct Caps {
     pub all: Cap,
 }
 
-// The name of a cap: its area, and 2 for a second-class cap, 1 for an all-classes cap. No cap is area 255 and class 0.
+// The name of a cap: its area, and 2 for a second-class cap, 1 for an all-classes cap.
 pub struct Name {
     pub area: u8,
     pub class: u8,
@@ -23,8 +23,17 @@ pub struct Rest {
     pub name: Name,
 }
 
-// Area numbers end at 31.
-const NO_AREA: u8 = 255;
+// What caps took off one person's price: how much, and the area and class of the cap that left the least.
+pub struct Cut {
+    pub reduction: Cents,
+    pub area: u8,
+    pub class: u8,
+}
+
+// What stands where no cap is named. Area numbers end at 31, and classes begin at 1.
+pub const NO_AREA: u8 = 255;
+
+pub const NO_CLASS: u8 = 0;
 
 // Larger than any amount and any sum together.
 const NO_LIMIT: u64 = 8_589_934_592;
@@ -88,7 +97,7 @@ pub fn uncapped(price: Cents) -> Rest
         amount: price,
         name: Name {
             area: NO_AREA,
-            class: 0,
+            class: NO_CLASS,
         },
     }
 }
@@ -101,7 +110,7 @@ pub fn name_of(price: Cents, rest: Rest) -> Name
     if amount.0 == price.0 {
         Name {
             area: NO_AREA,
-            class: 0,
+            class: NO_CLASS,
         }
     } else {
         rest.name

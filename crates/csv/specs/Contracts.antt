@@ -7,7 +7,7 @@ use lib.ListN.{length, take}
 use Rattle.wire.specs.Frame.{longestRecord}
 use Rattle.calendar.specs.Stamps.{lastMinute}
 use Rattle.calendar.specs.Moments.{momentOf}
-use Rattle.book.specs.declared.Cut.{Cut}
+use Rattle.caps.specs.declared.Cut.{Cut}
 use Rattle.statement.specs.Record.{mostCharges}
 use Rattle.reader.specs.declared.Head.{Head}
 use Rattle.reader.specs.declared.Whose.{Whose}

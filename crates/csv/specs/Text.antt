@@ -8,8 +8,8 @@ use Rattle.wire.specs.Frame.{frameAt}
 use Rattle.wire.specs.declared.Frame.the-variants as frame
 use Rattle.calendar.specs.declared.Moment.{Moment}
 use Rattle.calendar.specs.Moments.{momentOf}
+use Rattle.caps.specs.declared.Cut.{Cut}
 use Rattle.trip.specs.declared.Party.{Party}
-use Rattle.book.specs.declared.Cut.{Cut}
 use Rattle.statement.specs.Record.{personsOf}
 use Rattle.reader.specs.declared.Head.{Head}
 use Rattle.reader.specs.declared.Whose.{Whose}

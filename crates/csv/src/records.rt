@@ -25,7 +25,8 @@ fn put_rows(
     whose: Whose,
 ) -> usize
     requires { ⌜ (place + mostTurn ≤ length (now out)) × Tells (now whole) head whose ⌝ }
-    ensures { λ r. ⌜ Behind (rowsText number (fieldsFor (now (whole .entry)) 0 whose) (chargesOf whose)) mostTurn (now (out .entry)) place (now (out .exit)) r ⌝ }
+    ensures { λ r. ⌜ Behind (rowsText number (fieldsFor (now (whole .entry)) 0 whose) (chargesOf whose)) mostTurn (now (out .entry)) place
+        (now (out .exit)) r ⌝ }
 {
     let mut end = place;
     for i in 0..charges_of(whose) {

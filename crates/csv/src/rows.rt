@@ -1,8 +1,8 @@
 // The lines of the table, put behind what is there already: each function answers the place behind what it has put.
 use crate::columns::put_column;
 use crate::columns::put_moment;
-use book::Cut;
 use calendar::moments::moment_of;
+use caps::Cut;
 use reader::Amount;
 use reader::Head;
 use reader::Whose;

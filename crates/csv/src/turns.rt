@@ -39,7 +39,8 @@ pub enum Turn {
 // A whole record. The statement goes on behind it, whether it was refused or not; only a number more than 64 bits have ends it.
 fn take_record(out: &mut [u8], place: usize, number: u64, whole: &[u8]) -> Turn
     requires { ⌜ place + mostTurn ≤ length (now out) ⌝ }
-    ensures { λ r. ⌜ Did (now (out .entry)) place (now (out .exit)) (recordEffect (length (now (whole .entry))) (recordText number (readAt (now (whole .entry)) 0)) number) r ⌝ }
+    ensures { λ r. ⌜ Did (now (out .entry)) place (now (out .exit))
+        (recordEffect (length (now (whole .entry))) (recordText number (readAt (now (whole .entry)) 0)) number) r ⌝ }
 {
     let used = whole.len();
     let end = put_record(out, place, number, whole);

@@ -23,11 +23,11 @@ use Rattle.tariff.specs.declared.Area.{Area}
 use Rattle.tariff.specs.Areas.{AreaRanges}
 use Rattle.fare.specs.declared.Ride.{Ride}
 use Rattle.fare.specs.Distance.{mostKm}
+use Rattle.units.specs.Price.{mostPrice}
 use Rattle.fare.specs.Prices.{
   mostBasePart,
   mostKmPart,
   mostFar,
-  mostPrice,
   basePart,
   kmPart,
   step1,

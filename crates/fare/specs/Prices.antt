@@ -19,7 +19,7 @@ use Rattle.tariff.specs.Areas.{townAt}
 use Rattle.tariff.specs.Levels.{levelCap}
 use Rattle.fare.specs.declared.Ride.{Ride}
 
--- the most that step 1 comes to, with 48 periods of 10,000 cents and 1,415 kilometres of 1,000; and no price is above twice that
+-- the most that step 1 comes to, with 48 periods of 10,000 cents and 1,415 kilometres of 1,000; no price is above twice that (units/Price)
 abbrev pub mostBasePart : ℕ
 mostBasePart = 480000
 
@@ -28,9 +28,6 @@ mostKmPart = 1415000
 
 abbrev pub mostFar : ℕ
 mostFar = mostBasePart + mostKmPart
-
-abbrev pub mostPrice : ℕ
-mostPrice = 3790000
 
 -- ---- In an area of kind 1.
 

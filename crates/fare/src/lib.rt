@@ -30,3 +30,9 @@ pub enum Breaking {
     Unbroken,
     At(usize),
 }
+
+// What goes before a ride in its trip without being in the book yet: nothing, or a part of the trip, of the same class and party.
+pub enum Earlier {
+    Nothing,
+    Part(Ride),
+}

@@ -3,8 +3,7 @@ use crate::Breaking;
 use crate::Ride;
 use crate::rides::area_of_stops;
 use crate::rides::duration;
-use crate::rides::km_between;
-use crate::rides::ride_on;
+use crate::rides::ride_between;
 use crate::rides::squared_between;
 use crate::rides::stop_of;
 use tariff::Counts;
@@ -106,10 +105,7 @@ pub fn first_part(tariff: &[u8], counts: Counts, bytes: &[u8], trip: Trip, c: us
     requires { ⌜ Riding (now tariff) counts (now bytes) (trip .stops) × (InOrder trip × (c < trip .stops)) ⌝ }
     ensures { λ r. ⌜ RideIs counts (firstPart (now (tariff .entry)) counts (now (bytes .entry)) trip c) r ⌝ }
 {
-    let stops = trip.stops;
-    let area = area_of_stops(tariff, counts, bytes, stops, 0, c);
-    let km = km_between(tariff, counts, bytes, stops, 0, c);
-    ride_on(trip, area, km, duration(trip))
+    ride_between(tariff, counts, bytes, trip, 0, c, duration(trip))
 }
 
 // The second part: the ride from there on, in 0 minutes, at the check-out.
@@ -117,8 +113,6 @@ pub fn second_part(tariff: &[u8], counts: Counts, bytes: &[u8], trip: Trip, c: u
     requires { ⌜ Riding (now tariff) counts (now bytes) (trip .stops) × (c < trip .stops) ⌝ }
     ensures { λ r. ⌜ RideIs counts (secondPart (now (tariff .entry)) counts (now (bytes .entry)) trip c) r ⌝ }
 {
-    let stops = trip.stops;
-    let area = area_of_stops(tariff, counts, bytes, stops, c, stops - 1);
-    let km = km_between(tariff, counts, bytes, stops, c, stops - 1);
-    ride_on(trip, area, km, Minutes(0))
+    let last = trip.stops - 1;
+    ride_between(tariff, counts, bytes, trip, c, last, Minutes(0))
 }

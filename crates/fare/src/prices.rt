@@ -22,11 +22,11 @@ ghost use Prim.Native.Nat.{_*_, _≤_, _<_};
 ghost use Rattle.units.specs.Day.{dayMinutes};
 ghost use Rattle.tariff.specs.Areas.{Read, AreaRanges};
 ghost use Rattle.fare.specs.Distance.{mostKm};
+ghost use Rattle.units.specs.Price.{mostPrice};
 ghost use Rattle.fare.specs.Prices.{
   mostBasePart,
   mostKmPart,
   mostFar,
-  mostPrice,
   basePart,
   kmPart,
   step1,
@@ -44,9 +44,6 @@ ghost use Rattle.fare.specs.Prices.{
   priceOf,
 };
 ghost use Rattle.fare.specs.Contracts.{Amount, Priceable};
-
-// No price is above this.
-pub const MOST_PRICE: u32 = 3_790_000;
 
 // 1. Base price × periods + km price × km.
 fn base_part(area: Area, minutes: Minutes) -> Cents

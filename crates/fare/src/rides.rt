@@ -14,8 +14,9 @@ use units::Minutes;
 ghost use mathlib.Core.Path.{_≡_};
 ghost use Prim.Native.Nat.{_+_, _≤_, _<_, max, min};
 ghost use Rattle.fare.specs.Distance.{gap, apart, LeastKm};
-ghost use Rattle.fare.specs.Rides.{stopOf, AreaOfStops};
-ghost use Rattle.fare.specs.Contracts.{Riding, InOrder, OnPlane, SquaredBetween, StopOf, DurationOf, rideOn, RideOf};
+ghost use Rattle.units.specs.Day.{dayMinutes};
+ghost use Rattle.fare.specs.Rides.{stopOf, AreaOfStops, rideBetween};
+ghost use Rattle.fare.specs.Contracts.{Riding, InOrder, OnPlane, SquaredBetween, StopOf, DurationOf, rideOn, RideIs, RideOf};
 
 fn gap_between(a: Metres, b: Metres) -> u64
     ensures { λ r. ⌜ r ≡ gap (a .0) (b .0) ⌝ }
@@ -132,13 +133,30 @@ pub fn duration(trip: Trip) -> Minutes
     Minutes(checkout.0 - checkin.0)
 }
 
+// The ride from one stop of the trip to another, in so many minutes.
+pub fn ride_between(
+    tariff: &[u8],
+    counts: Counts,
+    bytes: &[u8],
+    trip: Trip,
+    from: usize,
+    to: usize,
+    minutes: Minutes,
+) -> Ride
+    requires { ⌜ Riding (now tariff) counts (now bytes) (trip .stops) × ((from ≤ to) × ((to < trip .stops) × (minutes .0 ≤ dayMinutes))) ⌝ }
+    ensures { λ r. ⌜ RideIs counts (rideBetween (now (tariff .entry)) counts (now (bytes .entry)) trip from to (minutes .0)) r ⌝ }
+{
+    let stops = trip.stops;
+    let area = area_of_stops(tariff, counts, bytes, stops, from, to);
+    let km = km_between(tariff, counts, bytes, stops, from, to);
+    ride_on(trip, area, km, minutes)
+}
+
 // The ride that a whole trip is: from its first stop to its last.
 pub fn ride_of(tariff: &[u8], counts: Counts, bytes: &[u8], trip: Trip) -> Ride
     requires { ⌜ Riding (now tariff) counts (now bytes) (trip .stops) × InOrder trip ⌝ }
     ensures { λ r. ⌜ RideOf (now (tariff .entry)) counts (now (bytes .entry)) trip r ⌝ }
 {
-    let stops = trip.stops;
-    let area = area_of_stops(tariff, counts, bytes, stops, 0, stops - 1);
-    let km = km_between(tariff, counts, bytes, stops, 0, stops - 1);
-    ride_on(trip, area, km, duration(trip))
+    let last = trip.stops - 1;
+    ride_between(tariff, counts, bytes, trip, 0, last, duration(trip))
 }

@@ -13,7 +13,7 @@ use Rattle.roll.specs.declared.Line.{Line}
 use Rattle.roll.specs.declared.Line.the-variants.{Charged, Both, Refused}
 use Rattle.roll.specs.declared.Step.{Step}
 use Rattle.roll.specs.declared.Step.the-variants.{End, More, Record, Broken}
-use Rattle.settle.specs.Contracts.{Ready}
+use Rattle.deciding.specs.Contracts.{Ready}
 use Rattle.roll.specs.Pieces.{stepOf}
 use Rattle.roll.specs.Contracts.{lineCents, stepCents, mostLineCents, Stepped}
 use Rattle.roll.proofs.Starts.{record-within, more-short}

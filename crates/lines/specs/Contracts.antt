@@ -9,7 +9,7 @@ use Rattle.text.specs.Contracts.{Behind}
 use Rattle.tariff.specs.declared.Counts.{Counts}
 use Rattle.roll.specs.declared.Line.{Line}
 use Rattle.statement.specs.Record.{mostParts}
-use Rattle.settle.specs.Contracts.{Ready}
+use Rattle.deciding.specs.Contracts.{Ready}
 use Rattle.roll.specs.Pieces.{stepOf, bookStep}
 use Rattle.roll.specs.Contracts.{mostLineCents}
 use Rattle.lines.specs.Text.{spaced}

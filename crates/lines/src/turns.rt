@@ -11,7 +11,7 @@ ghost use Prim.Native.Nat.{_+_, _≤_};
 ghost use mathlib.Core.Bool.{true, false};
 ghost use lib.ListN.{length};
 ghost use Rattle.roll.specs.declared.Line.the-variants.{Refused};
-ghost use Rattle.settle.specs.Contracts.{Ready};
+ghost use Rattle.deciding.specs.Contracts.{Ready};
 ghost use Rattle.roll.specs.Contracts.{Room, lineCents, mostLineCents};
 ghost use Rattle.lines.specs.Contracts.{mostTurn, Counting, Counted, LineTaken, Turned};
 

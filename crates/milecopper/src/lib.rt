@@ -2,8 +2,8 @@
 use reader::fields::Filled;
 use reader::fields::read_into;
 use settle::Answer;
-use settle::posting::post;
-use settle::quote::quote;
+use settle::quotes::post_quote;
+use settle::quotes::quote;
 use settle::settle;
 use tariff::Reading;
 use tariff::scan::read_tariff;
@@ -80,7 +80,7 @@ pub extern "C" fn milecopper_post(
 ) -> u64
     ensures { λ r. ⌜ Posted (postingOf (now (tariff .entry)) (now (book .entry)) (now (trip .entry)) (now (offered .entry))) (now (book .entry)) (now (book .exit)) r ⌝ }
 {
-    encoded(post(tariff, book, trip, offered))
+    encoded(post_quote(tariff, book, trip, offered))
 }
 
 // Reads the charge record, kind 4 or 6, that stands at a place of a statement; what stands behind it is left alone.

@@ -12,20 +12,14 @@ use Rattle.wire.proofs.Number.{put-reads}
 use Rattle.tariff.specs.declared.Counts.{Counts}
 use Rattle.tariff.specs.Areas.{FaultlessTariff}
 use Rattle.fare.specs.declared.Ride.{Ride}
-use Rattle.book.specs.declared.Window.{Window}
-use Rattle.book.specs.Words.{freshBook, word, putWord}
-use Rattle.book.specs.Windows.{inWindow}
-use Rattle.book.specs.Charging.{chargesOf}
-use Rattle.book.specs.Cuts.{cutsOf}
-use Rattle.book.specs.Posting.{opened, posted}
-use Rattle.book.proofs.WordLaws.{size-put, word-put-other}
-use Rattle.book.proofs.AlikeBooks.{
-  Alike,
-  Touches,
-  charges-alike as charges-by-words,
-  cuts-alike as cuts-by-words,
-  posted-alike as posted-by-words,
-}
+use Rattle.ledger.specs.declared.Window.{Window}
+use Rattle.ledger.specs.Words.{freshBook, word, putWord}
+use Rattle.ledger.specs.Windows.{inWindow, opened}
+use Rattle.charging.specs.Charging.{chargesOf}
+use Rattle.charging.specs.Cuts.{cutsOf}
+use Rattle.charging.specs.After.{posted}
+use Rattle.ledger.proofs.WordLaws.{size-put, word-put-other}
+use Rattle.charging.proofs.AlikeBooks.{Alike, Touches, charges-alike as charges-by-words, cuts-alike as cuts-by-words, posted-alike as posted-by-words}
 use Rattle.promises.specs.Moved.{SameWords}
 
 -- a word put in two books of one length leaves the words the same that were

@@ -7,7 +7,7 @@ use mathlib.Core.Path.{_≡_, refl, sym, ap, subst, _∙_}
 use mathlib.Core.Logic.{_↔_, _⊎_, inl, ⊎-elim}
 use mathlib.Core.Bool.{true}
 use mathlib.Core.List.{List, [], _∷_, append-nil}
-use lib.ListN.{length, getD, length-append}
+use lib.ListN.{length, getD}
 use Rattle.caps.specs.Named.{CapHere, all-classes, second-class}
 use Rattle.caps.proofs.Climb.{within-there}
 use Rattle.tariff.specs.declared.Counts.{Counts}
@@ -32,37 +32,44 @@ use Rattle.fare.proofs.Stops.{area-of-stops, least-between}
 use Rattle.fare.proofs.Breaks.{broken-says, unbroken-says, broken-between}
 use Rattle.fare.proofs.PartLaws.{one-ride, two-rides, few-rides}
 use Rattle.fare.proofs.GoodTrips.{riding}
-use Rattle.book.specs.declared.Window.{Window}
-use Rattle.book.specs.declared.Cut.{Cut}
-use Rattle.book.specs.Windows.{inWindow}
-use Rattle.book.specs.Words.{secondSum, allSum, coverWord, paidWord}
-use Rattle.book.specs.Caps.{treeOf}
-use Rattle.book.specs.Charging.{isChild, carries, placeOf, chargesOf}
-use Rattle.book.specs.Cuts.{cutsOf}
-use Rattle.book.specs.InWords.{ChargeSays, CutSays, BicycleSays}
-use Rattle.book.specs.Contracts.{Rideable}
-use Rattle.book.specs.Posting.{posted}
-use Rattle.book.proofs.SoundLaws.{sound-has}
-use Rattle.book.proofs.SoundAgain.{WindowRight, window-right, posted-sound}
-use Rattle.book.proofs.Trees.{is-tree}
-use Rattle.book.proofs.ChargeLaws.{
+use Rattle.ledger.specs.declared.Window.{Window}
+use Rattle.caps.specs.declared.Cut.{Cut}
+use Rattle.ledger.specs.Windows.{inWindow}
+use Rattle.ledger.specs.Words.{secondSum, allSum, coverWord, paidWord}
+use Rattle.charging.specs.Caps.{treeOf}
+use Rattle.charging.specs.Charging.{isChild, carries, placeOf, chargesOf}
+use Rattle.charging.specs.Cuts.{cutsOf}
+use Rattle.charging.specs.InWords.{ChargeSays, CutSays}
+use Rattle.cycles.specs.InWords.{BicycleSays}
+use Rattle.charging.specs.Contracts.{Rideable}
+use Rattle.charging.specs.After.{posted}
+use Rattle.ledger.proofs.SoundLaws.{sound-has}
+use Rattle.ledger.specs.Contracts.{WindowRight}
+use Rattle.ledger.proofs.WindowLaws.{window-right}
+use Rattle.posting.proofs.NextPart.{next-right}
+use Rattle.posting.proofs.SoundAgain.{posted-sound}
+use Rattle.charging.proofs.Trees.{is-tree}
+use Rattle.charging.proofs.ChargeLaws.{
+  place-there,
   charges-length,
   cuts-length,
   adult-stands,
   child-stands,
+  rider-stands,
   bicycle-stands,
   adult-cut-stands,
   child-cut-stands,
-  cover-known,
+  rider-cut-stands,
 }
-use Rattle.book.proofs.CutLaws.{cut-says, cut-one, cut-full, rider-cut-stands}
-use Rattle.book.proofs.PostedLaws.{place-there, rider-stands}
-use Rattle.book.proofs.InWords.{charge-says, bicycle-says}
-use Rattle.book.proofs.GoodRides.{good-ride, good-first, good-second, good-rides}
+use Rattle.ledger.proofs.Counting.{cover-known}
+use Rattle.charging.proofs.CutLaws.{cut-says, cut-one, cut-full}
+use Rattle.charging.proofs.InWords.{charge-says}
+use Rattle.cycles.proofs.InWords.{bicycle-says}
+use Rattle.charging.proofs.GoodRides.{good-ride, good-first, good-second, good-rides}
 use Rattle.statement.specs.Record.{Part, recordSize, recordOf, statementOf, uncut, Recordable}
 use Rattle.statement.specs.Reading.{chargeIn}
 use Rattle.statement.specs.Contracts.{StandsAt}
-use Rattle.statement.proofs.Charges.{length-record, one-part}
+use Rattle.statement.proofs.Charges.{length-record, one-part, length-two}
 use Rattle.statement.proofs.Records.{
   long-is,
   kind-is,
@@ -79,11 +86,12 @@ use Rattle.statement.proofs.Records.{
   cap-class-is,
   second-stands,
 }
-use Rattle.settle.specs.Refusals.{lastRefusal, Numbered, rows}
+use Rattle.deciding.specs.Refusals.{lastRefusal, Numbered, rows}
 use Rattle.settle.specs.Outcome.{Outcome, refused, accepted, partOf, oneMore, partsOf, acceptedTrip, settled, answerOf, Settled}
-use Rattle.settle.proofs.Rows.{first-holds, first-range, rows-range}
+use Rattle.deciding.proofs.Rows.{first-holds, first-range, rows-range}
 use Rattle.settle.proofs.Clear.{part-complete, can-record}
-use Rattle.settle.proofs.Ways.{refused-first, clear-first, NoneHolds, no-row, fault-way, refused-way, accepted-way}
+use Rattle.deciding.proofs.Decisions.{refused-first, clear-first, NoneHolds, no-row}
+use Rattle.settle.proofs.Ways.{fault-way, refused-way, accepted-way}
 use Rattle.promises.specs.Conditions.{
   tripRides,
   tripWindow,
@@ -104,7 +112,6 @@ use Rattle.promises.specs.Conditions.{
   as-two,
 }
 use Rattle.promises.proofs.Refusing.{first-exactly, none-exactly, counts-are, no-fault, Answered, refusing, accepting, answered}
-use Rattle.promises.proofs.RideLaws.{right-again}
 
 -- ---- What a record says.
 
@@ -350,7 +357,7 @@ module _ {tariff book bytes : List ℕ} {room : ℕ} {new : List ℕ} {parts : L
       let inside = broken-between stops-there c e in
       let few = rw (two-rides tariff counts bytes (tripOf bytes) c e) at (clear a .few) in
       let ok : Rideable tariff counts book first = good-first tariff counts book bytes (a .read) (clear a .sound-book) (clear a .good) c e in
-      let again = right-again ok right (omega arith) in
+      let again = next-right ok right (omega arith) in
       let ok′ : Rideable tariff counts between second = good-second tariff counts between bytes (a .read) (posted-sound ok right) (clear a .good) c e in
       let bytes-are : statementOf parts ≡ statementOf (part ∷ next ∷ []) =
       ap statementOf (parts-with (first ∷ second ∷ []) (two-rides tariff counts bytes (tripOf bytes) c e))
@@ -361,11 +368,8 @@ module _ {tariff book bytes : List ℕ} {room : ℕ} {new : List ℕ} {parts : L
       rw (bytes-are, ← size)
       (subst (λ (s : List ℕ). StandsAt next s (length (recordOf part))) (append-nil (statementOf (part ∷ next ∷ []))) (second-stands part next [] []))
       in
-      as-two c (broken-says stops-there c e) (ap length bytes-are ∙ two-long part next ∙ rw (size, record-size ok′ again))
+      as-two c (broken-says stops-there c e) (ap length bytes-are ∙ length-two part next ∙ rw (size, record-size ok′ again))
       (said stops-there (omega arith) (omega arith) ok right stands) (said stops-there (omega arith) (omega (arith, two-stops)) ok′ again behind)
-    where
-      two-long : (one other : Part) → length (statementOf (one ∷ other ∷ [])) ≡ length (recordOf one) + length (recordOf other)
-      two-long one other = length-append (recordOf one) (statementOf (other ∷ [])) ∙ ap (λ (s : List ℕ). length (recordOf one) + length s) (one-part other)
 
   statement-said : StatementSays tariff book bytes counts (statementOf parts)
   statement-said = go (breakOf tariff counts bytes (countAt bytes 0)) refl

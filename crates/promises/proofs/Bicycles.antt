@@ -5,7 +5,6 @@ use Prim.Native.Nat.{ℕ, _+_, _≤_, _<_}
 use native.Mathlib.Omega.{arith}
 use native.Mathlib.Decide.{decLt}
 use mathlib.Core.Path.{_≡_, refl, sym, ap, _∙_}
-use mathlib.Core.Bool.{true}
 use mathlib.Core.List.{List, [], _∷_}
 use lib.ListN.{length}
 use Rattle.tariff.specs.declared.Counts.{Counts}
@@ -15,23 +14,26 @@ use Rattle.trip.specs.Moments.{checkoutOf}
 use Rattle.fare.specs.declared.Ride.{Ride}
 use Rattle.fare.specs.Contracts.{EachRide}
 use Rattle.fare.specs.Contracts as each
-use Rattle.book.specs.declared.Window.{Window}
-use Rattle.book.specs.Words.{freshBook, coverWord, paidWord}
-use Rattle.book.specs.Windows.{inWindow}
-use Rattle.book.specs.Contracts.{Rideable}
-use Rattle.book.specs.InWords.{WithinCap, RidePays}
-use Rattle.book.specs.Posting.{posted}
-use Rattle.book.proofs.SoundLaws.{sound-has}
-use Rattle.book.proofs.ChargeLaws.{cover-known}
-use Rattle.book.proofs.InWords.{cover-says, cover-one}
-use Rattle.book.proofs.Paying.{within-fresh, within-window, ride-pays, within-again}
-use Rattle.book.proofs.SoundAgain.{WindowRight, window-room, posted-sound}
+use Rattle.ledger.specs.declared.Window.{Window}
+use Rattle.ledger.specs.Words.{freshBook, coverWord, paidWord}
+use Rattle.ledger.specs.Windows.{inWindow}
+use Rattle.charging.specs.Contracts.{Rideable}
+use Rattle.cycles.specs.InWords.{WithinCap, RidePays}
+use Rattle.charging.specs.After.{posted}
+use Rattle.ledger.proofs.SoundLaws.{sound-has}
+use Rattle.ledger.proofs.Counting.{cover-known}
+use Rattle.cycles.proofs.InWords.{cover-says, cover-one}
+use Rattle.posting.proofs.Paying.{within-fresh, within-window, ride-pays, within-again}
+use Rattle.ledger.specs.Contracts.{WindowRight}
+use Rattle.ledger.proofs.WindowLaws.{window-room}
+use Rattle.posting.proofs.NextPart.{next-right}
+use Rattle.posting.proofs.SoundAgain.{posted-sound}
 use Rattle.statement.specs.Record.{Part}
 use Rattle.settle.specs.Outcome.{Outcome, refused, accepted, partOf, oneMore, partsOf, postedAll, settled, bookAfter}
 use Rattle.settle.specs.Runs.{Offer, bookFrom}
 use Rattle.promises.specs.Conditions.{tripRides, tripWindow, AcceptedBy, wordsBefore}
 use Rattle.promises.specs.Runs.{bookOf, PaysInTurn, pays-no-more, pays-on, pays-off}
-use Rattle.promises.proofs.RideLaws.{right-again, on-another}
+use Rattle.promises.proofs.RideLaws.{on-another}
 use Rattle.promises.proofs.Answers.{accepted-is, clear, charged-rides, some-rides, right-window}
 use Rattle.promises.proofs.Books.{ride-says}
 
@@ -88,7 +90,7 @@ module _ {tariff : List ℕ} {counts : Counts} {checkout k : ℕ} (few : k < 10)
   rides-pay ride (next ∷ rides) {book} {window} (each.more ok oks) right room s =
       let (pays, within) =
       rides-pay next rides (on-another (posted tariff counts book window checkout ride) (posted-sound ok right) oks)
-      (right-again ok right (omega arith)) (omega arith) (within-again ok window checkout (window-room right) k few s)
+      (next-right ok right (omega arith)) (omega arith) (within-again ok window checkout (window-room right) k few s)
       in
       (one-pays ok right s pays, within)
 

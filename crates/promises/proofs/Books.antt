@@ -25,27 +25,45 @@ use Rattle.fare.specs.Contracts.{EachRide}
 use Rattle.fare.specs.Contracts as each
 use Rattle.fare.proofs.Breaks.{said-broken}
 use Rattle.fare.proofs.GoodTrips.{riding}
-use Rattle.book.specs.declared.Window.{Window}
-use Rattle.book.specs.Words.{word, tripsOf, openingOf, lastOutOf, secondSum, allSum, coverWord, paidWord}
-use Rattle.book.specs.Windows.{inWindow}
-use Rattle.book.specs.Caps.{treeOf}
-use Rattle.book.specs.Charging.{carries, newCover, payment, bicycleCharge, chargesOf}
-use Rattle.book.specs.Contracts.{Rideable}
-use Rattle.book.specs.Posting.{paidWith, posted}
-use Rattle.book.specs.InWords.{ChargeSays, CoverSays, BicycleSays}
-use Rattle.book.proofs.Trees.{lies-within}
-use Rattle.book.proofs.SoundLaws.{sound-has}
-use Rattle.book.proofs.ChargeLaws.{bicycle-stands, cover-known}
-use Rattle.book.proofs.PostedLaws.{posted-size, posted-trips, posted-opening, posted-out, posted-sum, posted-cover, posted-uncovered, posted-paid, posted-unpaid, rider-stands}
-use Rattle.book.proofs.SoundAgain.{WindowRight, window-room, posted-sound}
-use Rattle.book.proofs.InWords.{charge-says, charge-one, per-trip-one, cover-says, cover-one, bicycle-says}
-use Rattle.book.proofs.BookWords.{each-word, words-same, window-bytes, posted-bytes}
-use Rattle.book.proofs.GoodRides.{good-first}
+use Rattle.ledger.specs.declared.Window.{Window}
+use Rattle.ledger.specs.Words.{word, tripsOf, openingOf, lastOutOf, secondSum, allSum, coverWord, paidWord}
+use Rattle.ledger.specs.Windows.{inWindow}
+use Rattle.charging.specs.Caps.{treeOf}
+use Rattle.charging.specs.Charging.{carries, chargesOf}
+use Rattle.cycles.specs.Bicycles.{newCover, payment, bicycleCharge, paidWith}
+use Rattle.charging.specs.Contracts.{Rideable}
+use Rattle.charging.specs.After.{posted}
+use Rattle.charging.specs.InWords.{ChargeSays}
+use Rattle.cycles.specs.InWords.{CoverSays, BicycleSays}
+use Rattle.charging.proofs.Trees.{lies-within}
+use Rattle.ledger.proofs.SoundLaws.{sound-has}
+use Rattle.charging.proofs.ChargeLaws.{rider-stands, bicycle-stands}
+use Rattle.ledger.proofs.Counting.{cover-known}
+use Rattle.charging.proofs.PostedLaws.{
+  posted-size,
+  posted-trips,
+  posted-opening,
+  posted-out,
+  posted-sum,
+  posted-cover,
+  posted-uncovered,
+  posted-paid,
+  posted-unpaid,
+}
+use Rattle.ledger.specs.Contracts.{WindowRight}
+use Rattle.ledger.proofs.WindowLaws.{window-room}
+use Rattle.posting.proofs.NextPart.{next-right}
+use Rattle.posting.proofs.SoundAgain.{posted-sound}
+use Rattle.charging.proofs.InWords.{charge-says, charge-one}
+use Rattle.cycles.proofs.InWords.{per-trip-one, cover-says, cover-one, bicycle-says}
+use Rattle.ledger.proofs.BookWords.{each-word, words-same, window-bytes}
+use Rattle.posting.proofs.PostedBytes.{posted-bytes}
+use Rattle.charging.proofs.GoodRides.{good-first}
 use Rattle.statement.specs.Record.{Part}
 use Rattle.settle.specs.Outcome.{partOf, oneMore, partsOf, postedAll}
 use Rattle.promises.specs.Conditions.{tripRides, tripWindow, AcceptedBy, minutesOf, rideOn, wordsBefore, wordsBetween}
-use Rattle.promises.specs.Books.{CountsIn, Takes, chargeOf, bicycleChargeOf, BookSays, BooksSay, none, more}
-use Rattle.promises.proofs.RideLaws.{right-again, on-another}
+use Rattle.promises.specs.Books.{CountsIn, Takes, chargeOf, BookSays, BooksSay, none, more}
+use Rattle.promises.proofs.RideLaws.{on-another}
 use Rattle.promises.proofs.Answers.{clear, charged-rides, right-window, some-parts}
 
 -- ---- One ride.
@@ -160,7 +178,7 @@ rides-say {tariff} {counts} {checkout} (ride ∷ rides) {book} {window} (each.mo
     let here = right (omega arith) in
     more (ride-says ok here)
     (rides-say rides (on-another (posted tariff counts book window checkout ride) (posted-sound ok here) oks)
-    (λ room. right-again ok here (omega arith)) (omega arith))
+    (λ room. next-right ok here (omega arith)) (omega arith))
 
 -- The first three words of the book after one part or more of a window.
 pub record HeadSays (window : Window) (checkout parts : ℕ) (new : List ℕ) : Type 0 where

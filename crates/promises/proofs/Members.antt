@@ -14,10 +14,10 @@ use mathlib.Core.List.{List, [], _∷_, List·Memᴰ, List·Memᴰ·head, List·
 use Rattle.caps.specs.Rides.{PromiseThree}
 use Rattle.tariff.specs.declared.Counts.{Counts}
 use Rattle.tariff.specs.Areas.{Read}
-use Rattle.book.specs.Words.{freshBook}
-use Rattle.book.specs.Sound.{sound}
-use Rattle.book.specs.Caps.{treeOf}
-use Rattle.book.specs.Charging.{isChild}
+use Rattle.ledger.specs.Words.{freshBook}
+use Rattle.ledger.specs.Sound.{sound}
+use Rattle.charging.specs.Caps.{treeOf}
+use Rattle.charging.specs.Charging.{isChild}
 use Rattle.settle.specs.Outcome.{Outcome, refused, settledUnder, settled, bookAfter, Settled}
 use Rattle.settle.specs.Runs.{Offer, Settlement, runFrom}
 use Rattle.settle.proofs.Ways.{faultless-way}

@@ -17,13 +17,14 @@ use Rattle.tariff.specs.declared.Reading.{Reading}
 use Rattle.tariff.specs.declared.Reading.the-variants.{Fault, Faultless}
 use Rattle.tariff.specs.Scan.{readTariff}
 use Rattle.tariff.specs.Areas.{Read}
-use Rattle.book.specs.Words.{freshBook, tripsOf, openingOf, lastOutOf}
-use Rattle.book.specs.Windows.{belongs, windowOf}
-use Rattle.book.proofs.WordLaws.{word-fresh}
+use Rattle.ledger.specs.Words.{freshBook, tripsOf, openingOf, lastOutOf}
+use Rattle.ledger.specs.Windows.{belongs, windowOf}
+use Rattle.ledger.proofs.WordLaws.{word-fresh}
 use Rattle.statement.specs.Record.{Part}
-use Rattle.settle.specs.Refusals.{refusal, rows, Found, nothing, found, firstOf}
+use Rattle.deciding.specs.Refusals.{refusal, rows, Verdict, nothing, found, firstOf}
 use Rattle.settle.specs.Outcome.{Outcome, accepted, acceptedTrip, settled, bookAfter}
-use Rattle.settle.proofs.Ways.{refused-first, clear-first, fault-way, refused-way, accepted-way}
+use Rattle.deciding.proofs.Decisions.{refused-first, clear-first}
+use Rattle.settle.proofs.Ways.{fault-way, refused-way, accepted-way}
 use Rattle.settle.specs.Runs.{Offer, bookFrom}
 use Rattle.promises.specs.Runs.{bookOf}
 use Rattle.promises.specs.Moved.{MovedTrip, MovedBook, MovedOutcome, both-refused, both-accepted, MovedRun, moved-none, moved-more}
@@ -96,7 +97,7 @@ module _ (tariff : List ℕ) (room d : ℕ) {book bytes book′ bytes′ : List 
 
   -- the two tables are one, so what is found first is
   by-table :
-      (counts : Counts) → Read tariff counts → (f : Found) → firstOf (rows tariff counts book bytes room) ≡ f
+      (counts : Counts) → Read tariff counts → (f : Verdict) → firstOf (rows tariff counts book bytes room) ≡ f
       → firstOf (rows tariff counts book′ bytes′ room) ≡ f → MovedOutcome d (settled tariff book bytes room) (settled tariff book′ bytes′ room)
   unfolding acceptedTrip
   by-table counts read (found why) e e′ =

@@ -15,10 +15,11 @@ use Rattle.tariff.specs.declared.Reading.{Reading}
 use Rattle.tariff.specs.declared.Reading.the-variants.{Fault, Faultless}
 use Rattle.tariff.specs.Scan.{readTariff}
 use Rattle.tariff.specs.Areas.{Read}
-use Rattle.settle.specs.Refusals.{rows, Found, nothing, found, firstOf}
+use Rattle.deciding.specs.Refusals.{rows, Verdict, nothing, found, firstOf}
 use Rattle.settle.specs.Outcome.{acceptedTrip, settled}
 use Rattle.settle.specs.Runs.{Offer}
-use Rattle.settle.proofs.Ways.{refused-first, clear-first, fault-way, refused-way, accepted-way}
+use Rattle.deciding.proofs.Decisions.{refused-first, clear-first}
+use Rattle.settle.proofs.Ways.{fault-way, refused-way, accepted-way}
 use Rattle.promises.specs.Runs.{bookOf}
 use Rattle.promises.specs.Moved.{
   MovedTrip,
@@ -74,7 +75,7 @@ module _ (tariff book : List ℕ) (room : ℕ) {trip trip′ : List ℕ} (one : 
       }
 
   by-table :
-      (counts : Counts) → Read tariff counts → (f : Found) → firstOf (rows tariff counts book trip room) ≡ f
+      (counts : Counts) → Read tariff counts → (f : Verdict) → firstOf (rows tariff counts book trip room) ≡ f
       → firstOf (rows tariff counts book trip′ room) ≡ f → settled tariff book trip room ≡ settled tariff book trip′ room
   unfolding acceptedTrip
   by-table counts read (found why) e e′ =

@@ -35,12 +35,12 @@ use Rattle.tariff.specs.declared.Counts.{Counts}
 use Rattle.tariff.specs.Areas.{areaAt, Read}
 use Rattle.tariff.proofs.Faultless.{faultless}
 use Rattle.trip.specs.Moments.{checkoutOf}
-use Rattle.book.specs.Words.{freshBook, tripsOf, secondSum, allSum}
-use Rattle.book.specs.Sound.{sound}
-use Rattle.book.specs.Windows.{belongs}
-use Rattle.book.specs.Caps.{secondCap, allCap, treeOf}
-use Rattle.book.specs.Charging.{isChild}
-use Rattle.book.proofs.Trees.{is-tree}
+use Rattle.ledger.specs.Words.{freshBook, tripsOf, secondSum, allSum}
+use Rattle.ledger.specs.Sound.{sound}
+use Rattle.ledger.specs.Windows.{belongs}
+use Rattle.charging.specs.Caps.{secondCap, allCap, treeOf}
+use Rattle.charging.specs.Charging.{isChild}
+use Rattle.charging.proofs.Trees.{is-tree}
 use Rattle.statement.specs.Record.{Part}
 use Rattle.settle.specs.Outcome.{accepted, settled}
 use Rattle.settle.specs.Runs.{Offer, runFrom}

@@ -20,14 +20,15 @@ use Rattle.trip.specs.Record.{countAt}
 use Rattle.trip.specs.Trips.{tripOf}
 use Rattle.fare.specs.declared.Breaking.{Breaking}
 use Rattle.fare.specs.Parts.{breakOf}
-use Rattle.book.specs.declared.Window.{Window}
-use Rattle.book.specs.Words.{bookSize}
-use Rattle.book.proofs.SoundLaws.{sound-has}
+use Rattle.ledger.specs.declared.Window.{Window}
+use Rattle.ledger.specs.Words.{bookSize}
+use Rattle.ledger.proofs.SoundLaws.{sound-has}
 use Rattle.statement.specs.Record.{Part, largestStatement, statementOf}
-use Rattle.settle.specs.declared.decide.Decision.{Decision}
-use Rattle.settle.specs.declared.decide.Decision.the-variants.{Refused, Clear}
-use Rattle.settle.specs.declared.refusals.Refusal.the-variants.{NoRoom, OtherRecord}
-use Rattle.settle.specs.Refusals.{refusal, lastRefusal, Numbered, Found, nothing, found, firstOf}
+use Rattle.deciding.specs.declared.decide.Decision.{Decision}
+use Rattle.deciding.specs.declared.decide.Decision.the-variants.{Refused, Clear}
+use Rattle.deciding.specs.declared.refusals.Refusal.the-variants.{NoRoom, OtherRecord}
+use Rattle.deciding.specs.Refusals.{refusal, lastRefusal, Numbered, Verdict, nothing, found, firstOf}
+use Rattle.deciding.specs.Deciding.{decidedUnder}
 use Rattle.settle.specs.Outcome.{
   Quote,
   unquoted,
@@ -35,7 +36,6 @@ use Rattle.settle.specs.Outcome.{
   Outcome,
   refused,
   accepted,
-  decidedUnder,
   tripParts,
   tripPosted,
   bookWith,
@@ -48,12 +48,11 @@ use Rattle.settle.specs.Outcome.{
   Quoted,
 }
 use Rattle.settle.specs.Posting.{sameBytes, postingRows, unposted, renewed, postingOf, Posted}
-use Rattle.settle.specs.Contracts.{AllClear, clearPosting}
-use Rattle.settle.proofs.Rows.{has, first-range, first-has, posting-range, no-room-row}
+use Rattle.deciding.specs.Contracts.{AllClear}
+use Rattle.settle.specs.Contracts.{clearPosting}
+use Rattle.deciding.proofs.Rows.{has, first-range, first-has}
+use Rattle.deciding.proofs.Decisions.{refused-found, clear-first, clear-found, all-clear}
 use Rattle.settle.proofs.Ways.{
-  refused-found,
-  clear-first,
-  clear-found,
   unquoted-under,
   priced-under,
   fault-quote,
@@ -64,10 +63,11 @@ use Rattle.settle.proofs.Ways.{
   faultless-way,
   refused-under,
   accepted-under,
-  all-clear,
 }
 use Rattle.settle.proofs.Clear.{parts-right, size-most}
 use Rattle.settle.proofs.Postings.{
+  posting-range,
+  no-room-row,
   same-exactly,
   earlier-or-room,
   none-earlier,
@@ -292,7 +292,7 @@ module _ (tariff book trip : List ℕ) where
   posting-refused-exactly offered n place = (go (readTariff tariff) refl, back)
     where
       by-row :
-          (counts : Counts) → Read tariff counts → (f : Found) → firstOf (postingRows tariff counts book trip offered) ≡ f
+          (counts : Counts) → Read tariff counts → (f : Verdict) → firstOf (postingRows tariff counts book trip offered) ≡ f
           → postingOf tariff book trip offered ≡ unposted n place → PostingRefusedBy tariff book trip offered n place
       by-row counts read (found why) is e =
           let e′ = faultless-posting tariff book trip offered counts read ∙ posting-found tariff counts book trip offered is in

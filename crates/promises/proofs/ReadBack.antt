@@ -20,20 +20,20 @@ use Rattle.fare.specs.declared.Ride.{Ride}
 use Rattle.fare.specs.Contracts.{EachRide, none, more}
 use Rattle.fare.proofs.Steps.{price-most}
 use Rattle.fare.proofs.PartLaws.{few-rides}
-use Rattle.book.specs.declared.Window.{Window}
-use Rattle.book.specs.declared.Cut.{Cut}
-use Rattle.book.specs.Words.{firstChild, secondSum, allSum}
-use Rattle.book.specs.Windows.{inWindow}
-use Rattle.book.specs.Caps.{treeOf}
-use Rattle.book.specs.Charging.{isChild, riderCharge}
-use Rattle.book.specs.Cuts.{riderCut, cutsOf}
-use Rattle.book.specs.Contracts.{Rideable}
-use Rattle.book.specs.InWords.{CutSays}
-use Rattle.book.proofs.Trees.{is-tree}
-use Rattle.book.proofs.ChargeLaws.{cuts-length, adult-stands, child-stands, adult-cut-stands, child-cut-stands, priceable, charges-most}
-use Rattle.book.proofs.CutLaws.{cut-says}
-use Rattle.book.proofs.EarlierLaws.{next-rideable, next-right}
-use Rattle.book.proofs.SoundAgain.{WindowRight}
+use Rattle.ledger.specs.declared.Window.{Window}
+use Rattle.caps.specs.declared.Cut.{Cut}
+use Rattle.ledger.specs.Words.{firstChild, secondSum, allSum}
+use Rattle.ledger.specs.Windows.{inWindow}
+use Rattle.charging.specs.Caps.{treeOf}
+use Rattle.charging.specs.Charging.{isChild, riderCharge}
+use Rattle.charging.specs.Cuts.{riderCut, cutsOf}
+use Rattle.charging.specs.Contracts.{Rideable}
+use Rattle.charging.specs.InWords.{CutSays}
+use Rattle.charging.proofs.Trees.{is-tree}
+use Rattle.charging.proofs.ChargeLaws.{cuts-length, adult-stands, child-stands, adult-cut-stands, child-cut-stands, priceable, charges-most}
+use Rattle.charging.proofs.CutLaws.{cut-says}
+use Rattle.posting.proofs.NextPart.{next-rideable, next-right}
+use Rattle.ledger.specs.Contracts.{WindowRight}
 use Rattle.statement.specs.Record.{Part, personsOf, countOf, recordOf, statementOf, uncut}
 use Rattle.reader.specs.declared.Amount.{Amount}
 use Rattle.reader.specs.Fields.{amountOf, Complete, fieldsOf}
@@ -41,7 +41,7 @@ use Rattle.reader.specs.Ranges.{lastArea, AmountInRange, InRange}
 use Rattle.reader.specs.Reading.{told, readAt}
 use Rattle.reader.proofs.ReadBack.{written-part, read-written}
 use Rattle.settle.specs.Outcome.{accepted, partOf, oneMore, partsOf, settled, statementWith}
-use Rattle.settle.proofs.Clear.{part-complete, chargeable}
+use Rattle.settle.proofs.Clear.{part-complete, rides-fit}
 use Rattle.promises.specs.Conditions.{tripRides, tripWindow}
 use Rattle.promises.specs.ReadBack.{ReadFrom, over, then, EachReadable, nobody, also}
 use Rattle.promises.proofs.Answers.{accepted-is}
@@ -161,8 +161,8 @@ module _ {tariff : List ℕ} {counts : Counts} {book : List ℕ} {window : Windo
   each-readable [] none right few two = nobody
   each-readable (ride ∷ []) (more ok none) right few two = also (part-whole ok right) (part-in-range ok right) nobody
   each-readable (ride ∷ next ∷ []) (more ok (more ok′ none)) right few two =
-      let ok″ = next-rideable ok ok′ right in
-      let right′ = next-right ok ok′ right (omega arith) in
+      let ok″ = next-rideable ok right ok′ in
+      let right′ = next-right ok right (omega arith) in
       also (part-whole ok right) (part-in-range ok right) (also (part-whole ok″ right′) (part-in-range ok″ right′) nobody)
   each-readable (ride ∷ next ∷ another ∷ rest) rideable right few two = absurd (omega arith)
 
@@ -172,7 +172,7 @@ module _ (tariff book trip : List ℕ) (room : ℕ) {new : List ℕ} {parts : Li
   settled-readable =
       let a = accepted-is tariff book trip room is in
       let counts = a .counts in
-      let asked = chargeable tariff counts book trip (tripOf trip) (tripWindow book trip) room (accepted-clear tariff book trip room a) refl in
+      let asked = rides-fit tariff counts book trip (tripOf trip) (tripWindow book trip) room (accepted-clear tariff book trip room a) refl in
       subst EachReadable (sym (a .parts-is))
       (each-readable (tripRides tariff counts trip) (asked .rideable) (asked .right) (asked .few) (few-rides tariff counts trip (tripOf trip) .1))
 

@@ -24,19 +24,20 @@ use Rattle.trip.proofs.Ranges.{six, nine}
 use Rattle.trip.proofs.Known.{seven, seventeen}
 use Rattle.trip.proofs.Stamps.{eight}
 use Rattle.fare.proofs.TownLaws.{refused-says, said-refused}
-use Rattle.book.specs.Words.{tripsOf, lastOutOf}
-use Rattle.book.specs.Sound.{sound}
-use Rattle.book.specs.Windows.{tooEarly}
+use Rattle.ledger.specs.Words.{tripsOf, lastOutOf}
+use Rattle.ledger.specs.Sound.{sound}
+use Rattle.ledger.specs.Windows.{tooEarly}
 use Rattle.statement.specs.Record.{Part, statementSize}
-use Rattle.settle.specs.declared.refusals.Refusal.{Refusal}
-use Rattle.settle.specs.declared.refusals.Refusal.the-variants as why
-use Rattle.settle.specs.Refusals.{Row, row, rowsTo, rows, Found, nothing, found, firstOf, testOf, First}
+use Rattle.deciding.specs.declared.refusals.Refusal.{Refusal}
+use Rattle.deciding.specs.declared.refusals.Refusal.the-variants as why
+use Rattle.deciding.specs.Refusals.{Row, row, rowsTo, rows, Verdict, nothing, found, firstOf, testOf, First}
 use Rattle.settle.specs.Outcome.{Outcome, refused, accepted, acceptedTrip, settled}
 use Rattle.settle.specs.Posting.{sameBytes, presentQuote, postingRows}
-use Rattle.settle.proofs.Rows.{rows-distinct, posting-distinct}
-use Rattle.settle.proofs.Rows as table
-use Rattle.settle.proofs.Postings.{same-exactly}
-use Rattle.settle.proofs.Ways.{refused-first, clear-first, fault-way, refused-way, accepted-way}
+use Rattle.deciding.proofs.Rows.{rows-distinct}
+use Rattle.deciding.proofs.Rows as table
+use Rattle.settle.proofs.Postings.{posting-distinct, same-exactly}
+use Rattle.deciding.proofs.Decisions.{refused-first, clear-first}
+use Rattle.settle.proofs.Ways.{fault-way, refused-way, accepted-way}
 use Rattle.promises.specs.Conditions.{
   countsOf,
   tripRides,
@@ -166,7 +167,7 @@ pub data Answered (tariff book bytes : List ℕ) (room : ℕ) : Outcome → Type
 
 module _ (tariff book bytes : List ℕ) (room : ℕ) where
   by-table :
-      (counts : Counts) → Read tariff counts → (f : Found) → firstOf (rows tariff counts book bytes room) ≡ f
+      (counts : Counts) → Read tariff counts → (f : Verdict) → firstOf (rows tariff counts book bytes room) ≡ f
       → Answered tariff book bytes room (settled tariff book bytes room)
   unfolding acceptedTrip
   by-table counts read (found r) e =

@@ -28,23 +28,27 @@ use Rattle.trip.specs.declared.Party.{Party}
 use Rattle.fare.specs.declared.Ride.{Ride}
 use Rattle.fare.specs.Contracts.{EachRide}
 use Rattle.fare.specs.Contracts as each
-use Rattle.book.specs.declared.Window.{Window}
-use Rattle.book.specs.Words.{freshBook, tripsOf, openingOf, secondSum, allSum, pairPlace}
-use Rattle.book.specs.Sound.{sound}
-use Rattle.book.specs.Windows.{inWindow}
-use Rattle.book.specs.Caps.{treeOf}
-use Rattle.book.specs.Charging.{isChild, carries, riderCharge, chargesOf}
-use Rattle.book.specs.Cuts.{riderCut}
-use Rattle.book.specs.InWords.{CutSays, priceFor}
-use Rattle.book.specs.Posting.{posted}
-use Rattle.book.specs.Contracts.{Rideable}
-use Rattle.book.proofs.Trees.{is-tree}
-use Rattle.book.proofs.WordLaws.{word-fresh}
-use Rattle.book.proofs.SoundLaws.{fresh-sound}
-use Rattle.book.proofs.SumLaws.{sumOf, counted}
-use Rattle.book.proofs.PostedLaws.{added, ownCharge, rider-stands, posted-sum, posted-trips, posted-opening}
-use Rattle.book.proofs.SoundAgain.{WindowRight, window-room, posted-sound}
-use Rattle.book.proofs.CutLaws.{cut-says, rider-cut-stands}
+use Rattle.ledger.specs.declared.Window.{Window}
+use Rattle.ledger.specs.Words.{freshBook, tripsOf, openingOf, secondSum, allSum, pairPlace}
+use Rattle.ledger.specs.Sound.{sound}
+use Rattle.ledger.specs.Windows.{inWindow}
+use Rattle.charging.specs.Caps.{treeOf}
+use Rattle.charging.specs.Charging.{isChild, carries, priceFor, riderCharge, chargesOf}
+use Rattle.charging.specs.Cuts.{riderCut}
+use Rattle.charging.specs.InWords.{CutSays}
+use Rattle.charging.specs.After.{posted}
+use Rattle.charging.specs.Contracts.{Rideable}
+use Rattle.charging.proofs.Trees.{is-tree}
+use Rattle.ledger.proofs.WordLaws.{word-fresh}
+use Rattle.ledger.proofs.SoundLaws.{fresh-sound}
+use Rattle.charging.proofs.SumLaws.{sumOf, counted}
+use Rattle.charging.proofs.PostedLaws.{added, ownCharge, posted-sum, posted-opening}
+use Rattle.ledger.specs.Contracts.{WindowRight}
+use Rattle.ledger.proofs.WindowLaws.{window-room}
+use Rattle.posting.proofs.NextPart.{next-trips, next-right}
+use Rattle.posting.proofs.SoundAgain.{posted-sound}
+use Rattle.charging.proofs.ChargeLaws.{rider-stands, rider-cut-stands}
+use Rattle.charging.proofs.CutLaws.{cut-says}
 use Rattle.statement.specs.Record.{Part, uncut}
 use Rattle.settle.specs.Outcome.{partOf, oneMore, partsOf, postedAll}
 use Rattle.promises.specs.Conditions.{nameOfCut}
@@ -127,23 +131,9 @@ module _ {tariff : List ℕ} {counts : Counts} {book : List ℕ} {ride : Ride} (
   abbrev new : List ℕ
   new = posted tariff counts book window checkout ride
 
-  -- the book has the window's opening, and one trip more
-  head-trips : tripsOf new ≡ window .trips + 1
-  head-trips = posted-trips ok window checkout (window-room right) (omega (arith, right .head .few))
-
+  -- the book has the window's opening
   head-opening : openingOf new ≡ window .opening .0
   head-opening = posted-opening ok window checkout (window-room right) (omega (arith, right .head .order, right .head .last))
-
-  -- the same window, with one trip more, is right for another ride with the same check-out
-  pub right-again : window .trips + 2 ≤ 256 → WindowRight new (oneMore window) checkout
-  unfolding oneMore
-  right-again few =
-      let head = right .head in
-      record {
-        trips = sym head-trips;
-        used = λ _. omega (arith, head-trips);
-        head = record { some = omega arith; few = omega arith; order = head .order; last = head .last; day = head .day };
-      }
 
   module _ {rider : ℕ} (known : rider < 21) {rides : List ChargedRide} (k : Kept tariff counts rider book rides) where
     -- the words that count, the rides in their window, and the ride's part
@@ -199,7 +189,7 @@ module _ {tariff : List ℕ} {counts : Counts} {book : List ℕ} {ride : Ride} (
               ∙ charge-same (is-tree (faultless tariff counts (ok .read)) (isChild rider)) _ _ _ _ (words .sums true) (words .sums false) (ride .class)
               (ride .area) _ (ok .area));
           each-counts = λ holder.
-              omega (arith, head-trips, right .trips, words .each-counts holder, window-trips (window .current) book);
+              omega (arith, next-trips ok right, right .trips, words .each-counts holder, window-trips (window .current) book);
         }
 
     -- the cut of a rider who is carried names the cap that left the least over the rider's rides before it
@@ -208,7 +198,7 @@ module _ {tariff : List ℕ} {counts : Counts} {book : List ℕ} {ride : Ride} (
 
     abbrev name : Name
     name =
-        nameIn tree (λ x. secondTotal tree x before) (λ x. allTotal tree x before) (ride .class) (ride .area) (priceFor tariff counts ride rider)
+        nameIn tree (λ x. secondTotal tree x before) (λ x. allTotal tree x before) (ride .class) (ride .area) (priceFor tariff counts ride (isChild rider))
 
     cut-is : carries (ride .party) rider ≡ true → cutOf rider part ≡ riderCut tariff counts w ride (isChild rider) rider
     unfolding cutOf partOf
@@ -220,7 +210,7 @@ module _ {tariff : List ℕ} {counts : Counts} {book : List ℕ} {ride : Ride} (
         ap nameOfCut (cut-is on)
         ∙ name-class (is-tree (faultless tariff counts (ok .read)) (isChild rider)) (secondSum w rider) (allSum w rider)
         (λ x. secondTotal tree x before) (λ x. allTotal tree x before) (ride .class) (λ two. words .sums true) (words .sums false) (ride .area)
-        (priceFor tariff counts ride rider) (ok .area)
+        (priceFor tariff counts ride (isChild rider)) (ok .area)
 
     cut-said :
         carries (ride .party) rider ≡ true
@@ -309,10 +299,10 @@ pub kept-rides :
 unfolding postedAll partsOf ridesWith oneMore
 kept-rides [] known oks some k right few = absurd (omega arith)
 kept-rides (ride ∷ []) known (each.more ok none-left) some k right few =
-    record { kept = kept-ride ok right known k; in-use = omega (arith, head-trips ok right); since = head-opening ok right }
+    record { kept = kept-ride ok right known k; in-use = omega (arith, next-trips ok right); since = head-opening ok right }
 kept-rides (ride ∷ next ∷ later) known (each.more ok oks) some k right few =
     kept-rides (next ∷ later) known (on-another _ (posted-sound ok right) oks) (omega arith) (kept-ride ok right known k)
-    (right-again ok right (omega arith)) (omega arith)
+    (next-right ok right (omega arith)) (omega arith)
 
 -- And each of them that was cut names a cap that is exactly full with it.
 pub cuts-full :
@@ -325,4 +315,4 @@ cuts-full [] known oks k right few = no-more
 cuts-full (ride ∷ []) known (each.more ok none-left) k right few = part-more (cut-full ok right known k) no-more
 cuts-full (ride ∷ next ∷ later) known (each.more ok oks) k right few =
     part-more (cut-full ok right known k)
-    (cuts-full (next ∷ later) known (on-another _ (posted-sound ok right) oks) (kept-ride ok right known k) (right-again ok right (omega arith)) (omega arith))
+    (cuts-full (next ∷ later) known (on-another _ (posted-sound ok right) oks) (kept-ride ok right known k) (next-right ok right (omega arith)) (omega arith))

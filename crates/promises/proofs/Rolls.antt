@@ -10,9 +10,9 @@ use lib.Seq.{take-append-le}
 use Rattle.caps.specs.Rides.{PromiseThree}
 use Rattle.tariff.specs.declared.Counts.{Counts}
 use Rattle.tariff.specs.Areas.{Read}
-use Rattle.book.specs.Words.{freshBook}
-use Rattle.book.specs.Caps.{treeOf}
-use Rattle.book.specs.Charging.{isChild}
+use Rattle.ledger.specs.Words.{freshBook}
+use Rattle.charging.specs.Caps.{treeOf}
+use Rattle.charging.specs.Charging.{isChild}
 use Rattle.settle.specs.Outcome.{settled, bookAfter}
 use Rattle.settle.specs.Runs.{Offer, runFrom}
 use Rattle.roll.specs.declared.Line.the-variants.{Refused}

@@ -19,14 +19,14 @@ use Rattle.tariff.specs.Areas.{Read}
 use Rattle.tariff.proofs.Faultless.{read-one}
 use Rattle.trip.specs.Moments.{checkinOf, checkoutOf}
 use Rattle.trip.proofs.Clear.{good-fields}
-use Rattle.book.specs.Words.{freshBook, tripsOf, openingOf, lastOutOf}
-use Rattle.book.specs.Windows.{belongs, windowOf}
-use Rattle.book.specs.Caps.{treeOf}
-use Rattle.book.specs.Charging.{isChild}
-use Rattle.book.proofs.WordLaws.{word-fresh}
-use Rattle.book.proofs.SoundLaws.{sound-has}
+use Rattle.ledger.specs.Words.{freshBook, tripsOf, openingOf, lastOutOf}
+use Rattle.ledger.specs.Windows.{belongs, windowOf}
+use Rattle.charging.specs.Caps.{treeOf}
+use Rattle.charging.specs.Charging.{isChild}
+use Rattle.ledger.proofs.WordLaws.{word-fresh}
+use Rattle.ledger.proofs.SoundLaws.{sound-has}
 use Rattle.statement.specs.Record.{Part}
-use Rattle.settle.specs.declared.refusals.Refusal.the-variants as why
+use Rattle.deciding.specs.declared.refusals.Refusal.the-variants as why
 use Rattle.settle.specs.Outcome.{Outcome, refused, accepted, settled, bookAfter}
 use Rattle.settle.specs.Runs.{Offer, Settlement, runFrom, bookFrom}
 use Rattle.promises.specs.Conditions.{tripRides, tripWindow, conditionWith, AcceptedBy}

@@ -22,18 +22,18 @@ use Rattle.trip.specs.Moments.{checkinOf, checkoutOf}
 use Rattle.trip.specs.Trips.{stopsKnown, stampsRight, inOrder, oneStop, isMistap, tripOf}
 use Rattle.trip.proofs.Shapes.{trip-same}
 use Rattle.fare.specs.declared.Ride.{Ride}
-use Rattle.fare.specs.Prices.{mostPrice}
+use Rattle.units.specs.Price.{mostPrice}
 use Rattle.fare.specs.Towns.{townRefuses}
 use Rattle.fare.specs.Contracts.{EachRide}
 use Rattle.fare.specs.Contracts as riding
 use Rattle.fare.proofs.SameStops.{rides-same}
-use Rattle.book.specs.declared.Window.{Window}
-use Rattle.book.specs.Words.{bookSize, bookWords, word, tripsOf, openingOf, lastOutOf, coverWord, paidPlace, paidWord}
-use Rattle.book.specs.Sound.{allZero, headSound, pairsSound, coversSound, mostPaid, paymentsSound, sound}
-use Rattle.book.specs.Windows.{belongs, tooEarly, windowOf, inWindow}
-use Rattle.book.specs.Contracts.{Rideable}
+use Rattle.ledger.specs.declared.Window.{Window}
+use Rattle.ledger.specs.Words.{bookSize, bookWords, word, tripsOf, openingOf, lastOutOf, coverWord, paidPlace, paidWord}
+use Rattle.ledger.specs.Sound.{allZero, headSound, pairsSound, coversSound, mostPaid, paymentsSound, sound}
+use Rattle.ledger.specs.Windows.{belongs, tooEarly, windowOf, inWindow}
+use Rattle.charging.specs.Contracts.{Rideable}
 use Rattle.statement.specs.Record.{Part}
-use Rattle.settle.specs.Refusals.{rows}
+use Rattle.deciding.specs.Refusals.{rows}
 use Rattle.settle.specs.Outcome.{partOf, oneMore, partsOf, postedAll}
 use Rattle.promises.specs.Conditions.{tripRides, tripWindow, AcceptedBy}
 use Rattle.promises.specs.Moved.{SameTrip, SameWords, MovedBook, MovedPart, MovedParts, one-part, no-part}

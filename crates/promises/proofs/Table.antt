@@ -32,18 +32,21 @@ use Rattle.fare.specs.Rides.{stopOf, areaOfStops, rideBetween, rideOf}
 use Rattle.fare.specs.Parts.{breakOf, ridesOf as tripRides}
 use Rattle.fare.specs.Prices.{basePart, kmPart, step1, step2, step3, step4, tripCap, commonPrice, isMarked, inMarkedTown, priceOf}
 use Rattle.fare.specs.Towns.{someInTown, townRefuses}
-use Rattle.book.specs.Words.{freshBook}
-use Rattle.book.specs.Sound.{sound}
-use Rattle.book.specs.Caps.{secondCap, allCap}
-use Rattle.book.specs.Charging.{riderCharge, riderCharges, bicycleCharges, chargesOf}
-use Rattle.book.specs.Cuts.{riderCut, riderCuts, cutsOf}
-use Rattle.book.specs.Windows.{belongs, tooEarly, windowOf}
-use Rattle.book.specs.Posting.{addHere, addUp, addList, coverBicycles, opened, posted}
+use Rattle.ledger.specs.Words.{freshBook}
+use Rattle.ledger.specs.Sound.{sound}
+use Rattle.charging.specs.Caps.{secondCap, allCap}
+use Rattle.charging.specs.Charging.{riderCharge, inTurn, eachPerson, chargesOf}
+use Rattle.charging.specs.Cuts.{riderCut, cutsOf}
+use Rattle.ledger.specs.Windows.{belongs, tooEarly, windowOf}
+use Rattle.charging.specs.After.{addHere, addUp, addList, posted}
+use Rattle.cycles.specs.Bicycles.{coverBicycles}
+use Rattle.ledger.specs.Windows.{opened}
 use Rattle.statement.specs.Record.{statementSize}
-use Rattle.settle.specs.Refusals.{refusal, rows, Found, nothing, found, firstOf}
+use Rattle.deciding.specs.Refusals.{refusal, rows, Verdict, nothing, found, firstOf}
 use Rattle.settle.specs.Outcome.{Outcome, refused, partOf, oneMore, partsOf, postedAll, acceptedTrip, settled, bookAfter}
 use Rattle.settle.specs.Runs.{Offer, Settlement, runFrom, bookFrom}
-use Rattle.settle.proofs.Ways.{refused-first, clear-first, refused-way, accepted-way}
+use Rattle.deciding.proofs.Decisions.{refused-first, clear-first}
+use Rattle.settle.proofs.Ways.{refused-way, accepted-way}
 use Rattle.promises.specs.Runs.{bookOf, entryOf, cutOf, ridesWith, ridesAfter, ridesOver}
 use Rattle.promises.specs.Cases.{
   sampleArea,
@@ -106,7 +109,7 @@ book-more tariff book (d ∷ done) o = book-more tariff (bookAfter (settled tari
 module _ (tariff : List ℕ) (counts : Counts) (read : Read tariff counts) where
   module _ (book bytes : List ℕ) (room : ℕ) (is-sound : sound book (counts .areas) ≡ true) where
     -- the rows but the first
-    abbrev others : Found
+    abbrev others : Verdict
     others = firstOf (drop 1 (rows tariff counts book bytes room))
 
     skipped : firstOf (rows tariff counts book bytes room) ≡ others
@@ -117,7 +120,7 @@ module _ (tariff : List ℕ) (counts : Counts) (read : Read tariff counts) where
     unfolding onSound
     on-sound = go others refl
       where
-        go : (f : Found) → others ≡ f → settled tariff book bytes room ≡ onSound tariff counts book bytes room
+        go : (f : Verdict) → others ≡ f → settled tariff book bytes room ≡ onSound tariff counts book bytes room
         go (found why) e =
             rw (e, onSound) (refused-way tariff book bytes room counts read (refused-first tariff counts book bytes room (skipped ∙ e)))
         go nothing e =
@@ -170,7 +173,7 @@ unfolding dividedUp hundredthsOf periods getLe putLe bytesOf each broken frameAt
     leftOf cappedHere foldUp among chargeIn leaves namedHere nameIn longOf areaPlace longBits ones areaFields stopFields levelCap capOf tripCapOf kindWith
     dayCapOf areaOf areaAt stopAt townAt liesWithin smallestOf shapeAt partyAt stopNumber checkinOf checkoutOf isTrip partyRight stopsKnown
     stampsRight oneStop apart kmFrom kmOf stopOf areaOfStops rideBetween rideOf basePart kmPart step1 step2 step3 step4 tripCap commonPrice isMarked
-    inMarkedTown priceOf someInTown townRefuses secondCap allCap riderCharge riderCharges bicycleCharges chargesOf riderCut riderCuts cutsOf cutOf
+    inMarkedTown priceOf someInTown townRefuses secondCap allCap riderCharge inTurn eachPerson chargesOf riderCut cutsOf cutOf
     belongs tooEarly windowOf addHere addUp addList coverBicycles opened posted statementSize breakOf tripRides rows firstOf partOf oneMore partsOf
     postedAll acceptedTrip onSound runOnSound entryOf ridesWith ridesAfter ridesOver sampleArea areaBytes areasBytes sampleFactor factorBytes
     factorsBytes sampleStop stopBytes stopsBytes sampleAreas sampleFactors sampleStops sample stampBytes numbersBytes tripBytes along partResults

@@ -8,11 +8,12 @@ use Rattle.wire.specs.Number.{Bytes}
 use Rattle.tariff.specs.declared.Counts.{Counts}
 use Rattle.tariff.specs.Areas.{liesWithin, isAachen}
 use Rattle.fare.specs.declared.Ride.{Ride}
-use Rattle.book.specs.declared.Window.{Window}
-use Rattle.book.specs.Words.{bookSize, tripsOf, openingOf, lastOutOf, secondSum, allSum, coverWord, paidWord}
-use Rattle.book.specs.Windows.{inWindow}
-use Rattle.book.specs.Charging.{carries, placeOf}
-use Rattle.book.specs.InWords.{ChargeSays, CoverSays, BicycleSays}
+use Rattle.ledger.specs.declared.Window.{Window}
+use Rattle.ledger.specs.Words.{bookSize, tripsOf, openingOf, lastOutOf, secondSum, allSum, coverWord, paidWord}
+use Rattle.ledger.specs.Windows.{inWindow}
+use Rattle.charging.specs.Charging.{carries, placeOf}
+use Rattle.charging.specs.InWords.{ChargeSays}
+use Rattle.cycles.specs.InWords.{CoverSays, BicycleSays}
 use Rattle.statement.specs.Record.{Part}
 use Rattle.settle.specs.Outcome.{oneMore}
 

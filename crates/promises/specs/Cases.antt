@@ -12,8 +12,8 @@ use Rattle.tariff.specs.declared.Factor.{Factor}
 use Rattle.tariff.specs.declared.fields.AreaFields.{AreaFields}
 use Rattle.tariff.specs.declared.fields.StopFields.{StopFields}
 use Rattle.trip.specs.declared.Party.{Party}
-use Rattle.book.specs.declared.Cut.{Cut}
-use Rattle.book.specs.Words.{freshBook}
+use Rattle.caps.specs.declared.Cut.{Cut}
+use Rattle.ledger.specs.Words.{freshBook}
 use Rattle.statement.specs.Record.{Part, largestStatement, uncut}
 use Rattle.settle.specs.Outcome.{Outcome, refused, accepted}
 use Rattle.settle.specs.Runs.{Offer, Settlement, runFrom}

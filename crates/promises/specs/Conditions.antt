@@ -20,16 +20,18 @@ use Rattle.fare.specs.Distance.{apart, LeastKm}
 use Rattle.fare.specs.Rides.{stopOf, AreaOfStops, rideBetween}
 use Rattle.fare.specs.Parts.{BrokenAt, ridesOf}
 use Rattle.fare.specs.Towns.{FirstClassInTown}
-use Rattle.book.specs.declared.Window.{Window}
-use Rattle.book.specs.declared.Cut.{Cut}
-use Rattle.book.specs.Words.{tripsOf, lastOutOf, secondSum, allSum, coverWord, paidWord}
-use Rattle.book.specs.Sound.{sound}
-use Rattle.book.specs.Windows.{windowOf, inWindow}
-use Rattle.book.specs.Caps.{treeOf}
-use Rattle.book.specs.Charging.{isChild, carries, placeOf, riderCharge, bicycleCharge}
-use Rattle.book.specs.Cuts.{riderCut}
-use Rattle.book.specs.Posting.{posted}
-use Rattle.book.specs.InWords.{ChargeSays, CutSays, BicycleSays}
+use Rattle.ledger.specs.declared.Window.{Window}
+use Rattle.caps.specs.declared.Cut.{Cut}
+use Rattle.ledger.specs.Words.{tripsOf, lastOutOf, secondSum, allSum, coverWord, paidWord}
+use Rattle.ledger.specs.Sound.{sound}
+use Rattle.ledger.specs.Windows.{windowOf, inWindow}
+use Rattle.charging.specs.Caps.{treeOf}
+use Rattle.charging.specs.Charging.{isChild, carries, placeOf, riderCharge}
+use Rattle.cycles.specs.Bicycles.{bicycleCharge}
+use Rattle.charging.specs.Cuts.{riderCut}
+use Rattle.charging.specs.After.{posted}
+use Rattle.charging.specs.InWords.{ChargeSays, CutSays}
+use Rattle.cycles.specs.InWords.{BicycleSays}
 use Rattle.statement.specs.Record.{Part, recordSize, chargeKind, statementSize}
 use Rattle.statement.specs.Reading.{
   longIn,
@@ -48,9 +50,9 @@ use Rattle.statement.specs.Reading.{
 }
 use Rattle.settle.specs.Outcome.{partsOf, postedAll}
 use Rattle.settle.specs.Posting.{presentQuote}
-use Rattle.settle.specs.declared.refusals.Refusal.{Refusal}
-use Rattle.settle.specs.declared.refusals.Refusal.the-variants as why
-use Rattle.settle.specs.Refusals.{refusal, rows, First}
+use Rattle.deciding.specs.declared.refusals.Refusal.{Refusal}
+use Rattle.deciding.specs.declared.refusals.Refusal.the-variants as why
+use Rattle.deciding.specs.Refusals.{refusal, rows, First}
 
 -- ---- What the conditions speak of.
 

@@ -10,7 +10,7 @@ use Rattle.calendar.specs.Stamps.{lastMinute, MovedStamp}
 use Rattle.trip.specs.Record.{checkinPlace, checkoutPlace, classAt, levelAt, partyAt, countAt, stopNumber}
 use Rattle.trip.specs.Moments.{stampAt, checkinOf, checkoutOf}
 use Rattle.trip.specs.Trips.{stampsRight}
-use Rattle.book.specs.Words.{word, tripsOf, openingOf, lastOutOf}
+use Rattle.ledger.specs.Words.{word, tripsOf, openingOf, lastOutOf}
 use Rattle.statement.specs.Record.{Part}
 use Rattle.settle.specs.Outcome.{Outcome, refused, accepted}
 use Rattle.settle.specs.Runs.{Offer}

@@ -7,9 +7,9 @@ use Rattle.tariff.specs.declared.Counts.{Counts}
 use Rattle.tariff.specs.Scan.{FirstFault, FaultSays}
 use Rattle.tariff.specs.Areas.{Read}
 use Rattle.statement.specs.Record.{Part, largestStatement, statementOf}
-use Rattle.settle.specs.declared.refusals.Refusal.{Refusal}
-use Rattle.settle.specs.declared.refusals.Refusal.the-variants.{NoRoom}
-use Rattle.settle.specs.Refusals.{refusal, First}
+use Rattle.deciding.specs.declared.refusals.Refusal.{Refusal}
+use Rattle.deciding.specs.declared.refusals.Refusal.the-variants.{NoRoom}
+use Rattle.deciding.specs.Refusals.{refusal, First}
 use Rattle.settle.specs.Outcome.{Quote, unquoted, priced, Outcome, refused, accepted, quoted, settled}
 use Rattle.settle.specs.Posting.{unposted, renewed, postingRows, postingOf}
 use Rattle.promises.specs.Conditions.{postingCondition}

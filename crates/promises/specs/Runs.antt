@@ -11,15 +11,14 @@ use Rattle.caps.specs.Tree.{Tree}
 use Rattle.caps.specs.Named.{NamedCap, capNamed, sumNamed, Passed}
 use Rattle.caps.specs.Rides.{ChargedRide, allTotal, secondTotal}
 use Rattle.tariff.specs.declared.Counts.{Counts}
-use Rattle.tariff.specs.Areas.{areaAt, isAachen}
+use Rattle.tariff.specs.Areas.{isAachen}
 use Rattle.trip.specs.Moments.{checkinOf, checkoutOf}
-use Rattle.fare.specs.Prices.{priceOf}
-use Rattle.book.specs.declared.Cut.{Cut}
-use Rattle.book.specs.Words.{freshBook, tripsOf, openingOf}
-use Rattle.book.specs.Windows.{belongs}
-use Rattle.book.specs.Caps.{treeOf}
-use Rattle.book.specs.Charging.{isChild, carries, placeOf}
-use Rattle.book.specs.InWords.{RidePays}
+use Rattle.caps.specs.declared.Cut.{Cut}
+use Rattle.ledger.specs.Words.{freshBook, tripsOf, openingOf}
+use Rattle.ledger.specs.Windows.{belongs}
+use Rattle.charging.specs.Caps.{treeOf}
+use Rattle.charging.specs.Charging.{isChild, carries, placeOf, priceFor}
+use Rattle.cycles.specs.InWords.{RidePays}
 use Rattle.statement.specs.Record.{Part, uncut}
 use Rattle.settle.specs.Outcome.{Outcome, refused, accepted}
 use Rattle.settle.specs.Runs.{Offer, Settlement, runFrom, bookFrom}
@@ -33,7 +32,7 @@ entryOf tariff counts rider part =
     record {
       area = ride .area;
       class = ride .class;
-      price = priceOf (areaAt tariff counts (ride .area)) ride (isChild rider);
+      price = priceFor tariff counts ride (isChild rider);
       charge = getD (part .charges) (placeOf (ride .party) rider) 0;
     }
 

@@ -1,11 +1,11 @@
 -- The fields' bytes put one after another, and what filling a slice comes to.
 -- Assumes nothing.
-use Prim.Native.Nat.{ℕ, zero, suc, _+_, _*_, _/_, _%_, _≤_, _<_}
-use native.Mathlib.Nat.{add-zero, zero-add}
+use Prim.Native.Nat.{ℕ, zero, suc, _+_, _*_, _≤_, _<_}
+use native.Mathlib.Nat.{zero-add}
 use native.Mathlib.Numerals.{add-one}
 use native.Mathlib.Nat.{le-antisymm}
 use native.Mathlib.Omega.{arith}
-use mathlib.Core.Path.{_≡_, refl, sym, ap, _∙_}
+use mathlib.Core.Path.{_≡_, refl, ap, _∙_}
 use mathlib.Core.Bool.{Bool, true, false, cond}
 use mathlib.Core.List.{List, _++_, append-assoc}
 use lib.ListN.{length, drop, length-append}
@@ -16,11 +16,11 @@ use Rattle.wire.specs.Number.{putLe, bytesOf}
 use Rattle.wire.specs.Frame.{longestRecord}
 use Rattle.wire.proofs.Number.{sets-more}
 use Rattle.wire.proofs.Frames.{unbroken}
-use Rattle.book.specs.declared.Cut.{Cut}
 use Rattle.statement.specs.Record.{personSize, personBytes}
-use Rattle.statement.specs.Contracts.{cutFrom, Wrote}
+use Rattle.statement.specs.Contracts.{Wrote}
 use Rattle.statement.specs.Reading.{sizeIn}
 use Rattle.statement.proofs.Head.{length-person}
+use Rattle.statement.proofs.Wrote.{nothing-wrote, behind-wrote}
 use Rattle.reader.specs.declared.Head.{Head}
 use Rattle.reader.specs.declared.Whose.{Whose}
 use Rattle.reader.specs.declared.Amount.{Amount}
@@ -63,35 +63,19 @@ pub ride-put :
 unfolding putLe bytesOf rideBytes
 ride-put b head = refl
 
--- A named cap as one number is taken apart again.
-pub cut-named : (cut : Cut) → cut .area < 256 → cutFrom (cut .reduction .0) (cut .area + 256 * cut .class) ≡ cut
-cut-named cut small =
-    let area : (cut .area + 256 * cut .class) % 256 ≡ cut .area = omega arith in
-    let class : (cut .area + 256 * cut .class) / 256 ≡ cut .class = omega arith in
-    rw (area, class)
-
 -- ---- The charges.
 
 module _ (fields : Fields) (b : List ℕ) (place : ℕ) where
   pub none-put : Wrote (amountBytes fields 0) b place b place
   unfolding amountBytes
-  none-put = record { next = sym (add-zero place); stored = refl }
+  none-put = nothing-wrote b place
 
   -- One turn: the next charge stored behind those before it.
   pub one-put :
       (i next : ℕ) {b₁ b₂ : List ℕ} {amount : Amount} {r : ℕ} → Wrote (amountBytes fields i) b place b₁ next → amount ≡ amountOf fields i
-      → r ≡ next + personSize → b₂ ≡ sets b₁ next (personBytes (amount .charge .0) (amount .cut)) → Wrote (amountBytes fields (i + 1)) b place b₂ r
+      → Wrote (personBytes (amount .charge .0) (amount .cut)) b₁ next b₂ r → Wrote (amountBytes fields (i + 1)) b place b₂ r
   unfolding amountBytes
-  one-put i next {b₁} {b₂} {amount} {r} so-far read at here =
-      let mine = amountOf fields i in
-      let bytes = personBytes (mine .charge .0) (mine .cut) in
-      rw add-one
-      (record {
-        next = at ∙ omega (arith, so-far .next, length-append (amountBytes fields i) bytes, length-person (mine .charge .0) (mine .cut));
-        stored =
-            here
-            ∙ rw (read, so-far .stored, so-far .next) (sets-more b place (amountBytes fields i) bytes);
-      })
+  one-put i next so-far read here = rw add-one (behind-wrote so-far (rw read at here))
 
   pub all-put : (i count : ℕ) {b′ : List ℕ} {r : ℕ} → i ≤ count → count ≤ i → Wrote (amountBytes fields i) b place b′ r → Wrote (amountBytes fields count) b place b′ r
   all-put i count most least so-far = rw (le-antisymm most least) at so-far

@@ -9,7 +9,7 @@ use mathlib.Core.List.{List, [], _∷_, _++_, append-assoc}
 use lib.ListN.{length, getD, drop}
 use lib.Seq.{drop-cons}
 use Rattle.wire.specs.Number.{getLe, bytesOf, Bytes}
-use Rattle.book.specs.declared.Cut.{Cut}
+use Rattle.caps.specs.declared.Cut.{Cut}
 use Rattle.statement.specs.Record.{cutBytes, personBytes, chargeBytes}
 use Rattle.reader.specs.Reading.{listed}
 

@@ -12,9 +12,10 @@ use Rattle.units.specs.Day.{dayMinutes}
 use Rattle.wire.proofs.Each.{each-none, each-more, each-fails, each-at, each-all}
 use Rattle.wire.proofs.Tests.{both-left, both-right, one-of, told}
 use Rattle.calendar.specs.Stamps.{lastMinute}
+use Rattle.caps.specs.declared.Cut.{Cut}
+use Rattle.caps.specs.Named.{noName}
 use Rattle.fare.specs.Distance.{mostKm}
-use Rattle.fare.specs.Prices.{mostPrice}
-use Rattle.book.specs.declared.Cut.{Cut}
+use Rattle.units.specs.Price.{mostPrice}
 use Rattle.statement.specs.Record.{mostCarried}
 use Rattle.reader.specs.declared.Head.{Head}
 use Rattle.reader.specs.declared.Whose.{Whose}
@@ -23,7 +24,6 @@ use Rattle.reader.specs.declared.Amount.{Amount}
 use Rattle.reader.specs.Fields.{Fields, headIn, whoseIn, chargesOf, amountOf}
 use Rattle.reader.specs.Ranges.{
   lastArea,
-  noArea,
   HeadInRange,
   WhoseInRange,
   CutInRange,
@@ -108,7 +108,7 @@ cut-tests cut ok =
     elim (ℕ-discrete (cut .reduction .0) 0) [
       | yes none ↦
           let (area, class) = ok .unnamed none in
-          rw (eq-eqb (cut .reduction .0) 0 none, eq-eqb (cut .area) noArea area, eq-eqb (cut .class) 0 class)
+          rw (eq-eqb (cut .reduction .0) 0 none, eq-eqb (cut .area) (noName .area) area, eq-eqb (cut .class) 0 class)
       | no some ↦
           let (area, class) = ok .named some in
           rw (ne-eqb (cut .reduction .0) 0 some, le-leb (cut .area) lastArea area)

@@ -18,8 +18,8 @@ use Rattle.wire.specs.Frame.{broken, frameAt}
 use Rattle.wire.specs.declared.Frame.the-variants.{Whole}
 use Rattle.wire.proofs.Number.{get-drop}
 use Rattle.wire.proofs.Frames.{WholeAt, unbroken, unbroken-given, broken-back, broken-is, whole, whole-back}
+use Rattle.caps.specs.declared.Cut.{Cut}
 use Rattle.trip.specs.declared.Party.{Party}
-use Rattle.book.specs.declared.Cut.{Cut}
 use Rattle.statement.specs.Record.{Part, longWith, personsOf, countOf, chargeKind, headBytes, chargeBytes, recordOf, uncut, CutFits, Recordable}
 use Rattle.statement.specs.Record as record-of
 use Rattle.statement.specs.Kind4.{chargesKind, chargesLong, chargesHead, chargesRecordOf}
@@ -180,12 +180,15 @@ module _ (head : Head) (party : Party) (charges : List ℕ) (cuts : List Cut) wh
   recordable6 complete ok =
       record {
         opening = omega (arith, ok .head .opening);
-        area = omega (arith, ok .head .area);
-        km = omega (arith, ok .head .km);
-        minutes = omega (arith, ok .head .minutes);
-        adults = ok .whose .0;
-        children = ok .whose .1 .0;
-        bicycles = ok .whose .1 .1;
+        ride =
+            record {
+              area = omega (arith, ok .head .area);
+              km = omega (arith, ok .head .km);
+              minutes = omega (arith, ok .head .minutes);
+              adults = ok .whose .0;
+              children = ok .whose .1 .0;
+              bicycles = ok .whose .1 .1;
+            };
         complete = record { charges = complete .0; cuts = complete .1 };
         charges = small-charge charges (λ i h. let one = ok .amounts i (omega (arith, complete .0)) in omega (arith, one .price));
         cuts = λ i h.
@@ -209,7 +212,7 @@ module _ (head : Head) (party : Party) (charges : List ℕ) (cuts : List Cut) wh
         kind-is = sym (kind-is part6 s p there ok);
         length-is = omega arith;
         fits = omega arith;
-        short = omega (arith, long, ok .adults, ok .children, ok .bicycles);
+        short = omega (arith, long, ok .ride .adults, ok .ride .children, ok .ride .bicycles);
       }
       in
       let head-same : headAt s p ≡ head =

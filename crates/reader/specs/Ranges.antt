@@ -8,8 +8,9 @@ use Rattle.units.specs.Day.{dayMinutes}
 use Rattle.wire.specs.Each.{each}
 use Rattle.calendar.specs.Stamps.{lastMinute}
 use Rattle.fare.specs.Distance.{mostKm}
-use Rattle.fare.specs.Prices.{mostPrice}
-use Rattle.book.specs.declared.Cut.{Cut}
+use Rattle.units.specs.Price.{mostPrice}
+use Rattle.caps.specs.Named.{noName}
+use Rattle.caps.specs.declared.Cut.{Cut}
 use Rattle.statement.specs.Record.{mostCarried}
 use Rattle.reader.specs.declared.Head.{Head}
 use Rattle.reader.specs.declared.Whose.{Whose}
@@ -20,10 +21,6 @@ use Rattle.reader.specs.Fields.{Fields, headIn, whoseIn, chargesOf, amou
 -- the last of 32 areas
 abbrev pub lastArea : ℕ
 lastArea = 31
-
--- a cut that names no cap
-abbrev pub noArea : ℕ
-noArea = 255
 
 -- ---- In words.
 
@@ -38,9 +35,9 @@ abbrev pub WhoseInRange : Whose → Type 0
 WhoseInRange (Unsaid charges) = Unit {0}
 WhoseInRange (Of party) = (party .adults ≤ mostCarried) × ((party .children ≤ mostCarried) × (party .bicycles ≤ mostCarried))
 
--- the cap's area is 255 and its class 0 exactly where nothing was taken off; where something was, it is the area of a cap and its class 1 or 2
+-- no cap is named exactly where nothing was taken off; where something was, it is the area of a cap and its class 1 or 2
 pub record CutInRange (cut : Cut) : Type 0 where
-  pub unnamed : cut .reduction .0 ≡ 0 → (cut .area ≡ noArea) × (cut .class ≡ 0)
+  pub unnamed : cut .reduction .0 ≡ 0 → (cut .area ≡ noName .area) × (cut .class ≡ noName .class)
   pub named : (cut .reduction .0 ≡ 0 → ⊥) → (cut .area ≤ lastArea) × ((cut .class ≡ 1) ⊎ (cut .class ≡ 2))
 
 -- a charge, or charge plus reduction, is a price
@@ -64,7 +61,7 @@ whoseRight (Of party) = leb (party .adults) mostCarried && leb (party .children)
 
 abbrev pub cutRight : Cut → Bool
 cutRight cut =
-    cond (eqb (cut .reduction .0) 0) (eqb (cut .area) noArea && eqb (cut .class) 0)
+    cond (eqb (cut .reduction .0) 0) (eqb (cut .area) (noName .area) && eqb (cut .class) (noName .class))
     (leb (cut .area) lastArea && (eqb (cut .class) 1 || eqb (cut .class) 2))
 
 abbrev pub amountRight : Amount → Bool

@@ -6,8 +6,8 @@ use mathlib.Core.Bool.{cond, _&&_}
 use lib.Dec.{leb, eqb}
 use Rattle.wire.specs.Number.{getLe}
 use Rattle.wire.specs.Frame.{broken}
+use Rattle.caps.specs.declared.Cut.{Cut}
 use Rattle.trip.specs.declared.Party.{Party}
-use Rattle.book.specs.declared.Cut.{Cut}
 use Rattle.statement.specs.Record.{chargeSize, longWith, mostCharges, personsOf, countOf, chargeKind}
 use Rattle.statement.specs.Kind4.{chargesKind, chargesLong}
 use Rattle.statement.specs.Reading.{

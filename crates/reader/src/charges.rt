@@ -1,12 +1,13 @@
 // Whose a record's charges are, by its kind and length, and each of the charges.
 use crate::Amount;
 use crate::Whose;
-use book::Cut;
-use book::MOST_CHARGES;
-use fare::prices::MOST_PRICE;
+use caps::Cut;
+use caps::NO_AREA;
+use caps::NO_CLASS;
 use statement::CHARGE;
 use statement::HEAD;
 use statement::KIND;
+use statement::MOST_CHARGES;
 use statement::reading::adults_at;
 use statement::reading::bicycles_at;
 use statement::reading::cap_area_at;
@@ -17,6 +18,7 @@ use statement::reading::reduction_at;
 use statement::record_size;
 use trip::Party;
 use units::Cents;
+use units::MOST_PRICE;
 use wire::four_at;
 ghost use mathlib.Core.Path.{_≡_};
 ghost use Prim.Native.Nat.{_+_, _≤_, _<_};
@@ -37,10 +39,8 @@ const BARE_HEAD: usize = 13;
 
 const MOST_CARRIED: u8 = 10;
 
-// The last area's number, and what stands for none.
+// The last area's number.
 pub const LAST_AREA: u8 = 31;
-
-pub const NO_AREA: u8 = 255;
 
 // Whose the charges are; or another kind, or a length that fits no party.
 pub enum Fit {
@@ -122,7 +122,7 @@ fn bare(charge: Cents) -> Amount
         cut: Cut {
             reduction: Cents(0),
             area: NO_AREA,
-            class: 0,
+            class: NO_CLASS,
         },
     }
 }
@@ -181,7 +181,7 @@ fn cut_right(cut: Cut) -> bool
     ensures { λ r. ⌜ r ≡ cutRight cut ⌝ }
 {
     if cut.reduction.0 == 0 {
-        (cut.area == NO_AREA) & (cut.class == 0)
+        (cut.area == NO_AREA) & (cut.class == NO_CLASS)
     } else {
         (cut.area <= LAST_AREA) & ((cut.class == 1) | (cut.class == 2))
     }

@@ -87,13 +87,11 @@ fn put_ride(fields: &mut [u8], head: Head)
 // One charge and its cut at a place. The answer is the place behind it.
 fn put_amount(fields: &mut [u8], place: usize, amount: Amount) -> usize
     requires { ⌜ place + personSize ≤ length (now fields) ⌝ }
-    ensures { λ r. ⌜ (r ≡ place + personSize) × (now (fields .exit) ≡ sets (now (fields .entry)) place (personBytes (amount .charge .0) (amount .cut))) ⌝ }
+    ensures { λ r. ⌜ Wrote (personBytes (amount .charge .0) (amount .cut)) (now (fields .entry)) place (now (fields .exit)) r ⌝ }
 {
     let charge = amount.charge;
     let cut = amount.cut;
-    let reduction = cut.reduction;
-    let name = cut.area as u16 + 256 * cut.class as u16;
-    write_person(fields, place, charge.0, reduction.0, name)
+    write_person(fields, place, charge, cut)
 }
 
 // One charge behind another, from a place on. The answer is the place behind the last.
@@ -105,7 +103,8 @@ fn put_amounts(
     whose: Whose,
     count: usize,
 ) -> usize
-    requires { ⌜ ReadableAt (now statement) at whose × ((count ≤ chargesOf whose) × ((chargesOf whose ≤ 31) × (place + personSize * count ≤ length (now fields)))) ⌝ }
+    requires { ⌜ ReadableAt (now statement) at whose × ((count ≤ chargesOf whose) × ((chargesOf whose ≤ 31)
+        × (place + personSize * count ≤ length (now fields)))) ⌝ }
     ensures { λ r. ⌜ Wrote (amountBytes (fieldsFor (now (statement .entry)) at whose) count) (now (fields .entry)) place (now (fields .exit)) r ⌝ }
 {
     let mut next = place;

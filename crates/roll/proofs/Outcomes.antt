@@ -6,17 +6,18 @@ use native.Mathlib.Omega.{arith}
 use mathlib.Core.Path.{_≡_, sym, ap, subst, _∙_}
 use mathlib.Core.List.{List, [], _∷_, _++_}
 use borrow.Author.Tests.{lt-ltb, le-ltb}
-use lib.ListN.{length, length-append}
+use lib.ListN.{length}
 use Rattle.tariff.specs.declared.Counts.{Counts}
-use Rattle.statement.specs.Record.{Part, largestStatement, recordOf, statementOf, Recordable}
+use Rattle.statement.specs.Record.{Part, largestStatement, statementOf, Recordable}
 use Rattle.statement.specs.Reading.{sizeIn}
 use Rattle.statement.specs.Contracts.{StandsAt, Recordables, none, more}
-use Rattle.statement.proofs.Charges.{length-record, one-part}
+use Rattle.statement.proofs.Charges.{length-record, one-part, length-two}
 use Rattle.statement.proofs.Records.{opening-is, area-is, km-is, minutes-is, cents-is, size-is, record-at, first-stands, second-stands}
 use Rattle.settle.specs.declared.Answer.{Answer}
 use Rattle.settle.specs.declared.Answer.the-variants as answer
 use Rattle.settle.specs.Outcome.{Outcome, refused, accepted, settledUnder, settled, partsIn, bookAfter}
-use Rattle.settle.specs.Contracts.{Ready, Told, ToldSound, NextSettled}
+use Rattle.deciding.specs.Contracts.{Ready}
+use Rattle.settle.specs.Contracts.{Told, ToldSound, NextSettled}
 use Rattle.settle.proofs.Parts.{OneOrTwo, alone, both, Accepted, no-size, under-accepted, settled-accepted}
 use Rattle.settle.proofs.Ways.{faultless-way}
 use Rattle.roll.specs.declared.Line.{Line}
@@ -57,11 +58,6 @@ one-says new part rest ok =
       readable = record { first = record-at stands ok; second = λ on. absurd (omega arith) };
       line = rw (le-ltb (sizeIn statement 0) (length (statementOf (part ∷ []))) over, entry-is stands ok);
     }
-
--- two records are as long as both
-length-two : (one other : Part) → length (statementOf (one ∷ other ∷ [])) ≡ length (recordOf one) + length (recordOf other)
-unfolding statementOf
-length-two one other = length-append (recordOf one) (statementOf (other ∷ [])) ∙ ap (λ (s : List ℕ). length (recordOf one) + length s) (one-part other)
 
 -- Behind the first of two records the second begins.
 two-says :

@@ -15,7 +15,7 @@ use Rattle.wire.specs.declared.Frame.{Frame}
 use Rattle.wire.specs.declared.Frame.the-variants as frame
 use Rattle.wire.proofs.Frames.{whole}
 use Rattle.wire.proofs.Tests.{both-left, both-right, one-of, told}
-use Rattle.book.specs.Sound.{sound}
+use Rattle.ledger.specs.Sound.{sound}
 use Rattle.settle.specs.Outcome.{bookAfter}
 use Rattle.roll.specs.declared.Line.{Line}
 use Rattle.roll.specs.declared.Step.{Step}

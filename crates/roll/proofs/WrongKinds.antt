@@ -16,12 +16,13 @@ use Rattle.tariff.specs.Areas.{Read}
 use Rattle.trip.specs.Record.{tripKind}
 use Rattle.trip.specs.Conditions.{other-kind, no-record}
 use Rattle.trip.proofs.Shapes.{five}
-use Rattle.book.specs.Sound.{sound}
+use Rattle.ledger.specs.Sound.{sound}
 use Rattle.statement.specs.Record.{largestStatement}
-use Rattle.settle.specs.Refusals.{rows}
+use Rattle.deciding.specs.Refusals.{rows}
 use Rattle.settle.specs.Outcome.{refused}
-use Rattle.settle.proofs.Rows.{skip, stop}
-use Rattle.settle.proofs.Ways.{refused-first, refused-way}
+use Rattle.deciding.proofs.Rows.{skip, stop}
+use Rattle.deciding.proofs.Decisions.{refused-first}
+use Rattle.settle.proofs.Ways.{refused-way}
 use Rattle.roll.specs.declared.Line.the-variants.{Refused}
 use Rattle.roll.specs.declared.Step.the-variants.{Record}
 use Rattle.roll.specs.Lines.{lineOf}

@@ -5,8 +5,8 @@ use mathlib.Core.List.{List}
 use mathlib.Core.Bool.{Bool, true, cond}
 use lib.ListN.{length}
 use lib.Dec.{ltb}
-use Rattle.book.specs.Words.{bookSize, freshBook}
-use Rattle.book.specs.Sound.{sound}
+use Rattle.ledger.specs.Words.{bookSize, freshBook}
+use Rattle.ledger.specs.Sound.{sound}
 use Rattle.statement.specs.Record.{mostParts, largestStatement}
 use Rattle.statement.specs.Reading.{openingIn, areaIn, kmIn, minutesIn, sizeIn, centsIn}
 use Rattle.statement.specs.Contracts.{RecordAt, mostCents}

@@ -1,6 +1,6 @@
 // A roll of trips, settled one record after another on one book, piece by piece: whoever reads the roll hands over what has come so far,
 // and is told what stands at its start and how many bytes that took.
-use book::words::SIZE;
+use ledger::words::SIZE;
 use settle::Answer;
 use settle::settle_next;
 use statement::LARGEST_STATEMENT;
@@ -16,7 +16,7 @@ use wire::frame_at;
 use wire::two_at;
 ghost use mathlib.Core.Path.{_≡_};
 ghost use Rattle.statement.specs.Contracts.{RecordAt};
-ghost use Rattle.settle.specs.Contracts.{Ready};
+ghost use Rattle.deciding.specs.Contracts.{Ready};
 ghost use Rattle.roll.specs.Pieces.{unfinished};
 ghost use Rattle.roll.specs.Contracts.{Fresh, Room, EntryIn, Readable, LineIn, SettledLine, Stepped};
 

@@ -1,7 +1,7 @@
-pub mod Rides
 pub mod Ways
 pub mod Parts
 pub mod Clear
-pub mod Rows
+pub mod Legs
+pub mod Turns
 pub mod Postings
-pub mod Plans
+pub mod Answers

@@ -1,12 +1,11 @@
 -- What an accepted trip comes to: one part, or the two that it is broken into; and the records of these parts can be read where they were
 -- written, one behind the other.
 -- Assumes nothing.
-use Prim.Native.Nat.{ℕ, _+_}
+use Prim.Native.Nat.{ℕ}
 use native.Mathlib.Omega.{arith}
-use mathlib.Core.Path.{_≡_, refl, sym, ap, subst, _∙_}
-use mathlib.Core.List.{List, [], _∷_, _++_, append-assoc}
+use mathlib.Core.Path.{_≡_, refl, sym, subst, _∙_}
+use mathlib.Core.List.{List, [], _∷_}
 use lib.ListN.{length, drop}
-use lib.Seq.{drop-drop, drop-at}
 use Rattle.tariff.specs.declared.Counts.{Counts}
 use Rattle.tariff.specs.declared.Reading.{Reading}
 use Rattle.tariff.specs.declared.Reading.the-variants.{Fault, Faultless}
@@ -18,26 +17,16 @@ use Rattle.fare.specs.declared.Breaking.the-variants.{Unbroken, At}
 use Rattle.fare.specs.Rides.{rideOf}
 use Rattle.fare.specs.Parts.{breakOf, firstPart, secondPart, ridesOf}
 use Rattle.fare.proofs.PartLaws.{one-ride, two-rides}
-use Rattle.book.specs.declared.Window.{Window}
-use Rattle.book.specs.Posting.{posted}
-use Rattle.statement.specs.Record.{Part, recordOf, statementOf}
-use Rattle.statement.specs.Contracts.{StandsAt, Recordables}
+use Rattle.ledger.specs.declared.Window.{Window}
+use Rattle.charging.specs.After.{posted}
+use Rattle.statement.specs.Record.{Part, statementOf}
+use Rattle.statement.specs.Contracts.{StandFrom, Recordables}
+use Rattle.statement.proofs.Records.{stand-from}
 use Rattle.settle.specs.declared.Answer.the-variants as answer
-use Rattle.settle.specs.declared.decide.Decision.{Decision}
-use Rattle.settle.specs.declared.decide.Decision.the-variants.{Refused, Clear}
-use Rattle.settle.specs.Outcome.{
-  Outcome,
-  refused,
-  accepted,
-  partOf,
-  oneMore,
-  partsOf,
-  postedAll,
-  decidedUnder,
-  acceptedTrip,
-  settledUnder,
-  settled,
-}
+use Rattle.deciding.specs.declared.decide.Decision.{Decision}
+use Rattle.deciding.specs.declared.decide.Decision.the-variants.{Refused, Clear}
+use Rattle.deciding.specs.Deciding.{decidedUnder}
+use Rattle.settle.specs.Outcome.{Outcome, refused, accepted, partOf, oneMore, partsOf, postedAll, acceptedTrip, settledUnder, settled}
 use Rattle.settle.specs.Contracts.{Told}
 use Rattle.settle.proofs.Ways.{refused-under, accepted-under, fault-way, faultless-way}
 
@@ -118,24 +107,6 @@ settled-few tariff book bytes room new parts e = go (readTariff tariff) refl
     go (Fault number at) is = none-refused (sym (fault-way tariff book bytes room number at is) ∙ e)
     go (Faultless counts) is =
         under-few tariff counts book bytes room new parts (sym (faultless-way tariff book bytes room counts is) ∙ e)
-
--- ---- Records one after another.
-
--- the records of some parts stand one behind the other from a place of a statement on
-pub data StandFrom (statement : List ℕ) : List Part → ℕ → Type 0 where
-  over : {place : ℕ} → StandFrom statement [] place
-  then : {part : Part} {parts : List Part} {place : ℕ} → StandsAt part statement place → StandFrom statement parts (place + length (recordOf part))
-      → StandFrom statement (part ∷ parts) place
-
-stand-from : (parts : List Part) (statement rest : List ℕ) (place : ℕ) → drop place statement ≡ statementOf parts ++ rest → StandFrom statement parts place
-unfolding statementOf
-stand-from [] statement rest place is = over
-stand-from (part ∷ parts) statement rest place is =
-    let apart : drop place statement ≡ recordOf part ++ (statementOf parts ++ rest) = is ∙ append-assoc (recordOf part) (statementOf parts) rest in
-    then (record { rest = statementOf parts ++ rest; is = apart })
-    (stand-from parts statement rest (place + length (recordOf part))
-    (sym (drop-drop (length (recordOf part)) place statement) ∙ ap (drop (length (recordOf part))) apart
-    ∙ drop-at (recordOf part) (statementOf parts ++ rest) (length (recordOf part)) refl))
 
 -- ---- What a size tells: the outcome's parts, one or two, whose records the statement starts with, and their bytes.
 

@@ -7,7 +7,7 @@ use native.Mathlib.Omega.{arith}
 use mathlib.Core.Path.{_≡_, refl, sym, ap, _∙_}
 use mathlib.Core.Logic.{_↔_, _⊎_, inl, inr, ⊎-elim}
 use mathlib.Core.Bool.{Bool, true, false, cond, not}
-use mathlib.Core.List.{List}
+use mathlib.Core.List.{List, [], _∷_}
 use borrow.Author.Tests.{eq-eqb, eqb-true, le-ltb, ltb-true}
 use lib.ListN.{length, getD}
 use lib.Seq.{ext-getD}
@@ -24,22 +24,24 @@ use Rattle.trip.proofs.Clear.{good-fields}
 use Rattle.fare.specs.declared.Ride.{Ride}
 use Rattle.fare.specs.declared.Breaking.{Breaking}
 use Rattle.fare.specs.Parts.{ridesOf}
-use Rattle.book.specs.declared.Window.{Window}
-use Rattle.book.specs.Sound.{sound}
-use Rattle.book.proofs.SoundLaws.{sound-has}
+use Rattle.ledger.specs.declared.Window.{Window}
+use Rattle.ledger.specs.Sound.{sound}
+use Rattle.ledger.proofs.SoundLaws.{sound-has}
 use Rattle.statement.specs.Record.{largestStatement, statementOf, statementSize}
 use Rattle.settle.specs.declared.Answer.the-variants as answer
-use Rattle.settle.specs.declared.decide.Decision.the-variants.{Refused, Clear}
-use Rattle.settle.specs.declared.refusals.Refusal.{Refusal}
-use Rattle.settle.specs.declared.refusals.Refusal.the-variants.{UnsoundBook, NoRoom, OtherRecord}
-use Rattle.settle.specs.Refusals.{refusal, row, rows, Found, nothing, found, firstOf}
-use Rattle.settle.specs.declared.plan.Rides.{Rides}
-use Rattle.settle.specs.Outcome.{decidedUnder, postedAll, tripParts, tripPosted, bookWith, quoteBytes}
+use Rattle.deciding.specs.declared.decide.Decision.the-variants.{Refused, Clear}
+use Rattle.deciding.specs.declared.refusals.Refusal.{Refusal}
+use Rattle.deciding.specs.declared.refusals.Refusal.the-variants.{UnsoundBook, NoRoom, OtherRecord}
+use Rattle.deciding.specs.Refusals.{refusal, row, rows, Verdict, nothing, found, firstOf}
+use Rattle.deciding.specs.Deciding.{decidedUnder}
+use Rattle.settle.specs.Outcome.{tripParts, tripPosted, bookWith, quoteBytes}
 use Rattle.settle.specs.Posting.{sameBytes, presentQuote, postingRows, Posting, unposted, renewed, postedUnder, postingOf}
-use Rattle.settle.specs.Contracts.{listed, AllClear, PostingTold, clearPosting}
-use Rattle.settle.proofs.Rows.{skip, stop, end, earlierRows, earlier-decides, last-decides}
-use Rattle.settle.proofs.Rides.{rides-most}
-use Rattle.settle.proofs.Ways.{refused-found, clear-found, no-row, priced-under}
+use Rattle.deciding.specs.Contracts.{AllClear}
+use Rattle.settle.specs.Contracts.{PostingTold, clearPosting}
+use Rattle.deciding.proofs.Rows.{skip, stop, end, has, distinct, inRange, earlierRows, earlier-decides, later-decides}
+use Rattle.deciding.proofs.Rides.{rides-most}
+use Rattle.deciding.proofs.Decisions.{refused-found, clear-found, no-row}
+use Rattle.settle.proofs.Ways.{priced-under}
 use Rattle.settle.proofs.Clear.{parts-right}
 
 -- ---- The same bytes.
@@ -70,13 +72,13 @@ module _ (tariff : List ℕ) (counts : Counts) (book trip : List ℕ) where
   abbrev rides : List Ride
   rides = ridesOf tariff counts trip (tripOf trip)
 
-  abbrev earlier : Found
+  abbrev earlier : Verdict
   earlier = firstOf (earlierRows tariff counts book trip)
 
   -- where none of 4 to 11 holds, and there is room, no row of settling does
   clear-with-room : (room : ℕ) → earlier ≡ nothing → statementSize rides ≤ room → firstOf (rows tariff counts book trip room) ≡ nothing
   unfolding rows
-  clear-with-room room e fits = last-decides (earlierRows tariff counts book trip) _ e ∙ skip _ _ (le-ltb room (statementSize rides) fits) ∙ end
+  clear-with-room room e fits = later-decides (earlierRows tariff counts book trip) _ e ∙ skip _ _ (le-ltb room (statementSize rides) fits) ∙ end
 
   -- such a trip's records take at most the bytes of the largest statement
   few-bytes : earlier ≡ nothing → statementSize rides ≤ largestStatement
@@ -96,15 +98,15 @@ module _ (tariff : List ℕ) (counts : Counts) (book trip : List ℕ) where
       last-one true is e′ = (cc, ltb-true room (statementSize rides) is)
       last-one false is e′ = absurd (let z : _≡_ {A = ℕ} 0 1 = cc in omega arith)
 
-      go : (f : Found) → earlier ≡ f → (earlier ≡ found why) ⊎ ((earlier ≡ nothing) × ((why ≡ NoRoom) × (room < statementSize rides)))
+      go : (f : Verdict) → earlier ≡ f → (earlier ≡ found why) ⊎ ((earlier ≡ nothing) × ((why ≡ NoRoom) × (room < statementSize rides)))
       go (found other) is =
-          let same : other ≡ why = cc (earlier-decides (earlierRows tariff counts book trip) (row NoRoom (ltb room (statementSize rides))) is) in
+          let same : other ≡ why = cc (earlier-decides (earlierRows tariff counts book trip) (row NoRoom (ltb room (statementSize rides)) ∷ []) is) in
           inl (is ∙ ap found same)
       go nothing is =
           inr (
             is,
             last-one (ltb room (statementSize rides)) refl
-                (sym (last-decides (earlierRows tariff counts book trip) (row NoRoom (ltb room (statementSize rides))) is) ∙ e),
+                (sym (later-decides (earlierRows tariff counts book trip) (row NoRoom (ltb room (statementSize rides)) ∷ []) is) ∙ e),
           )
 
   -- with room for the largest statement it is one of 4 to 11
@@ -120,15 +122,31 @@ module _ (tariff : List ℕ) (counts : Counts) (book trip : List ℕ) where
   unfolding rows
   none-earlier room e = go earlier refl
     where
-      go : (f : Found) → earlier ≡ f → earlier ≡ nothing
+      go : (f : Verdict) → earlier ≡ f → earlier ≡ nothing
       go nothing is = is
       go (found why) is =
           absurd
-          (let z : _≡_ {A = ℕ} 0 1 = cc (earlier-decides (earlierRows tariff counts book trip) (row NoRoom (ltb room (statementSize rides))) is) in
+          (let z : _≡_ {A = ℕ} 0 1 = cc (earlier-decides (earlierRows tariff counts book trip) (row NoRoom (ltb room (statementSize rides)) ∷ []) is) in
           omega arith)
 
   pub none-then : earlier ≡ nothing → firstOf (rows tariff counts book trip largestStatement) ≡ nothing
   none-then e = clear-with-room largestStatement e (few-bytes e)
+
+-- ---- The table of a posting.
+
+module _ (tariff : List ℕ) (counts : Counts) (book trip offered : List ℕ) where
+  pub posting-distinct : distinct (postingRows tariff counts book trip offered) ≡ true
+  unfolding postingRows distinct has
+  posting-distinct = refl
+
+  pub posting-range : inRange (refusal OtherRecord) (postingRows tariff counts book trip offered) ≡ true
+  unfolding postingRows inRange
+  posting-range = refl
+
+  -- 12 does not stand in it
+  pub no-room-row : has refusal (refusal NoRoom) (postingRows tariff counts book trip offered) ≡ false
+  unfolding postingRows has
+  no-room-row = refl
 
 -- ---- What a posting comes to.
 
@@ -153,7 +171,7 @@ module _ (tariff : List ℕ) (counts : Counts) (book trip offered : List ℕ) wh
       ≡ cond (sameBytes (presentQuote tariff counts book trip) offered) nothing (found OtherRecord)
   unfolding postingRows firstOf
   posting-last e =
-      last-decides (earlierRows tariff counts book trip) (row OtherRecord (not (sameBytes (presentQuote tariff counts book trip) offered))) e
+      later-decides (earlierRows tariff counts book trip) (row OtherRecord (not (sameBytes (presentQuote tariff counts book trip) offered)) ∷ []) e
       ∙ turned (sameBytes (presentQuote tariff counts book trip) offered)
     where
       turned : (t : Bool) → cond (not t) (found OtherRecord) nothing ≡ cond t nothing (found OtherRecord)
@@ -212,12 +230,10 @@ module _ (tariff : List ℕ) (counts : Counts) (book bytes : List ℕ) (trip : T
   other-told e = rw e (record { answer = refl; fits = omega arith; book-is = refl })
 
   pub posted-told :
-      sameBytes (statementOf (tripParts tariff counts book bytes trip window)) offered ≡ true
-      → (rides : Rides) → listed rides ≡ ridesOf tariff counts bytes trip
-      → {book′ : List ℕ} → book′ ≡ postedAll tariff counts book window (trip .checkout .0) (listed rides)
+      sameBytes (statementOf (tripParts tariff counts book bytes trip window)) offered ≡ true → {book′ : List ℕ}
+      → book′ ≡ tripPosted tariff counts book bytes trip window
       → PostingTold (clearPosting tariff counts book bytes trip window offered) book book′ (answer.Written (length book′))
-  posted-told e rides is posted-are =
-      let book-is = rw is at posted-are in
+  posted-told e book-is =
       let sound-again = parts-right tariff counts book bytes trip window largestStatement clear .1 in
       let size = sound-has (tripPosted tariff counts book bytes trip window) (counts .areas) sound-again .size in
       rw (e, book-is) (record { answer = refl; fits = omega (arith, size); book-is = refl })

@@ -1,37 +1,25 @@
--- From the tables to the decision, the quote, the outcome and the posting, and back; and what each leaves behind.
+-- From what is decided to the quote and the outcome; and what a refusal leaves behind.
 -- Assumes nothing.
-use Prim.Native.Nat.{ℕ, _+_, _^_, _≤_, _<_}
-use native.Mathlib.Omega.{arith}
+use Prim.Native.Nat.{ℕ, _^_, _<_}
 use mathlib.Core.Path.{_≡_, refl, ap, _∙_}
-use mathlib.Core.Bool.{true, false}
+use mathlib.Core.Bool.{false}
 use mathlib.Core.List.{List}
-use borrow.Author.Tests.{ltb-false, not-false}
-use lib.ListN.{length}
 use Rattle.tariff.specs.declared.Counts.{Counts}
 use Rattle.tariff.specs.declared.Reading.the-variants.{Fault}
 use Rattle.tariff.specs.Scan.{readTariff}
 use Rattle.tariff.specs.Areas.{Read}
-use Rattle.units.specs.declared.Minutes.{Minutes}
 use Rattle.trip.specs.declared.Trip.{Trip}
-use Rattle.trip.specs.declared.Party.{Party}
-use Rattle.trip.specs.Record.{classAt, levelAt, partyAt, countAt}
-use Rattle.trip.specs.Moments.{checkinOf, checkoutOf}
-use Rattle.trip.specs.Trips.{isTrip, stampsRight, inOrder, isMistap, tripOf}
-use Rattle.trip.specs.Contracts.{GoodTrip}
 use Rattle.fare.specs.declared.Breaking.{Breaking}
-use Rattle.fare.specs.Parts.{breakOf, ridesOf}
-use Rattle.fare.specs.Towns.{townRefuses}
-use Rattle.book.specs.declared.Window.{Window}
-use Rattle.book.specs.Sound.{sound}
-use Rattle.book.specs.Windows.{tooEarly, windowOf}
-use Rattle.statement.specs.Record.{statementSize}
+use Rattle.ledger.specs.declared.Window.{Window}
+use Rattle.ledger.specs.Sound.{sound}
 use Rattle.statement.specs.Contracts.{none}
 use Rattle.settle.specs.declared.Answer.the-variants as answer
-use Rattle.settle.specs.declared.decide.Decision.{Decision}
-use Rattle.settle.specs.declared.decide.Decision.the-variants.{Refused, Clear}
-use Rattle.settle.specs.declared.refusals.Refusal.{Refusal}
-use Rattle.settle.specs.declared.refusals.Refusal.the-variants as why
-use Rattle.settle.specs.Refusals.{refusal, lastRefusal, Numbered, rows, Found, nothing, found, firstOf, testOf}
+use Rattle.deciding.specs.declared.decide.Decision.{Decision}
+use Rattle.deciding.specs.declared.decide.Decision.the-variants.{Refused, Clear}
+use Rattle.deciding.specs.declared.refusals.Refusal.{Refusal}
+use Rattle.deciding.specs.declared.refusals.Refusal.the-variants as why
+use Rattle.deciding.specs.Refusals.{refusal, rows, nothing}
+use Rattle.deciding.specs.Deciding.{decidedUnder}
 use Rattle.settle.specs.Outcome.{
   Quote,
   unquoted,
@@ -39,7 +27,6 @@ use Rattle.settle.specs.Outcome.{
   Outcome,
   refused,
   accepted,
-  decidedUnder,
   tripParts,
   bookWith,
   acceptedTrip,
@@ -48,85 +35,9 @@ use Rattle.settle.specs.Outcome.{
   settledUnder,
   settled,
 }
-use Rattle.settle.specs.Contracts.{AllClear, Told, QuoteTold, Ready}
-use Rattle.settle.proofs.Rows.{stop, none-holds, first-range, rows-range}
-
--- ---- The decision.
-
-module _ (tariff : List ℕ) (counts : Counts) (book trip : List ℕ) (room : ℕ) where
-  abbrev found-first : Found
-  found-first = firstOf (rows tariff counts book trip room)
-
-  abbrev window : Window
-  window = windowOf book (checkinOf trip) (checkoutOf trip)
-
-  abbrev breaking : Breaking
-  breaking = breakOf tariff counts trip (countAt trip 0)
-
-  -- the first row that holds is refused; where none does, the decision is clear
-  pub refused-first : {why : Refusal} → found-first ≡ found why → decidedUnder tariff counts book trip room ≡ Refused why
-  unfolding decidedUnder
-  refused-first e = rw (e, decidedUnder)
-
-  pub clear-first : found-first ≡ nothing → decidedUnder tariff counts book trip room ≡ Clear (tripOf trip) window breaking
-  unfolding decidedUnder
-  clear-first e = rw (e, decidedUnder)
-
-  pub clear-with :
-      {from to : Minutes} {class level : ℕ} {party : Party} {stops : ℕ} {here : Window} {broken : Breaking} → found-first ≡ nothing → checkinOf trip ≡ from .0
-      → checkoutOf trip ≡ to .0 → class ≡ classAt trip 0 → level ≡ levelAt trip 0 → party ≡ partyAt trip 0 → countAt trip 0 ≡ stops
-      → window ≡ here → breaking ≡ broken
-      → Clear (record { checkin = from; checkout = to; class = class; level = level; party = party; stops = stops }) here broken
-      ≡ decidedUnder tariff counts book trip room
-  clear-with no-one from to class level party stops here broken =
-      rw (class, level, party, ← stops, ← here, ← broken, clear-first no-one, from, to)
-
-  -- and only then
-  pub refused-found : {why : Refusal} → decidedUnder tariff counts book trip room ≡ Refused why → found-first ≡ found why
-  refused-found {why} e = go found-first refl
-    where
-      go : (f : Found) → found-first ≡ f → found-first ≡ found why
-      go nothing is = absurd (let z : _≡_ {A = ℕ} 0 1 = cc (clear-first is) in omega arith)
-      go (found other) is = let same : other ≡ why = cc (refused-first is) in is ∙ ap found same
-
-  pub clear-found :
-      {fields : Trip} {here : Window} {broken : Breaking} → decidedUnder tariff counts book trip room ≡ Clear fields here broken
-      → (found-first ≡ nothing) × ((fields ≡ tripOf trip) × ((here ≡ window) × (broken ≡ breaking)))
-  clear-found {fields} {here} {broken} e = go found-first refl
-    where
-      go : (f : Found) → found-first ≡ f → (found-first ≡ nothing) × ((fields ≡ tripOf trip) × ((here ≡ window) × (broken ≡ breaking)))
-      go nothing is = (is, (cc (clear-first is), (cc (clear-first is), cc (clear-first is))))
-      go (found why) is = absurd (let z : _≡_ {A = ℕ} 0 1 = cc (refused-first is) in omega arith)
-
-  -- What it says that no row holds.
-  pub record NoneHolds : Type 0 where
-    pub sound-book : sound book (counts .areas) ≡ true
-    pub good : GoodTrip trip (counts .stops)
-    pub class-there : townRefuses tariff counts trip (tripOf trip) ≡ false
-    pub no-mistap : isMistap trip (countAt trip 0) (checkinOf trip) (checkoutOf trip) ≡ false
-    pub on-time : tooEarly book (checkinOf trip) ≡ false
-    pub few : window .trips + length (ridesOf tariff counts trip (tripOf trip)) ≤ 256
-    pub fits : statementSize (ridesOf tariff counts trip (tripOf trip)) ≤ room
-
-  pub no-row : found-first ≡ nothing → NoneHolds
-  unfolding rows testOf
-  no-row e =
-      let off = none-holds (rows tariff counts book trip room) e in
-      record {
-        sound-book = not-false (sound book (counts .areas)) (off why.UnsoundBook);
-        good = record {
-          whole = not-false (isTrip trip) (off why.NoTrip);
-          party = not-false _ (off why.WrongParty);
-          stops = not-false _ (off why.UnknownStop);
-          stamps = not-false (stampsRight trip) (off why.WrongStamp);
-          order = not-false (inOrder (checkinOf trip) (checkoutOf trip)) (off why.WrongOrder);
-        };
-        class-there = off why.NoFirstClass;
-        no-mistap = off why.Mistap;
-        on-time = off why.TooEarly;
-        few = ltb-false 256 (window .trips + length (ridesOf tariff counts trip (tripOf trip))) (off why.FullWindow);
-        fits = ltb-false room (statementSize (ridesOf tariff counts trip (tripOf trip))) (off why.NoRoom);
-      }
+use Rattle.settle.specs.Contracts.{Told, QuoteTold}
+use Rattle.deciding.proofs.Decisions.{refused-first, clear-found}
+use Rattle.deciding.proofs.Rows.{stop}
 
 -- ---- The quote.
 
@@ -239,31 +150,3 @@ pub refusal-told :
     → Told o book book statement statement (answer.Refused number place)
 refusal-told o book statement number place e near =
     rw e (record { answer = refl; fits = near; recordable = none; book-is = refl; statement-is = refl })
-
--- ---- The answers fit.
-
--- The numbers of the table are 4 to the last row's, and 17.
-pub refusal-range :
-    (tariff : List ℕ) (counts : Counts) (book trip : List ℕ) (room : ℕ) {why : Refusal} → decidedUnder tariff counts book trip room ≡ Refused why
-    → (4 ≤ refusal why) × Numbered lastRefusal (refusal why)
-refusal-range tariff counts book trip room e =
-    first-range lastRefusal (rows tariff counts book trip room) (rows-range tariff counts book trip room) (refused-found tariff counts book trip room e)
-
--- A clear decision is all that writing asks.
-pub all-clear :
-    (tariff : List ℕ) (counts : Counts) (book bytes : List ℕ) (trip : Trip) (window : Window) (breaking : Breaking) (room : ℕ)
-    → Ready tariff counts book → decidedUnder tariff counts book bytes room ≡ Clear trip window breaking
-    → AllClear tariff counts book bytes trip window breaking room
-all-clear tariff counts book bytes trip window breaking room ready e =
-    let (no-one, (trip-is, (window-is, breaking-is))) = clear-found tariff counts book bytes room e in
-    let clear = no-row tariff counts book bytes room no-one in
-    record {
-      ready = ready;
-      good = clear .good;
-      trip-is = trip-is;
-      window-is = rw trip-is window-is;
-      breaking-is = rw trip-is breaking-is;
-      on-time = rw trip-is (clear .on-time);
-      few = rw (window-is, trip-is) (clear .few);
-      fits = rw trip-is (clear .fits);
-    }

@@ -1,5 +1,5 @@
 -- docs/RULES.md, section 14: the one outcome of settling a trip, which is made of its quote: what it would be charged, told and not posted.
--- 1 to 3 are the tariff's; 4 to 12 stand in the table of `Refusals`.
+-- 1 to 3 are the tariff's; 4 to 12 stand in the table of deciding's `Refusals`.
 use Prim.Native.Nat.{ℕ, _+_, _*_, _^_}
 use mathlib.Core.Path.{_≡_}
 use mathlib.Core.List.{List, [], _∷_, _++_}
@@ -9,20 +9,19 @@ use Rattle.tariff.specs.declared.Counts.{Counts}
 use Rattle.tariff.specs.declared.Reading.the-variants.{Fault, Faultless}
 use Rattle.tariff.specs.Scan.{readTariff}
 use Rattle.trip.specs.declared.Trip.{Trip}
-use Rattle.trip.specs.Record.{countAt}
 use Rattle.trip.specs.Moments.{checkinOf, checkoutOf}
 use Rattle.trip.specs.Trips.{tripOf}
 use Rattle.fare.specs.declared.Ride.{Ride}
-use Rattle.fare.specs.Parts.{breakOf, ridesOf}
-use Rattle.book.specs.declared.Window.{Window}
-use Rattle.book.specs.Windows.{windowOf, inWindow}
-use Rattle.book.specs.Charging.{chargesOf}
-use Rattle.book.specs.Cuts.{cutsOf}
-use Rattle.book.specs.Posting.{posted}
+use Rattle.fare.specs.Parts.{ridesOf}
+use Rattle.ledger.specs.declared.Window.{Window}
+use Rattle.ledger.specs.Windows.{windowOf, inWindow}
+use Rattle.charging.specs.Charging.{chargesOf}
+use Rattle.charging.specs.Cuts.{cutsOf}
+use Rattle.charging.specs.After.{posted}
 use Rattle.statement.specs.Record.{Part, statementOf}
-use Rattle.settle.specs.declared.decide.Decision.{Decision}
-use Rattle.settle.specs.declared.decide.Decision.the-variants.{Refused, Clear}
-use Rattle.settle.specs.Refusals.{refusal, rows, firstOf, nothing, found}
+use Rattle.deciding.specs.declared.decide.Decision.the-variants.{Refused, Clear}
+use Rattle.deciding.specs.Refusals.{refusal}
+use Rattle.deciding.specs.Deciding.{decidedUnder}
 
 -- a quote: a refusal with its number and place; or the parts that the trip would be charged in
 pub data Quote : Type 0 where
@@ -33,15 +32,6 @@ pub data Quote : Type 0 where
 pub data Outcome : Type 0 where
   refused : ℕ → ℕ → Outcome
   accepted : List ℕ → List Part → Outcome
-
--- what is decided under a faultless tariff: the first row of the table that holds; or that none does, with the trip's fields, its window and
--- where it is broken
-unfoldable pub decidedUnder : List ℕ → Counts → List ℕ → List ℕ → ℕ → Decision
-decidedUnder tariff counts book trip room =
-    elim (firstOf (rows tariff counts book trip room)) [
-      | found why ↦ Refused why
-      | nothing ↦ Clear (tripOf trip) (windowOf book (checkinOf trip) (checkoutOf trip)) (breakOf tariff counts trip (countAt trip 0))
-    ]
 
 -- ---- What a trip that meets no refusal comes to.
 

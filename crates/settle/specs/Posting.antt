@@ -11,8 +11,8 @@ use Rattle.tariff.specs.declared.Counts.{Counts}
 use Rattle.tariff.specs.declared.Reading.the-variants.{Fault, Faultless}
 use Rattle.tariff.specs.Scan.{readTariff}
 use Rattle.statement.specs.Record.{largestStatement}
-use Rattle.settle.specs.declared.refusals.Refusal.the-variants.{OtherRecord}
-use Rattle.settle.specs.Refusals.{Row, row, rowsTo, refusal, firstOf, nothing, found}
+use Rattle.deciding.specs.declared.refusals.Refusal.the-variants.{OtherRecord}
+use Rattle.deciding.specs.Refusals.{Row, row, rowsTo, refusal, firstOf, nothing, found}
 use Rattle.settle.specs.Outcome.{quotedUnder, quoteBytes, bookWith, refusedAs}
 
 -- as many bytes, and each the same

@@ -1,37 +1,26 @@
 // Settling one trip: the refusals in their order, or its charge records and the new book. And the same in two steps: a quote, which
 // writes only the records, and the posting of that quote, which writes only the book.
 //
-// refusals.rt the refusals from 4 on by their names, with their numbers
-// ready.rt    tariff and book, before any trip
-// decide.rt   what is decided of a trip; only reads
-// plan.rt     with the rides that it is charged as; only reads
-// state.rt    the records of a trip's rides; of the book it only reads
-// post.rt     the rides posted to the book
-// quote.rt    a quote
-// posting.rt  the posting of a quote
+// state.rt    what a trip meets, or its records; of the book it only reads
+// records.rt  the records posted to the book
+// quotes.rt   a quote, and the posting of a quote
 //
 // Decide first, write last: only where all conditions are clear are book and statement written.
-use book::MOST_CHARGES;
-use book::sound::is_sound;
-use plan::Plan;
-use plan::plan_trip;
-use post::post_rides;
-use ready::Readiness;
-use ready::readiness_of;
-use refusals::Refusal;
-use refusals::number;
-use state::state_rides;
+use deciding::ready::Readiness;
+use deciding::ready::readiness_of;
+use deciding::refusals::Refusal;
+use deciding::refusals::number;
+use ledger::sound::is_sound;
+use records::post_records;
+use state::Stated;
+use state::state_trip;
 use tariff::Counts;
 ghost use Rattle.tariff.specs.Areas.{Read};
-ghost use Rattle.settle.specs.Contracts.{Ready, NextSettled, UnderSettled, TripSettled};
+ghost use Rattle.deciding.specs.Contracts.{Ready};
+ghost use Rattle.settle.specs.Contracts.{NextSettled, UnderSettled, TripSettled};
 
-pub mod decide;
-pub mod plan;
-pub mod post;
-pub mod posting;
-pub mod quote;
-pub mod ready;
-pub mod refusals;
+pub mod quotes;
+pub mod records;
 pub mod state;
 
 // What settling, a quote or a posting comes to: a refusal's number and place, or the bytes written.
@@ -41,7 +30,7 @@ pub enum Answer {
 }
 
 // 5 to 12: on a book that is sound, which is left sound. What a roll does for each record, with neither tariff nor book looked through
-// again. The rides of a trip that meets no refusal are stated, then posted.
+// again. A trip that meets no refusal is stated, then its records are posted.
 pub fn settle_next(
     tariff: &[u8],
     counts: Counts,
@@ -50,35 +39,29 @@ pub fn settle_next(
     statement: &mut [u8],
 ) -> Answer
     requires { ⌜ Ready (now tariff) counts (now book) ⌝ }
-    ensures { λ r. ⌜ NextSettled (now (tariff .entry)) counts (now (book .entry)) (now (trip .entry)) (now (statement .entry)) (now (book .exit)) (now (statement .exit)) r ⌝ }
+    ensures { λ r. ⌜ NextSettled (now (tariff .entry)) counts (now (book .entry)) (now (trip .entry)) (now (statement .entry)) (now (book .exit))
+        (now (statement .exit)) r ⌝ }
 {
-    match plan_trip(tariff, counts, book, trip, statement.len()) {
-        Plan::Refuse(why) => Answer::Refused {
+    match state_trip(tariff, counts, book, trip, statement) {
+        Stated::Refused(why) => Answer::Refused {
             number: number(why),
             place: 0,
         },
-        Plan::Charge(window, checkout, rides) => {
-            let mut firsts = [0u32; MOST_CHARGES];
-            let mut seconds = [0u32; MOST_CHARGES];
-            let size = state_rides(
-                tariff,
-                counts,
-                book,
-                window,
-                rides,
-                &mut firsts,
-                &mut seconds,
-                statement,
-            );
-            post_rides(
+        Stated::Records {
+            size,
+            window,
+            checkout,
+            class,
+        } => {
+            post_records(
                 tariff,
                 counts,
                 book,
                 window,
                 checkout,
-                rides,
-                &firsts,
-                &seconds,
+                class,
+                statement,
+                size,
             );
             Answer::Written(size)
         }
@@ -86,8 +69,7 @@ pub fn settle_next(
 }
 
 // 4 to 12: under a tariff that was read and found faultless, on any byte string as a book. For whoever has something else to refuse
-// between the tariff and the book. It does what `settle_next` does and does not call it: a function with one call is made part of its caller's
-// frame, and a second call would cost `settle` its limit of stack.
+// between the tariff and the book.
 pub fn settle_under(
     tariff: &[u8],
     counts: Counts,
@@ -96,7 +78,8 @@ pub fn settle_under(
     statement: &mut [u8],
 ) -> Answer
     requires { ⌜ Read (now tariff) counts ⌝ }
-    ensures { λ r. ⌜ UnderSettled (now (tariff .entry)) counts (now (book .entry)) (now (trip .entry)) (now (statement .entry)) (now (book .exit)) (now (statement .exit)) r ⌝ }
+    ensures { λ r. ⌜ UnderSettled (now (tariff .entry)) counts (now (book .entry)) (now (trip .entry)) (now (statement .entry)) (now (book .exit))
+        (now (statement .exit)) r ⌝ }
 {
     if !is_sound(book, counts.areas as usize) {
         return Answer::Refused {
@@ -104,43 +87,14 @@ pub fn settle_under(
             place: 0,
         };
     }
-    match plan_trip(tariff, counts, book, trip, statement.len()) {
-        Plan::Refuse(why) => Answer::Refused {
-            number: number(why),
-            place: 0,
-        },
-        Plan::Charge(window, checkout, rides) => {
-            let mut firsts = [0u32; MOST_CHARGES];
-            let mut seconds = [0u32; MOST_CHARGES];
-            let size = state_rides(
-                tariff,
-                counts,
-                book,
-                window,
-                rides,
-                &mut firsts,
-                &mut seconds,
-                statement,
-            );
-            post_rides(
-                tariff,
-                counts,
-                book,
-                window,
-                checkout,
-                rides,
-                &firsts,
-                &seconds,
-            );
-            Answer::Written(size)
-        }
-    }
+    settle_next(tariff, counts, book, trip, statement)
 }
 
 // 1 to 12: under any byte string as a tariff. The charge records go to the start of the statement, and the book is brought up to date; a
-// refusal touches neither.
+// refusal touches neither. It does not go through `settle_under`, whose frame would come on top.
 pub fn settle(tariff: &[u8], book: &mut [u8], trip: &[u8], statement: &mut [u8]) -> Answer
-    ensures { λ r. ⌜ TripSettled (now (tariff .entry)) (now (book .entry)) (now (trip .entry)) (now (statement .entry)) (now (book .exit)) (now (statement .exit)) r ⌝ }
+    ensures { λ r. ⌜ TripSettled (now (tariff .entry)) (now (book .entry)) (now (trip .entry)) (now (statement .entry)) (now (book .exit))
+        (now (statement .exit)) r ⌝ }
 {
     match readiness_of(tariff, book) {
         Readiness::Refused { number, place } => Answer::Refused { number, place },

@@ -13,7 +13,7 @@ use lib.Seq.{drop-append-le}
 use Rattle.streams.specs.Runs.{Effect, asks, puts, ends, Prints}
 use Rattle.streams.proofs.Printed.{Still, Tells, Ends}
 use Rattle.streams.proofs.Printed as run
-use Rattle.book.specs.Words.{freshBook}
+use Rattle.ledger.specs.Words.{freshBook}
 use Rattle.roll.specs.declared.Line.{Line}
 use Rattle.roll.specs.declared.Line.the-variants.{Refused}
 use Rattle.roll.specs.declared.Step.{Step}

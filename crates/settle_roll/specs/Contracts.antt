@@ -8,7 +8,7 @@ use Rattle.streams.specs.Runs.{State}
 use Rattle.streams.specs.Flows.{Buffers, InRange, stateOf, Advanced}
 use Rattle.streams.specs.Flows as flow
 use Rattle.tariff.specs.declared.Counts.{Counts}
-use Rattle.settle.specs.Contracts.{Ready}
+use Rattle.deciding.specs.Contracts.{Ready}
 use Rattle.roll.specs.Lines.{mostRecords}
 use Rattle.lines.specs.declared.turns.Tally.{Tally}
 use Rattle.lines.specs.Turns.{records}

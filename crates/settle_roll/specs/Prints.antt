@@ -3,7 +3,7 @@ use Prim.Native.Nat.{ℕ}
 use mathlib.Core.Bool.{true}
 use mathlib.Core.List.{List, []}
 use Rattle.streams.specs.Runs.{Effect, asks, puts, ends, Turns, State}
-use Rattle.book.specs.Words.{freshBook}
+use Rattle.ledger.specs.Words.{freshBook}
 use Rattle.roll.specs.Pieces.{stepOf, bookStep}
 use Rattle.lines.specs.declared.turns.Tally.{Tally}
 use Rattle.lines.specs.Text.{header}

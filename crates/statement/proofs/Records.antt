@@ -6,14 +6,15 @@ use native.Mathlib.Omega.{arith}
 use mathlib.Core.Path.{_≡_, refl, sym, ap, _∙_}
 use mathlib.Core.List.{List, [], _∷_, _++_, append-assoc, append-nil}
 use lib.ListN.{length, getD, take, drop, length-append, length-drop}
-use lib.Seq.{getD-append-add, take-suc, take-all, drop-at}
+use lib.Seq.{getD-append-add, take-suc, take-all, drop-at, drop-drop}
 use Rattle.wire.specs.Number.{getLe, bytesOf}
 use Rattle.wire.proofs.Number.{length-bytes, get-drop, get-front}
+use Rattle.caps.specs.declared.Cut.{Cut}
 use Rattle.trip.specs.declared.Party.{Party}
-use Rattle.book.specs.declared.Cut.{Cut}
 use Rattle.statement.specs.Record.{
   Part,
   headSize,
+  personSize,
   longWith,
   personsOf,
   chargeKind,
@@ -50,11 +51,14 @@ use Rattle.statement.specs.Reading.{
   capClassIn,
   centsUpTo,
   centsIn,
+  centsFrom,
   sumOf,
+  chargedFor,
 }
-use Rattle.statement.specs.Contracts.{StandsAt, RecordAt}
+use Rattle.statement.specs.Contracts.{Recordables, none, more, StandsAt, StandFrom, over, then, RecordAt, RecordsTo, no-more, one-more}
 use Rattle.statement.proofs.Head.{length-head, length-person}
 use Rattle.statement.proofs.Charges.{length-record}
+use Rattle.statement.proofs.Sums.{cents-go-on, cents-end}
 
 -- ---- Bytes one after another.
 
@@ -184,7 +188,7 @@ module _ (part : Part) (statement : List ℕ) (place : ℕ) (stands : StandsAt p
   long-is =
       ap (getLe 2 statement) (sym (add-zero place))
       ∙ read 2 0
-      ∙ rw laid-out (get-first 2 _ _ (omega (arith, ok .adults, ok .children, ok .bicycles)))
+      ∙ rw laid-out (get-first 2 _ _ (omega (arith, ok .ride .adults, ok .ride .children, ok .ride .bicycles)))
 
   pub kind-is : kindIn statement place ≡ chargeKind
   kind-is = read 2 2 ∙ rw laid-out (get-next 2 2 _ _ 0 ∙ get-first 2 chargeKind _ (omega arith))
@@ -194,41 +198,41 @@ module _ (part : Part) (statement : List ℕ) (place : ℕ) (stands : StandsAt p
 
   pub area-is : areaIn statement place ≡ part .ride .area
   area-is =
-      read 1 8 ∙ rw laid-out (get-next 1 2 _ _ 6 ∙ get-next 1 2 _ _ 4 ∙ get-next 1 4 _ _ 0 ∙ get-first 1 (part .ride .area) _ (ok .area))
+      read 1 8 ∙ rw laid-out (get-next 1 2 _ _ 6 ∙ get-next 1 2 _ _ 4 ∙ get-next 1 4 _ _ 0 ∙ get-first 1 (part .ride .area) _ (ok .ride .area))
 
   pub km-is : kmIn statement place ≡ part .ride .km .0
   km-is =
       read 2 9
       ∙ rw laid-out
-      (get-next 2 2 _ _ 7 ∙ get-next 2 2 _ _ 5 ∙ get-next 2 4 _ _ 1 ∙ get-next 2 1 _ _ 0 ∙ get-first 2 (part .ride .km .0) _ (ok .km))
+      (get-next 2 2 _ _ 7 ∙ get-next 2 2 _ _ 5 ∙ get-next 2 4 _ _ 1 ∙ get-next 2 1 _ _ 0 ∙ get-first 2 (part .ride .km .0) _ (ok .ride .km))
 
   pub minutes-is : minutesIn statement place ≡ part .ride .minutes .0
   minutes-is =
       read 2 11
       ∙ rw laid-out
       (get-next 2 2 _ _ 9 ∙ get-next 2 2 _ _ 7 ∙ get-next 2 4 _ _ 3 ∙ get-next 2 1 _ _ 2 ∙ get-next 2 2 _ _ 0
-      ∙ get-first 2 (part .ride .minutes .0) _ (ok .minutes))
+      ∙ get-first 2 (part .ride .minutes .0) _ (ok .ride .minutes))
 
   pub adults-is : adultsIn statement place ≡ party .adults
   adults-is =
       read 1 13
       ∙ rw laid-out
       (get-next 1 2 _ _ 11 ∙ get-next 1 2 _ _ 9 ∙ get-next 1 4 _ _ 5 ∙ get-next 1 1 _ _ 4 ∙ get-next 1 2 _ _ 2 ∙ get-next 1 2 _ _ 0
-      ∙ get-first 1 (party .adults) _ (omega (arith, ok .adults)))
+      ∙ get-first 1 (party .adults) _ (omega (arith, ok .ride .adults)))
 
   pub children-is : childrenIn statement place ≡ party .children
   children-is =
       read 1 14
       ∙ rw laid-out
       (get-next 1 2 _ _ 12 ∙ get-next 1 2 _ _ 10 ∙ get-next 1 4 _ _ 6 ∙ get-next 1 1 _ _ 5 ∙ get-next 1 2 _ _ 3 ∙ get-next 1 2 _ _ 1 ∙ get-next 1 1 _ _ 0
-      ∙ get-first 1 (party .children) _ (omega (arith, ok .children)))
+      ∙ get-first 1 (party .children) _ (omega (arith, ok .ride .children)))
 
   pub bicycles-is : bicyclesIn statement place ≡ party .bicycles
   bicycles-is =
       read 1 15
       ∙ rw laid-out
       (get-next 1 2 _ _ 13 ∙ get-next 1 2 _ _ 11 ∙ get-next 1 4 _ _ 7 ∙ get-next 1 1 _ _ 6 ∙ get-next 1 2 _ _ 4 ∙ get-next 1 2 _ _ 2 ∙ get-next 1 1 _ _ 1
-      ∙ get-next 1 1 _ _ 0 ∙ get-first 1 (party .bicycles) behind (omega (arith, ok .bicycles)))
+      ∙ get-next 1 1 _ _ 0 ∙ get-first 1 (party .bicycles) behind (omega (arith, ok .ride .bicycles)))
 
   pub persons-is : personsIn statement place ≡ persons
   persons-is = rw (adults-is, children-is)
@@ -250,6 +254,12 @@ module _ (part : Part) (statement : List ℕ) (place : ℕ) (stands : StandsAt p
       rw (persons-is, ok .complete .cuts) (omega arith)
       in
       ap (getLe 4 statement) at ∙ behind-head 4 _ ∙ charge-among (part .charges) (part .cuts) (stands .rest) i there (ok .charges i)
+
+  -- Person j's charge stands behind the persons before.
+  pub person-is : (j : ℕ) → j < persons → getLe 4 statement (place + headSize + personSize * j) ≡ getD (part .charges) j 0
+  person-is j there =
+      let at : place + headSize + personSize * j ≡ chargePlace place (personsIn statement place) j = rw persons-is (omega arith) in
+      ap (getLe 4 statement) at ∙ charge-is j (omega (arith, ok .complete .charges))
 
   -- Bicycle k's charge stands behind those of all persons.
   pub bicycle-is : (k : ℕ) → k < party .bicycles → bicycleIn statement place k ≡ getD (part .charges) (persons + k) 0
@@ -301,9 +311,9 @@ record-at {part} {statement} {place} stands ok =
     sym (length-append (recordOf part) (stands .rest)) ∙ ap length (sym (stands .is)) ∙ length-drop place statement
     in
     record {
-      adults = omega (arith, ok .adults);
-      children = omega (arith, ok .children);
-      bicycles = omega (arith, ok .bicycles);
+      adults = omega (arith, ok .ride .adults);
+      children = omega (arith, ok .ride .children);
+      bicycles = omega (arith, ok .ride .bicycles);
       long = omega arith;
       inside = omega arith;
     }
@@ -313,20 +323,61 @@ pub size-is : {part : Part} {statement : List ℕ} {place : ℕ} → StandsAt pa
 size-is {part} {statement} {place} stands ok = omega (arith, long-is part statement place stands ok, length-record part (ok .complete))
 
 -- The first of a statement's parts stands at its start, and the others behind it.
-pub first-stands : (part : Part) (more : List Part) (rest : List ℕ) → StandsAt part (statementOf (part ∷ more) ++ rest) 0
+pub first-stands : (part : Part) (others : List Part) (rest : List ℕ) → StandsAt part (statementOf (part ∷ others) ++ rest) 0
 unfolding statementOf
-first-stands part more rest = record { rest = statementOf more ++ rest; is = append-assoc (recordOf part) (statementOf more) rest }
+first-stands part others rest = record { rest = statementOf others ++ rest; is = append-assoc (recordOf part) (statementOf others) rest }
 
 -- The second stands behind the first one's bytes.
 pub second-stands :
-    (one other : Part) (more : List Part) (rest : List ℕ)
-    → StandsAt other (statementOf (one ∷ other ∷ more) ++ rest) (length (recordOf one))
+    (one other : Part) (others : List Part) (rest : List ℕ)
+    → StandsAt other (statementOf (one ∷ other ∷ others) ++ rest) (length (recordOf one))
 unfolding statementOf
-second-stands one other more rest =
+second-stands one other others rest =
     record {
-      rest = statementOf more ++ rest;
+      rest = statementOf others ++ rest;
       is =
-          ap (drop (length (recordOf one))) (append-assoc (recordOf one) (recordOf other ++ statementOf more) rest)
-          ∙ drop-at (recordOf one) ((recordOf other ++ statementOf more) ++ rest) (length (recordOf one)) refl
-          ∙ append-assoc (recordOf other) (statementOf more) rest;
+          ap (drop (length (recordOf one))) (append-assoc (recordOf one) (recordOf other ++ statementOf others) rest)
+          ∙ drop-at (recordOf one) ((recordOf other ++ statementOf others) ++ rest) (length (recordOf one)) refl
+          ∙ append-assoc (recordOf other) (statementOf others) rest;
     }
+
+-- ---- Records one behind the other.
+
+-- The records that a statement goes on with from a place stand from there on.
+pub stand-from :
+    (parts : List Part) (statement rest : List ℕ) (place : ℕ) → drop place statement ≡ statementOf parts ++ rest → StandFrom statement parts place
+unfolding statementOf
+stand-from [] statement rest place is = over
+stand-from (part ∷ parts) statement rest place is =
+    let apart : drop place statement ≡ recordOf part ++ (statementOf parts ++ rest) = is ∙ append-assoc (recordOf part) (statementOf parts) rest in
+    then (record { rest = statementOf parts ++ rest; is = apart })
+    (stand-from parts statement rest (place + length (recordOf part))
+    (sym (drop-drop (length (recordOf part)) place statement) ∙ ap (drop (length (recordOf part))) apart
+    ∙ drop-at (recordOf part) (statementOf parts ++ rest) (length (recordOf part)) refl))
+
+-- Such records can be read up to their end, and their charges add up to those of the parts.
+module _ (statement : List ℕ) where
+  pub records-to :
+      (most : ℕ) (parts : List Part) {place end : ℕ} → length parts ≤ most → Recordables parts → StandFrom statement parts place
+      → end ≡ place + length (statementOf parts) → RecordsTo statement end most place
+  unfolding statementOf
+  records-to most [] {place} few none over is = no-more (sym (is ∙ add-zero place))
+  records-to zero (part ∷ parts) few (more ok all) (then stands rest) is = absurd (omega (arith, few))
+  records-to (suc most) (part ∷ parts) {place} few (more ok all) (then stands rest) is =
+      let size = size-is stands ok in
+      one-more {most = most} (record-at stands ok)
+      (rw size (records-to most parts (omega arith) all rest (omega (arith, is, length-append (recordOf part) (statementOf parts)))))
+
+  pub cents-over :
+      (most : ℕ) (parts : List Part) {place end : ℕ} → length parts ≤ most → Recordables parts → StandFrom statement parts place
+      → end ≡ place + length (statementOf parts) → centsFrom most statement place end ≡ chargedFor parts
+  unfolding statementOf chargedFor
+  cents-over most [] few none over is = cents-end statement most (omega (arith, is))
+  cents-over zero (part ∷ parts) few (more ok all) (then stands rest) is = absurd (omega (arith, few))
+  cents-over (suc most) (part ∷ parts) {place} {end} few (more ok all) (then stands rest) is =
+      let size = size-is stands ok in
+      let some = length-record part (ok .complete) in
+      let long = length-append (recordOf part) (statementOf parts) in
+      let ends : end ≡ place + length (recordOf part) + length (statementOf parts) = omega (arith, is, long) in
+      cents-go-on statement most (omega (arith, is, long, some))
+      ∙ rw (size, cents-is part statement place stands ok, cents-over most parts (omega arith) all rest ends)

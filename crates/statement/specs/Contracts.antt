@@ -1,12 +1,11 @@
 -- What the functions that write and read a record ask and answer.
-use Prim.Native.Nat.{ℕ, _+_, _*_, _/_, _%_, _^_, _≤_, _<_}
+use Prim.Native.Nat.{ℕ, suc, _+_, _*_, _^_, _≤_, _<_}
 use mathlib.Core.Path.{_≡_}
 use mathlib.Core.List.{List, [], _∷_, _++_}
-use lib.ListN.{length, take, drop}
+use lib.ListN.{length, drop}
 use lib.Seq.{sets}
-use Rattle.fare.specs.declared.Ride.{Ride}
-use Rattle.book.specs.declared.Cut.{Cut}
-use Rattle.statement.specs.Record.{Part, longWith, mostCarried, mostPersons, mostCharges, personsOf, countOf, recordSize, recordOf, Recordable}
+use Rattle.caps.specs.declared.Cut.{Cut}
+use Rattle.statement.specs.Record.{Part, longWith, mostCarried, mostPersons, mostCharges, mostParts, recordOf, Recordable}
 use Rattle.statement.specs.Reading.{
   longIn,
   adultsIn,
@@ -18,38 +17,14 @@ use Rattle.statement.specs.Reading.{
   reductionIn,
   centsUpTo,
   centsIn,
+  centsOver,
 }
 
 -- ---- Writing.
 
--- a cut, and the named cap as one number of two bytes: area + 256 * class
-abbrev pub cutFrom : ℕ → ℕ → Cut
-cutFrom reduction name = record { reduction = record { 0 = reduction }; area = name % 256; class = name / 256 }
-
--- cuts as a list of reductions and one of names
-unfoldable pub cutsFrom : List ℕ → List ℕ → List Cut
-cutsFrom [] names = []
-cutsFrom (reduction ∷ reductions) [] = []
-cutsFrom (reduction ∷ reductions) (name ∷ names) = cutFrom reduction name ∷ cutsFrom reductions names
-
--- the part whose charges and cuts are the first of some amounts, reductions and names, as many as its party has
-abbrev pub partWith : ℕ → Ride → List ℕ → List ℕ → List ℕ → Part
-partWith opening ride amounts reductions names =
-    let persons = personsOf (ride .party) in
-    record {
-      opening = opening;
-      ride = ride;
-      charges = take (countOf (ride .party)) amounts;
-      cuts = cutsFrom (take persons reductions) (take persons names);
-    }
-
--- what writing its record at a place asks: that many of each, room, and fields that their widths hold
-pub record Writable (statement : List ℕ) (place opening : ℕ) (ride : Ride) (amounts reductions names : List ℕ) : Type 0 where
-  pub amounts-there : countOf (ride .party) ≤ length amounts
-  pub reductions-there : personsOf (ride .party) ≤ length reductions
-  pub names-there : personsOf (ride .party) ≤ length names
-  pub room : place + recordSize (ride .party) ≤ length statement
-  pub recordable : Recordable (partWith opening ride amounts reductions names)
+-- a cut of plain numbers
+abbrev pub cutWith : ℕ → ℕ → ℕ → Cut
+cutWith reduction area class = record { reduction = record { 0 = reduction }; area = area; class = class }
 
 -- each of some parts has fields that their widths hold
 pub data Recordables : List Part → Type 0 where
@@ -61,17 +36,18 @@ pub record Wrote (bytes before : List ℕ) (place : ℕ) (after : List ℕ) (r :
   pub next : r ≡ place + length bytes
   pub stored : after ≡ sets before place bytes
 
--- the record of such a part
-abbrev pub RecordWrote : List ℕ → ℕ → ℕ → Ride → List ℕ → List ℕ → List ℕ → List ℕ → ℕ → Type 0
-RecordWrote before place opening ride amounts reductions names after r =
-    Wrote (recordOf (partWith opening ride amounts reductions names)) before place after r
-
 -- ---- Reading.
 
 -- a part's record stands at a place of a statement, whatever is behind it
 pub record StandsAt (part : Part) (statement : List ℕ) (place : ℕ) : Type 0 where
   pub rest : List ℕ
   pub is : drop place statement ≡ recordOf part ++ rest
+
+-- the records of some parts stand one behind the other from a place of a statement on
+pub data StandFrom (statement : List ℕ) : List Part → ℕ → Type 0 where
+  over : {place : ℕ} → StandFrom statement [] place
+  then : {part : Part} {parts : List Part} {place : ℕ} → StandsAt part statement place → StandFrom statement parts (place + length (recordOf part))
+      → StandFrom statement (part ∷ parts) place
 
 -- what reading a record at a place asks: its party is one that a trip can have, its length that of such a party's record, and the statement
 -- goes so far
@@ -81,6 +57,13 @@ pub record RecordAt (statement : List ℕ) (place : ℕ) : Type 0 where
   pub bicycles : bicyclesIn statement place ≤ mostCarried
   pub long : longIn statement place ≡ longWith (personsIn statement place) (bicyclesIn statement place)
   pub inside : place + sizeIn statement place ≤ length statement
+
+-- at most so many of them stand one behind the other from a place of a statement up to an end
+pub data RecordsTo (statement : List ℕ) (end : ℕ) : ℕ → ℕ → Type 0 where
+  no-more : {most place : ℕ} → place ≡ end → RecordsTo statement end most place
+  one-more :
+      {most place : ℕ} → RecordAt statement place → RecordsTo statement end most (place + sizeIn statement place)
+      → RecordsTo statement end (suc most) place
 
 -- how many persons
 pub record PersonsIs (statement : List ℕ) (place r : ℕ) : Type 0 where
@@ -103,6 +86,10 @@ mostCents = mostCharges * 2 ^ 32
 pub record CentsOf (statement : List ℕ) (place r : ℕ) : Type 0 where
   pub value : r ≡ centsIn statement place
   pub range : r ≤ mostCents
+
+pub record CentsOver (statement : List ℕ) (size r : ℕ) : Type 0 where
+  pub value : r ≡ centsOver statement size
+  pub range : r ≤ mostParts * mostCents
 
 -- what caps took off a person's price
 pub record ReductionIs (statement : List ℕ) (place i r : ℕ) : Type 0 where

@@ -1,9 +1,11 @@
 -- A charge record read off its bytes, wherever in a statement it stands: each field of the record at a place, and what its charges add up
 -- to.
 use Prim.Native.Nat.{ℕ, zero, suc, _+_, _*_, min}
+use mathlib.Core.Bool.{cond}
 use mathlib.Core.List.{List, [], _∷_}
+use lib.Dec.{ltb}
 use Rattle.wire.specs.Number.{getLe}
-use Rattle.statement.specs.Record.{headSize, chargeSize, cutSize, personSize}
+use Rattle.statement.specs.Record.{Part, headSize, chargeSize, cutSize, personSize, mostParts}
 
 -- what the length field counts: kind and body
 abbrev pub longIn : List ℕ → ℕ → ℕ
@@ -81,7 +83,23 @@ centsUpTo statement place (suc n) = centsUpTo statement place n + chargeIn state
 abbrev pub centsIn : List ℕ → ℕ → ℕ
 centsIn statement place = centsUpTo statement place (countIn statement place)
 
+-- of the records that stand one behind the other from a place up to an end, of which there are at most `most`
+unfoldable pub centsFrom : ℕ → List ℕ → ℕ → ℕ → ℕ
+centsFrom zero statement place end = 0
+centsFrom (suc most) statement place end =
+    let more = centsFrom most statement (place + sizeIn statement place) end in
+    cond (ltb place end) (centsIn statement place + more) 0
+
+-- of all records in a statement's first `size` bytes
+abbrev pub centsOver : List ℕ → ℕ → ℕ
+centsOver statement size = centsFrom mostParts statement 0 size
+
 -- a list of charges, added up
 unfoldable pub sumOf : List ℕ → ℕ
 sumOf [] = 0
 sumOf (charge ∷ more) = charge + sumOf more
+
+-- the charges of some parts, added up
+unfoldable pub chargedFor : List Part → ℕ
+chargedFor [] = 0
+chargedFor (part ∷ more) = sumOf (part .charges) + chargedFor more

@@ -6,9 +6,10 @@ use mathlib.Core.Path.{_≡_}
 use mathlib.Core.List.{List, [], _∷_, _++_}
 use lib.ListN.{length, getD}
 use Rattle.wire.specs.Number.{bytesOf}
+use Rattle.caps.specs.Named.{noName}
+use Rattle.caps.specs.declared.Cut.{Cut}
 use Rattle.trip.specs.declared.Party.{Party}
 use Rattle.fare.specs.declared.Ride.{Ride}
-use Rattle.book.specs.declared.Cut.{Cut}
 
 -- a part of a trip, which is what one charge record tells: the window's opening minute, a ride, the charge of each of its party, and what
 -- caps took off the price of each of its persons
@@ -133,7 +134,7 @@ pub record Complete (part : Part) : Type 0 where
 
 -- nothing taken off, and no cap named
 abbrev pub uncut : Cut
-uncut = record { reduction = record { 0 = 0 }; area = 255; class = 0 }
+uncut = record { reduction = record { 0 = 0 }; area = noName .area; class = noName .class }
 
 -- a cut whose fields their widths hold
 pub record CutFits (cut : Cut) : Type 0 where
@@ -141,15 +142,19 @@ pub record CutFits (cut : Cut) : Type 0 where
   pub area : cut .area < 2 ^ 8
   pub class : cut .class < 2 ^ 8
 
--- each field is one that its width holds, and the party is one that a trip can have
+-- a ride whose fields their widths hold, and whose party is one that a trip can have
+pub record RideFits (ride : Ride) : Type 0 where
+  pub area : ride .area < 2 ^ 8
+  pub km : ride .km .0 < 2 ^ 16
+  pub minutes : ride .minutes .0 < 2 ^ 16
+  pub adults : ride .party .adults ≤ mostCarried
+  pub children : ride .party .children ≤ mostCarried
+  pub bicycles : ride .party .bicycles ≤ mostCarried
+
+-- a part whose fields their widths hold
 pub record Recordable (part : Part) : Type 0 where
   pub opening : part .opening < 2 ^ 32
-  pub area : part .ride .area < 2 ^ 8
-  pub km : part .ride .km .0 < 2 ^ 16
-  pub minutes : part .ride .minutes .0 < 2 ^ 16
-  pub adults : part .ride .party .adults ≤ mostCarried
-  pub children : part .ride .party .children ≤ mostCarried
-  pub bicycles : part .ride .party .bicycles ≤ mostCarried
+  pub ride : RideFits (part .ride)
   pub complete : Complete part
   pub charges : (i : ℕ) → getD (part .charges) i 0 < 2 ^ 32
   pub cuts : (i : ℕ) → i < length (part .cuts) → CutFits (getD (part .cuts) i uncut)

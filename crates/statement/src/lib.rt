@@ -25,6 +25,9 @@ pub const MOST_PERSONS: usize = 21;
 
 const MOST_BICYCLES: usize = 10;
 
+// The most charges that a record has: account holder, ten adults, ten children, ten bicycles.
+pub const MOST_CHARGES: usize = MOST_PERSONS + MOST_BICYCLES;
+
 // The record of the largest party.
 pub const LARGEST: usize = HEAD + (CHARGE + CUT) * MOST_PERSONS + CHARGE * MOST_BICYCLES;
 

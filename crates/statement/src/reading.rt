@@ -8,9 +8,10 @@ use wire::two_at;
 ghost use mathlib.Core.Path.{_≡_};
 ghost use Prim.Native.Nat.{_+_, _*_, _≤_, _<_, min};
 ghost use lib.ListN.{length};
-ghost use Rattle.statement.specs.Record.{headSize, mostCharges, largestSize};
-ghost use Rattle.statement.specs.Reading.{openingIn, areaIn, kmIn, minutesIn, adultsIn, childrenIn, bicyclesIn, sizeIn, personsIn, countIn, capAreaIn, capClassIn};
-ghost use Rattle.statement.specs.Contracts.{RecordAt, PersonsIs, ChargeIs, ReductionIs, CentsUpTo, CentsOf};
+ghost use Rattle.statement.specs.Record.{headSize, mostCharges, largestSize, mostParts};
+ghost use Rattle.statement.specs.Reading.{openingIn, areaIn, kmIn, minutesIn, adultsIn, childrenIn, bicyclesIn};
+ghost use Rattle.statement.specs.Reading.{sizeIn, personsIn, countIn, capAreaIn, capClassIn};
+ghost use Rattle.statement.specs.Contracts.{RecordAt, PersonsIs, ChargeIs, ReductionIs, CentsUpTo, CentsOf, RecordsTo, CentsOver};
 
 // The window's opening minute.
 pub fn opening_at(statement: &[u8], place: usize) -> u32
@@ -119,7 +120,7 @@ pub fn reduction_at(statement: &[u8], place: usize, i: usize) -> u32
     four_at(statement, place + HEAD + (CHARGE + CUT) * i + CHARGE)
 }
 
-// The area of the cap that is named for it, 255 where nothing was taken off.
+// The area of the cap that is named for it, `NO_AREA` where nothing was taken off.
 pub fn cap_area_at(statement: &[u8], place: usize, i: usize) -> u8
     requires { ⌜ RecordAt (now statement) place × (i < personsIn (now statement) place) ⌝ }
     ensures { λ r. ⌜ r ≡ capAreaIn (now (statement .entry)) place i ⌝ }
@@ -127,7 +128,7 @@ pub fn cap_area_at(statement: &[u8], place: usize, i: usize) -> u8
     one_at(statement, place + HEAD + (CHARGE + CUT) * i + CHARGE + 4)
 }
 
-// That cap's class: 2 second class, 1 all classes, 0 where nothing was taken off.
+// That cap's class: 2 second class, 1 all classes, `NO_CLASS` where nothing was taken off.
 pub fn cap_class_at(statement: &[u8], place: usize, i: usize) -> u8
     requires { ⌜ RecordAt (now statement) place × (i < personsIn (now statement) place) ⌝ }
     ensures { λ r. ⌜ r ≡ capClassIn (now (statement .entry)) place i ⌝ }
@@ -154,4 +155,18 @@ pub fn cents_at(statement: &[u8], place: usize) -> u64
 {
     let persons = persons_at(statement, place);
     cents_up_to(statement, place, persons, count_at(statement, place))
+}
+
+// All charges of a statement of one or two records, which are its first `size` bytes, added up.
+pub fn cents_in(statement: &[u8], size: usize) -> u64
+    requires { ⌜ RecordsTo (now statement) size mostParts 0 ⌝ }
+    ensures { λ r. ⌜ CentsOver (now (statement .entry)) size r ⌝ }
+{
+    let mut cents: u64 = 0;
+    let mut next: usize = 0;
+    while next < size {
+        cents = cents + cents_at(statement, next);
+        next = next + size_at(statement, next);
+    }
+    cents
 }

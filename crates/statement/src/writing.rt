@@ -1,20 +1,19 @@
 // A part's record at a place of the statement, put together by a writer that holds the lent statement.
 use crate::KIND;
 use crate::record_size;
+use caps::Cut;
 use fare::Ride;
+use units::Cents;
 use units::Minutes;
 use wire::writer::Writer;
-ghost use mathlib.Core.Path.{_≡_};
-ghost use mathlib.Core.List.{[]};
-ghost use Prim.Native.Nat.{_+_, _*_, _≤_};
-ghost use lib.ListN.{length, take};
-ghost use lib.Seq.{sets};
+ghost use Prim.Native.Nat.{_+_, _≤_};
+ghost use lib.ListN.{length};
 ghost use Rattle.wire.specs.Number.{bytesOf};
-ghost use Rattle.statement.specs.Record.{headSize, chargeSize, personSize, mostCharges, mostPersons, headBytes, personBytes, chargeBytes};
-ghost use Rattle.statement.specs.Contracts.{cutFrom, cutsFrom, Writable, Wrote, RecordWrote};
+ghost use Rattle.statement.specs.Record.{headSize, chargeSize, personSize, headBytes, headOf, personBytes, RideFits};
+ghost use Rattle.statement.specs.Contracts.{cutWith, Wrote};
 
-// The record up to its first charge; `long` is the record's length field. The answer is the place of the first charge.
-pub fn write_head(
+// The fields of a head one after another; `long` is the record's length field.
+fn put_head(
     statement: &mut [u8],
     place: usize,
     long: u16,
@@ -27,7 +26,7 @@ pub fn write_head(
     bicycles: u8,
 ) -> usize
     requires { ⌜ place + headSize ≤ length (now statement) ⌝ }
-    ensures { λ r. ⌜ (r ≡ place + headSize) × (now (statement .exit) ≡ sets (now (statement .entry)) place (headBytes long opening area km minutes adults children bicycles)) ⌝ }
+    ensures { λ r. ⌜ Wrote (headBytes long opening area km minutes adults children bicycles) (now (statement .entry)) place (now (statement .exit)) r ⌝ }
 {
     Writer::new(statement, place)
         .two(long)
@@ -42,84 +41,17 @@ pub fn write_head(
         .end()
 }
 
-// One person's charge, and what caps took off the price; the named cap is one number, area + 256 * class. The answer is the place of the
-// next.
-pub fn write_person(
-    statement: &mut [u8],
-    place: usize,
-    charge: u32,
-    reduction: u32,
-    name: u16,
-) -> usize
-    requires { ⌜ place + personSize ≤ length (now statement) ⌝ }
-    ensures { λ r. ⌜ (r ≡ place + personSize) × (now (statement .exit) ≡ sets (now (statement .entry)) place (personBytes charge (cutFrom reduction name))) ⌝ }
-{
-    Writer::new(statement, place)
-        .four(charge)
-        .four(reduction)
-        .two(name)
-        .end()
-}
-
-// One bicycle's charge. The answer is the place of the next.
-pub fn write_charge(statement: &mut [u8], place: usize, charge: u32) -> usize
-    requires { ⌜ place + chargeSize ≤ length (now statement) ⌝ }
-    ensures { λ r. ⌜ (r ≡ place + chargeSize) × (now (statement .exit) ≡ sets (now (statement .entry)) place (bytesOf 4 charge)) ⌝ }
-{
-    Writer::new(statement, place).four(charge).end()
-}
-
-// The first `count` of the amounts, reductions and names as persons, one after another. The answer is the place behind the last.
-fn write_persons(
-    statement: &mut [u8],
-    place: usize,
-    amounts: &[u32],
-    reductions: &[u32],
-    names: &[u16],
-    count: usize,
-) -> usize
-    requires { ⌜ (count ≤ length (now amounts)) × ((count ≤ length (now reductions)) × ((count ≤ length (now names)) × ((count ≤ mostPersons) × (place + personSize * count ≤ length (now statement))))) ⌝ }
-    ensures { λ r. ⌜ Wrote (chargeBytes (take count (now (amounts .entry))) (cutsFrom (take count (now (reductions .entry))) (take count (now (names .entry))))) (now (statement .entry)) place (now (statement .exit)) r ⌝ }
-{
-    let mut next = place;
-    for i in 0..count {
-        next = write_person(statement, next, amounts[i], reductions[i], names[i]);
-    }
-    next
-}
-
-// The first `count` of the amounts as bicycles' charges, one after another. The answer is the place behind the last.
-fn write_charges(statement: &mut [u8], place: usize, amounts: &[u32], count: usize) -> usize
-    requires { ⌜ (count ≤ length (now amounts)) × ((count ≤ mostCharges) × (place + chargeSize * count ≤ length (now statement))) ⌝ }
-    ensures { λ r. ⌜ Wrote (chargeBytes (take count (now (amounts .entry))) []) (now (statement .entry)) place (now (statement .exit)) r ⌝ }
-{
-    let mut next = place;
-    for i in 0..count {
-        next = write_charge(statement, next, amounts[i]);
-    }
-    next
-}
-
-// The whole record, with the first of the amounts, reductions and names, as many as the party has. The answer is the place behind it, where
-// the next would stand.
-pub fn write_record(
-    statement: &mut [u8],
-    place: usize,
-    opening: Minutes,
-    ride: Ride,
-    amounts: &[u32],
-    reductions: &[u32],
-    names: &[u16],
-) -> usize
-    requires { ⌜ Writable (now statement) place (opening .0) ride (now amounts) (now reductions) (now names) ⌝ }
-    ensures { λ r. ⌜ RecordWrote (now (statement .entry)) place (opening .0) ride (now (amounts .entry)) (now (reductions .entry)) (now (names .entry)) (now (statement .exit)) r ⌝ }
+// The head of a ride's record; the party says how long the record is. The answer is the place of the first charge.
+pub fn write_ride(statement: &mut [u8], place: usize, opening: Minutes, ride: Ride) -> usize
+    requires { ⌜ (place + headSize ≤ length (now statement)) × RideFits ride ⌝ }
+    ensures { λ r. ⌜ Wrote (headOf (opening .0) ride) (now (statement .entry)) place (now (statement .exit)) r ⌝ }
 {
     let area = ride.area;
     let km = ride.km;
     let minutes = ride.minutes;
     let party = ride.party;
     let long = record_size(party) - 2;
-    let first = write_head(
+    put_head(
         statement,
         place,
         long as u16,
@@ -130,13 +62,48 @@ pub fn write_record(
         party.adults,
         party.children,
         party.bicycles,
-    );
-    let persons = 1 + party.adults as usize + party.children as usize;
-    let behind = write_persons(statement, first, amounts, reductions, names, persons);
-    write_charges(
-        statement,
-        behind,
-        &amounts[persons..],
-        party.bicycles as usize,
     )
+}
+
+fn put_person(
+    statement: &mut [u8],
+    place: usize,
+    amount: u32,
+    reduction: u32,
+    area: u8,
+    class: u8,
+) -> usize
+    requires { ⌜ place + personSize ≤ length (now statement) ⌝ }
+    ensures { λ r. ⌜ Wrote (personBytes amount (cutWith reduction area class)) (now (statement .entry)) place (now (statement .exit)) r ⌝ }
+{
+    Writer::new(statement, place)
+        .four(amount)
+        .four(reduction)
+        .one(area)
+        .one(class)
+        .end()
+}
+
+// One person's charge, and what caps took off the price. The answer is the place of the next.
+pub fn write_person(statement: &mut [u8], place: usize, amount: Cents, cut: Cut) -> usize
+    requires { ⌜ place + personSize ≤ length (now statement) ⌝ }
+    ensures { λ r. ⌜ Wrote (personBytes (amount .0) cut) (now (statement .entry)) place (now (statement .exit)) r ⌝ }
+{
+    let reduction = cut.reduction;
+    put_person(statement, place, amount.0, reduction.0, cut.area, cut.class)
+}
+
+fn put_charge(statement: &mut [u8], place: usize, amount: u32) -> usize
+    requires { ⌜ place + chargeSize ≤ length (now statement) ⌝ }
+    ensures { λ r. ⌜ Wrote (bytesOf 4 amount) (now (statement .entry)) place (now (statement .exit)) r ⌝ }
+{
+    Writer::new(statement, place).four(amount).end()
+}
+
+// One bicycle's charge. The answer is the place of the next.
+pub fn write_charge(statement: &mut [u8], place: usize, amount: Cents) -> usize
+    requires { ⌜ place + chargeSize ≤ length (now statement) ⌝ }
+    ensures { λ r. ⌜ Wrote (bytesOf 4 (amount .0)) (now (statement .entry)) place (now (statement .exit)) r ⌝ }
+{
+    put_charge(statement, place, amount.0)
 }

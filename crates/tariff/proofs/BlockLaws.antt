@@ -10,7 +10,7 @@ use mathlib.Core.List.{List}
 use borrow.Author.Tests.{le-leb, lt-ltb, eq-eqb}
 use lib.Bits.{bitAnd, bitOr}
 use Rattle.wire.specs.Number.{getLe, Bytes}
-use Rattle.wire.proofs.Number.{get-range}
+use Rattle.wire.proofs.Number.{get-range, point-word}
 use Rattle.tariff.specs.declared.blocks.Sums.{Sums}
 use Rattle.tariff.specs.Layout.{stopSize, mostAreas}
 use Rattle.tariff.specs.Fields.{stopFields}
@@ -18,7 +18,7 @@ use Rattle.tariff.specs.Rules.{mostMetres}
 use Rattle.tariff.specs.Contracts.{stopStands}
 use Rattle.tariff.specs.Blocks.{bits, Clear, Tells, joinedSums}
 use Rattle.tariff.proofs.Masks.{or-left, or-right, clear-left, clear-right, mask-parts, high-bits}
-use Rattle.tariff.proofs.Words.{four-word, head-word, point-word}
+use Rattle.tariff.proofs.Words.{four-word, head-word}
 use Rattle.tariff.proofs.StopLaws.{none-stand, one-stands, more-stand, fewer-stand}
 
 module _ (s t : Sums) (c : Clear (joinedSums s t)) where

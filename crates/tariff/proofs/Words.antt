@@ -11,10 +11,6 @@ pub head-word : (b : List ℕ) (q : ℕ) → getLe 8 b q ≡ getLe 3 b q + 2 ^ 2
 unfolding getLe
 head-word b q = simp add-assoc (omega arith)
 
-pub point-word : (b : List ℕ) (q : ℕ) → getLe 8 b q ≡ getLe 4 b q + 2 ^ 32 * getLe 4 b (q + 4)
-unfolding getLe
-point-word b q = simp add-assoc (omega arith)
-
 pub four-word : (b : List ℕ) (q : ℕ) → getLe 4 b q ≡ getLe 2 b q + 65536 * getLe 2 b (q + 2)
 unfolding getLe
 four-word b q = simp add-assoc (omega arith)

@@ -1,3 +1,4 @@
 pub mod Caps
 pub mod Day
+pub mod Price
 pub mod Rounding

@@ -16,6 +16,9 @@ pub struct Minutes(pub u32);
 // Every day has 1,440 minutes.
 pub const DAY: u32 = 1_440;
 
+// No price is above this.
+pub const MOST_PRICE: u32 = 3_790_000;
+
 // A limit on an amount, where there is one.
 pub enum Cap {
     NoCap,

@@ -1,19 +1,19 @@
 // Runs outside vectors: each section of the input is a tariff, a trip to be priced, a trip to be settled, or a fresh book, and prints a
 // line or two. A section is a tag byte, a length in 4 bytes, and that many bytes. samples/vectors.txt is the readable source of input and
 // output.
-use book::words::SIZE;
+use deciding::decide::Decision;
+use deciding::decide::decide;
+use deciding::refusals::number;
 use fare::Breaking;
 use fare::Ride;
 use fare::parts::first_part;
 use fare::parts::second_part;
 use fare::prices::price;
 use fare::rides::ride_of;
+use ledger::words::SIZE;
 use libc::STDIN_FILENO;
 use libc::STDOUT_FILENO;
 use settle::Answer;
-use settle::decide::Decision;
-use settle::decide::decide;
-use settle::refusals::number;
 use settle::settle;
 use statement::LARGEST_STATEMENT;
 use statement::reading::area_at;

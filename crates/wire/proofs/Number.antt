@@ -1,6 +1,6 @@
 -- What a number's bytes do, over every width: read back, left alone, within range, and the same in a part of the bytes.
 -- Assumes nothing.
-use Prim.Native.Nat.{ℕ, zero, suc, _+_, _/_, _%_, _^_, _≤_, _<_}
+use Prim.Native.Nat.{ℕ, zero, suc, _+_, _*_, _/_, _%_, _^_, _≤_, _<_}
 use native.Mathlib.Omega.{arith}
 use native.Mathlib.Nat.{pow-suc, add-assoc, add-zero}
 use native.Mathlib.Numerals.{add-one}
@@ -146,3 +146,8 @@ sets-more l i (v ∷ vs) ws =
 -- A number put right after a run of stores makes one run with it.
 pub sets-put : (k : ℕ) (l : List ℕ) (i v : ℕ) (vs : List ℕ) → putLe k (sets l i vs) (i + length vs) v ≡ sets l i (vs ++ bytesOf k v)
 sets-put k l i v vs = put-sets k (sets l i vs) (i + length vs) v ∙ sets-more l i vs (bytesOf k v)
+
+-- Eight bytes are two numbers of four.
+pub point-word : (b : List ℕ) (q : ℕ) → getLe 8 b q ≡ getLe 4 b q + 2 ^ 32 * getLe 4 b (q + 4)
+unfolding getLe
+point-word b q = simp add-assoc (omega arith)

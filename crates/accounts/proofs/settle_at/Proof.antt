@@ -2,7 +2,7 @@
 -- Assumes nothing.
 use native.Mathlib.Omega.{arith}
 use Prim.Native.Nat.{_+_, _-_, _*_}
-use Rattle.book.specs.Words.{bookSize}
+use Rattle.ledger.specs.Words.{bookSize}
 use Rattle.accounts.specs.Pages.{numberSize, placeSize}
 use Rattle.accounts.proofs.Placing.{place-told}
 use borrow.Author.Needs.{needs}

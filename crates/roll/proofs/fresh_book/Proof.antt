@@ -1,8 +1,8 @@
 -- `roll::fresh_book` meets its contract: a book of zeros is the fresh one, which is sound under every tariff.
 -- Assumes nothing.
 use mathlib.Core.Path.{refl, sym}
-use Rattle.book.proofs.WordLaws.{fresh-size}
-use Rattle.book.proofs.SoundLaws.{fresh-sound}
+use Rattle.ledger.proofs.WordLaws.{fresh-size}
+use Rattle.ledger.proofs.SoundLaws.{fresh-sound}
 use Rattle.roll.proofs.fresh_book.Statement.{statement}
 use Rattle.roll.proofs.fresh_book.Tie as tie
 

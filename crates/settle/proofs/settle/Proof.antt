@@ -1,7 +1,9 @@
 -- `settle::settle` meets its contract: tariff and book are refused, or what comes on a book that is ready.
 -- Assumes nothing.
+use mathlib.Core.Path.{sym, _∙_}
 use Rattle.settle.proofs.Ways.{faultless-way, refusal-told}
-use Rattle.settle.proofs.Plans.{refused-settled, is-ready}
+use Rattle.settle.proofs.Answers.{place-near, refused-settled}
+use Rattle.deciding.proofs.Decisions.{ready-then}
 use borrow.Author.Needs.{needs}
 use Rattle.settle.proofs.settle.Statement.{statement}
 use Rattle.settle.proofs.settle.Tie as tie
@@ -16,15 +18,15 @@ enum-known-counts : tie.Need-enum-known-counts
 enum-known-counts c = search needs
 
 settle-next-requires : tie.Need-settle-next-requires
-settle-next-requires c κs = is-ready (c .before .before .before .counts .given .1) (c .before .before .before .before .before .readiness-of .ensures)
+settle-next-requires c κs = ready-then _ _ (sym (c .before .before .before .before .before .readiness-of .ensures) ∙ c .before .before .before .counts .given .1)
 
 same-length : tie.Need-same-length
 same-length c = search needs
 
 returns : tie.Need-returns
 returns c =
-    let (is, near) = refused-settled (c .before .number .given .1) (c .before .before .before .readiness-of .ensures) _ _ in
-    refusal-told _ _ _ _ _ is near
+    let is = sym (c .before .before .before .readiness-of .ensures) ∙ c .before .number .given .1 in
+    refusal-told _ _ _ _ _ (refused-settled _ _ is _ _) (place-near _ _ is)
 
 same-length-2 : tie.Need-same-length-2
 same-length-2 c = search needs
@@ -34,7 +36,7 @@ same-length-3 c = search needs
 
 returns-2 : tie.Need-returns-2
 returns-2 c =
-    let ready = is-ready (c .before .before .before .before .before .before .before .before .counts .given .1) (c .before .before .before .before .before .before .before .before .before .before .readiness-of .ensures) in
+    let ready = ready-then _ _ (sym (c .before .before .before .before .before .before .before .before .before .before .readiness-of .ensures) ∙ c .before .before .before .before .before .before .before .before .counts .given .1) in
     rw (faultless-way _ _ _ _ _ (ready .read)) (c .before .before .before .before .settle-next .ensures .told)
 
 pub settle-spec : {M : Type 1} → statement M

@@ -3,8 +3,8 @@
 use mathlib.Core.Path.{sym, _∙_}
 use borrow.Author.Needs.{needs}
 use Rattle.fare.proofs.GoodTrips.{riding, in-order}
-use Rattle.book.proofs.SoundLaws.{fresh-sound}
-use Rattle.settle.proofs.Ways.{clear-found, no-row}
+use Rattle.ledger.proofs.SoundLaws.{fresh-sound}
+use Rattle.deciding.proofs.Decisions.{clear-found, no-row}
 use Rattle.vectors.proofs.show_price.Statement.{statement}
 use Rattle.vectors.proofs.show_price.Tie as tie
 

@@ -7,7 +7,7 @@ use mathlib.Core.Bool.{Bool}
 use mathlib.Core.List.{List}
 use Rattle.wire.specs.Each.{each}
 use Rattle.wire.proofs.Each.{each-none}
-use Rattle.book.proofs.SoundLaws.{one-more, all-done}
+use Rattle.ledger.proofs.SoundLaws.{one-more, all-done}
 use Rattle.accounts.specs.Pages.{onlyHere, numbersOnce}
 use Rattle.accounts.proofs.checks.numbers_once.Statement.{statement}
 use Rattle.accounts.proofs.checks.numbers_once.Tie as tie

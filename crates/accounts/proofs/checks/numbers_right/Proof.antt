@@ -8,7 +8,7 @@ use mathlib.Core.List.{List}
 use lib.Dec.{leb}
 use Rattle.wire.specs.Each.{each}
 use Rattle.wire.proofs.Each.{each-none}
-use Rattle.book.proofs.SoundLaws.{one-more, all-done}
+use Rattle.ledger.proofs.SoundLaws.{one-more, all-done}
 use Rattle.accounts.specs.Pages.{mostNumber, numberAt, numbersRight}
 use Rattle.accounts.proofs.checks.numbers_right.Statement.{statement}
 use Rattle.accounts.proofs.checks.numbers_right.Tie as tie

@@ -6,7 +6,7 @@ use mathlib.Core.Path.{_≡_, sym, ap, _∙_}
 use mathlib.Core.List.{List, _++_}
 use borrow.Author.Fill.{fill-none, fill-more}
 use lib.ListN.{length, set, drop, replicate, length-set}
-use Rattle.book.proofs.PostTurns.{filled}
+use Rattle.posting.proofs.PostTurns.{filled}
 use Rattle.accounts.specs.Pages.{placeSize}
 use Rattle.accounts.proofs.clear.clear.Statement.{statement}
 use Rattle.accounts.proofs.clear.clear.Tie as tie

@@ -5,6 +5,7 @@ use native.Mathlib.Omega.{arith}
 use mathlib.Core.Path.{_≡_, refl, _∙_}
 use lib.ListN.{length}
 use Rattle.statement.specs.Contracts.{Wrote}
+use Rattle.statement.proofs.Head.{length-person}
 use Rattle.reader.specs.Reading.{fieldsFor}
 use Rattle.reader.specs.Filling.{amountBytes}
 use Rattle.reader.proofs.Filled.{none-put, one-put, all-put}
@@ -36,11 +37,12 @@ loop-less c = omega arith
 loop-again : tie.Need-loop-again Inv-loop μ-loop
 loop-again c =
     let before = c .before .before .before .before .before .before .loop in
+    let amount = c .before .before .before .amount-at .result in
     let wrote = c .before .before .put-amount in (
       omega arith,
       wrote .kept .0 ∙ before .inv .1,
-      omega (arith, wrote .ensures .0),
-      one-put (fieldsFor _ _ _) _ _ (before .i) (before .next) (before .inv .3) (c .before .before .before .amount-at .ensures) (wrote .ensures .0) (wrote .ensures .1),
+      omega (arith, wrote .ensures .next, length-person (amount .charge .0) (amount .cut)),
+      one-put (fieldsFor _ _ _) _ _ (before .i) (before .next) (before .inv .3) (c .before .before .before .amount-at .ensures) (wrote .ensures),
     )
 
 same-length : tie.Need-same-length Inv-loop μ-loop

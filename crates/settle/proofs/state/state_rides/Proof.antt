@@ -1,74 +1,73 @@
--- `settle::state::state_rides` meets its contract: the only ride or the first of two, then the second behind it.
+-- `settle::state::state_rides` meets its contract: at each turn the whole trip, both parts, the second or nothing is left to state, and in the end the
+-- trip's records are written.
 -- Assumes nothing.
-use Rattle.settle.specs.Contracts.{one-stated, two-stated}
-use Rattle.settle.proofs.Clear.{leading-stateable, leading-one, leading-first, parts-stateable, second-stateable, both-stated}
+use Prim.Native.Nat.{_-_}
+use native.Mathlib.Omega.{arith}
 use borrow.Author.Needs.{needs}
+use Rattle.statement.proofs.Wrote.{length-wrote}
+use Rattle.settle.proofs.Legs.{Leg, there, order, legs-begin, leg-goes, leg-stateable, leg-next, legs-end}
 use Rattle.settle.proofs.state.state_rides.Statement.{statement}
 use Rattle.settle.proofs.state.state_rides.Tie as tie
 
-leading-ride-requires : tie.Need-leading-ride-requires
-leading-ride-requires c κs = search needs
+abbrev Inv-loop : tie.InvT-loop
+Inv-loop tariff counts book bytes trip window statement₀ last from₀ to₀ minutes₀ earlier₀ next₀ statement from to minutes earlier next =
+    Leg tariff counts book bytes trip window statement₀ from to (minutes .0) earlier next statement
 
-state-ride-requires : tie.Need-state-ride-requires
+abbrev μ-loop : tie.MeasureT-loop
+μ-loop tariff counts book bytes trip window statement₀ last from₀ to₀ minutes₀ earlier₀ next₀ statement from to minutes earlier next =
+    last - from
+
+sub-last : tie.Need-sub-last Inv-loop μ-loop
+sub-last c = omega (arith, order (c .before .before .before .before .before .pre) .two)
+
+first-end-requires : tie.Need-first-end-requires Inv-loop μ-loop
+first-end-requires c κs = search needs
+
+duration-requires : tie.Need-duration-requires Inv-loop μ-loop
+duration-requires c κs = order (c .before .before .before .before .before .before .pre)
+
+loop-holds : tie.Need-loop-holds Inv-loop μ-loop
+loop-holds c = legs-begin _ _ _ _ _ _ _ (c .before .before .before .before .before .before .before .pre) (c .before .first-end .ensures) (c .duration .ensures .value)
+
+ride-between-requires : tie.Need-ride-between-requires Inv-loop μ-loop
+ride-between-requires c κs =
+    let clear = c .before .before .before .before .before .before .before .before .before .pre in
+    let goes = leg-goes _ _ _ _ _ _ _ clear (c .loop-test .taken) (c .before .loop .inv) in
+    (there clear, (omega (arith, goes .0), (omega (arith, goes .1 .0, order clear .two), goes .1 .1)))
+
+state-ride-requires : tie.Need-state-ride-requires Inv-loop μ-loop
 state-ride-requires c κs =
-    let (ok, (full, full′)) = c .before .before .before .before .before .before .before .before .before .pre in
-    (rw (c .before .before .before .leading-ride .ensures) (leading-stateable ok), (record { size = full′; amounts = tt }, full))
+    leg-stateable _ _ _ _ _ _ _ (c .before .before .before .before .before .before .before .before .before .before .before .pre) (c .before .before .loop-test .taken) (c .before .ride-between .ensures .value)
+    (c .before .before .before .loop .inv)
 
-enum-told : tie.Need-enum-told
-enum-told c = search needs
+loop-less : tie.Need-loop-less Inv-loop μ-loop
+loop-less c =
+    omega (arith, leg-goes _ _ _ _ _ _ _ (c .before .before .before .before .before .before .before .before .before .before .before .before .before .before .pre) (c .before .before .before .before .before .loop-test .taken) (c .before .before .before .before .before .before .loop .inv) .0, leg-goes _ _ _ _ _ _ _ (c .before .before .before .before .before .before .before .before .before .before .before .before .before .before .pre) (c .before .before .before .before .before .loop-test .taken) (c .before .before .before .before .before .before .loop .inv) .1 .0)
 
-enum-known-rides : tie.Need-enum-known-rides
-enum-known-rides c = search needs
+loop-again : tie.Need-loop-again Inv-loop μ-loop
+loop-again c =
+    leg-next _ _ _ _ _ _ _ (c .before .before .before .before .before .before .before .before .before .before .before .before .before .before .pre) (c .before .before .before .before .before .loop-test .taken) (c .before .before .before .before .ride-between .ensures .value) (c .before .before .before .before .before .before .loop .inv)
+    (c .before .before .state-ride .ensures)
 
-state-ride-requires-2 : tie.Need-state-ride-requires-2
-state-ride-requires-2 c κs =
-    let (ok, (full, full′)) = c .before .before .before .before .before .before .before .before .before .before .before .before .before .before .before .before .before .before .before .before .pre in
-    let first = leading-first (c .before .before .before .before .before .before .before .before .before .before .before .before .before .before .leading-ride .ensures) (c .before .before .before .before .rides .given .1) in
-    let (other, paid) = second-stateable first (c .before .before .before .before .before .before .before .before .before .before .state-ride .ensures) (parts-stateable (c .before .before .before .before .rides .given .1) ok) in
-    (other, (paid, full′))
+same-length : tie.Need-same-length Inv-loop μ-loop
+same-length c = length-wrote (legs-end _ _ _ _ _ _ _ (c .before .before .before .before .before .before .before .before .before .pre) (c .loop-test .left) (c .before .loop .inv))
 
-same-length : tie.Need-same-length
-same-length c = search needs
-
-same-length-2 : tie.Need-same-length-2
-same-length-2 c = search needs
-
-same-length-3 : tie.Need-same-length-3
-same-length-3 c = search needs
-
-returns : tie.Need-returns
-returns c =
-    let is = c .enum-told .given .1 in
-    rw is (one-stated (rw (leading-one (c .before .before .before .before .before .before .before .before .before .before .leading-ride .ensures) is) at (c .before .before .before .before .before .before .state-ride .ensures)))
-
-same-length-4 : tie.Need-same-length-4
-same-length-4 c = search needs
-
-same-length-5 : tie.Need-same-length-5
-same-length-5 c = search needs
-
-same-length-6 : tie.Need-same-length-6
-same-length-6 c = search needs
-
-returns-2 : tie.Need-returns-2
-returns-2 c =
-    let first = leading-first (c .before .before .before .before .before .before .before .before .before .before .before .before .before .before .before .before .before .before .before .leading-ride .ensures) (c .before .before .before .before .before .before .before .before .before .rides .given .1) in
-    rw (c .before .before .before .before .before .before .before .before .before .rides .given .1) (two-stated (both-stated first (c .before .before .before .before .before .before .before .before .before .before .before .before .before .before .before .state-ride .ensures) (c .before .before .before .before .state-ride2 .ensures)))
+returns : tie.Need-returns Inv-loop μ-loop
+returns c = legs-end _ _ _ _ _ _ _ (c .before .before .before .before .before .before .before .before .before .pre) (c .loop-test .left) (c .before .loop .inv)
 
 pub state-rides-spec : {M : Type 1} → statement M
 state-rides-spec =
     tie.close
     (tie.spec
-    leading-ride-requires
+    Inv-loop
+    μ-loop
+    sub-last
+    first-end-requires
+    duration-requires
+    loop-holds
+    ride-between-requires
     state-ride-requires
-    enum-told
-    enum-known-rides
-    state-ride-requires-2
+    loop-less
+    loop-again
     same-length
-    same-length-2
-    same-length-3
-    returns
-    same-length-4
-    same-length-5
-    same-length-6
-    returns-2)
+    returns)

@@ -1,0 +1,13 @@
+pub mod Trees
+pub mod SumLaws
+pub mod CapLaws
+pub mod InTurn
+pub mod ChargeLaws
+pub mod PostedLaws
+pub mod AlikeBooks
+pub mod GoodRides
+pub mod InWords
+pub mod EarlierLaws
+pub mod CutLaws
+pub mod AlikeLaws
+pub mod Stating

@@ -1,0 +1,3 @@
+pub mod BicycleLaws
+pub mod CoverLaws
+pub mod InWords

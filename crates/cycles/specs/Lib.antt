@@ -1,0 +1,3 @@
+pub mod Bicycles
+pub mod Contracts
+pub mod InWords

@@ -1,0 +1,4 @@
+pub mod Rows
+pub mod Rides
+pub mod RowGroups
+pub mod Decisions

@@ -1,0 +1,119 @@
+-- What is decided before anything is written: of tariff and book, by each group of the table's rows, and of a trip by all of them.
+use Prim.Native.Nat.{ℕ, _+_, _*_}
+use mathlib.Core.List.{List, [], _∷_}
+use mathlib.Core.Bool.{cond}
+use lib.Dec.{ltb}
+use Rattle.tariff.specs.declared.Counts.{Counts}
+use Rattle.tariff.specs.declared.Reading.the-variants.{Fault, Faultless}
+use Rattle.tariff.specs.Scan.{readTariff}
+use Rattle.trip.specs.declared.Trip.{Trip}
+use Rattle.trip.specs.declared.Party.{Party}
+use Rattle.trip.specs.Record.{classAt, levelAt, partyAt, countAt}
+use Rattle.trip.specs.Moments.{checkinOf, checkoutOf}
+use Rattle.trip.specs.Trips.{tripOf}
+use Rattle.fare.specs.declared.Breaking.{Breaking}
+use Rattle.fare.specs.declared.Breaking.the-variants.{Unbroken, At}
+use Rattle.fare.specs.Parts.{breakOf}
+use Rattle.ledger.specs.Sound.{sound}
+use Rattle.ledger.specs.Windows.{windowOf}
+use Rattle.statement.specs.Record.{recordSize}
+use Rattle.deciding.specs.declared.decide.Decision.{Decision}
+use Rattle.deciding.specs.declared.decide.Decision.the-variants.{Refused, Clear}
+use Rattle.deciding.specs.declared.groups.Fields.{Fields}
+use Rattle.deciding.specs.declared.groups.Span.{Span}
+use Rattle.deciding.specs.declared.groups.Formed.{Formed}
+use Rattle.deciding.specs.declared.groups.Formed.the-variants as formed
+use Rattle.deciding.specs.declared.groups.Placed.{Placed}
+use Rattle.deciding.specs.declared.groups.Placed.the-variants as placed
+use Rattle.deciding.specs.declared.groups.Timed.{Timed}
+use Rattle.deciding.specs.declared.groups.Timed.the-variants as timed
+use Rattle.deciding.specs.declared.groups.Roomed.{Roomed}
+use Rattle.deciding.specs.declared.groups.Roomed.the-variants as roomed
+use Rattle.deciding.specs.declared.ready.Readiness.{Readiness}
+use Rattle.deciding.specs.declared.ready.Readiness.the-variants as readiness
+use Rattle.deciding.specs.declared.refusals.Refusal.the-variants.{UnsoundBook, FullWindow, NoRoom}
+use Rattle.deciding.specs.Refusals.{refusal, Row, row, tripRows, tariffRows, clockRows, rows, firstOf, nothing, found}
+
+-- ---- Of tariff and book: 1 to 3, the tariff's first fault at its record's offset; 4; or that both are ready.
+
+unfoldable pub readinessOf : List ℕ → List ℕ → Readiness
+readinessOf tariff book =
+    elim (readTariff tariff) [
+      | Fault number at ↦ readiness.Refused number at
+      | Faultless counts ↦ cond (sound book (counts .areas)) (readiness.Ready counts) (readiness.Refused (refusal UnsoundBook) 0)
+    ]
+
+-- ---- Of a trip.
+
+-- what is decided under a faultless tariff: the first row of the table that holds; or that none does, with the trip's fields, its window and
+-- where it is broken
+unfoldable pub decidedUnder : List ℕ → Counts → List ℕ → List ℕ → ℕ → Decision
+decidedUnder tariff counts book trip room =
+    elim (firstOf (rows tariff counts book trip room)) [
+      | found why ↦ Refused why
+      | nothing ↦ Clear (tripOf trip) (windowOf book (checkinOf trip) (checkoutOf trip)) (breakOf tariff counts trip (countAt trip 0))
+    ]
+
+-- ---- By each group: its first row that holds; or that none does, with what it has found.
+
+-- what a trip record says besides its stamps, and its times
+abbrev pub fieldsOf : List ℕ → Fields
+fieldsOf trip = record { class = classAt trip 0; level = levelAt trip 0; party = partyAt trip 0; stops = countAt trip 0 }
+
+abbrev pub spanOf : List ℕ → Span
+spanOf trip = record { checkin = record { 0 = checkinOf trip }; checkout = record { 0 = checkoutOf trip } }
+
+-- both together
+abbrev pub tripWith : Fields → Span → Trip
+tripWith fields span =
+    record {
+      checkin = span .checkin;
+      checkout = span .checkout;
+      class = fields .class;
+      level = fields .level;
+      party = fields .party;
+      stops = fields .stops;
+    }
+
+unfoldable pub formedBy : List ℕ → Formed
+formedBy trip =
+    elim (firstOf (tripRows trip)) [
+      | found why ↦ formed.Refused why
+      | nothing ↦ formed.As (fieldsOf trip)
+    ]
+
+unfoldable pub placedBy : List ℕ → Counts → List ℕ → Placed
+placedBy tariff counts trip =
+    elim (firstOf (tariffRows tariff counts trip)) [
+      | found why ↦ placed.Refused why
+      | nothing ↦ placed.Broken (breakOf tariff counts trip (countAt trip 0))
+    ]
+
+unfoldable pub timedBy : List ℕ → List ℕ → Timed
+timedBy book trip =
+    elim (firstOf (clockRows book trip)) [
+      | found why ↦ timed.Refused why
+      | nothing ↦ timed.Over (spanOf trip)
+    ]
+
+-- how many rides a trip is charged as, by where it is broken, and the bytes of their records: all have the trip's party
+abbrev pub ridesIn : Breaking → ℕ
+ridesIn Unbroken = 1
+ridesIn (At c) = 2
+
+abbrev pub recordsSize : Breaking → Party → ℕ
+recordsSize breaking party = ridesIn breaking * recordSize party
+
+-- so much is all that the rows of room look at
+abbrev pub roomRowsBy : List ℕ → Span → Breaking → Party → ℕ → List Row
+roomRowsBy book span breaking party room =
+    row FullWindow (ltb 256 (windowOf book (span .checkin .0) (span .checkout .0) .trips + ridesIn breaking))
+    ∷ row NoRoom (ltb room (recordsSize breaking party))
+    ∷ []
+
+unfoldable pub roomedBy : List ℕ → Span → Breaking → Party → ℕ → Roomed
+roomedBy book span breaking party room =
+    elim (firstOf (roomRowsBy book span breaking party room)) [
+      | found why ↦ roomed.Refused why
+      | nothing ↦ roomed.In (windowOf book (span .checkin .0) (span .checkout .0))
+    ]

@@ -1,0 +1,110 @@
+// A quote: what settling would write to the statement, on a book that is only read. And the posting of a quote: everything is checked again, the
+// quote is stated anew, and only where the record offered is exactly its bytes is the book written. No amount is taken from the record offered.
+use crate::Answer;
+use crate::records::post_records;
+use crate::state::Stated;
+use crate::state::state_trip;
+use deciding::ready::Readiness;
+use deciding::ready::readiness_of;
+use deciding::refusals::Refusal;
+use deciding::refusals::number;
+use statement::LARGEST_STATEMENT;
+use tariff::Counts;
+ghost use mathlib.Core.Path.{_≡_};
+ghost use Rattle.deciding.specs.Contracts.{Ready};
+ghost use Rattle.settle.specs.Posting.{sameBytes};
+ghost use Rattle.settle.specs.Contracts.{NextQuoted, TripQuoted, NextPosted, TripPosted};
+
+// 5 to 12: on a book that is sound.
+pub fn quote_next(
+    tariff: &[u8],
+    counts: Counts,
+    book: &[u8],
+    trip: &[u8],
+    statement: &mut [u8],
+) -> Answer
+    requires { ⌜ Ready (now tariff) counts (now book) ⌝ }
+    ensures { λ r. ⌜ NextQuoted (now (tariff .entry)) counts (now (book .entry)) (now (trip .entry)) (now (statement .entry)) (now (statement .exit)) r ⌝ }
+{
+    match state_trip(tariff, counts, book, trip, statement) {
+        Stated::Refused(why) => Answer::Refused {
+            number: number(why),
+            place: 0,
+        },
+        Stated::Records {
+            size,
+            window: _,
+            checkout: _,
+            class: _,
+        } => Answer::Written(size),
+    }
+}
+
+// 1 to 12: under any byte string as a tariff. The charge records go to the start of the statement; a refusal does not touch it.
+pub fn quote(tariff: &[u8], book: &[u8], trip: &[u8], statement: &mut [u8]) -> Answer
+    ensures { λ r. ⌜ TripQuoted (now (tariff .entry)) (now (book .entry)) (now (trip .entry)) (now (statement .entry)) (now (statement .exit)) r ⌝ }
+{
+    match readiness_of(tariff, book) {
+        Readiness::Refused { number, place } => Answer::Refused { number, place },
+        Readiness::Ready(counts) => quote_next(tariff, counts, book, trip, statement),
+    }
+}
+
+// Whether two byte strings are the same. The loop has no early way out, so that the compiler can take many bytes at a time.
+fn same_bytes(bytes: &[u8], other: &[u8]) -> bool
+    ensures { λ r. ⌜ r ≡ sameBytes (now (bytes .entry)) (now (other .entry)) ⌝ }
+{
+    if bytes.len() != other.len() {
+        return false;
+    }
+    let mut same = true;
+    for i in 0..other.len() {
+        same = same & (bytes[i] == other[i]);
+    }
+    same
+}
+
+// 5 to 11 and 13: on a book that is sound. The buffer has room for every statement, so 12 is never met.
+pub fn post_next(
+    tariff: &[u8],
+    counts: Counts,
+    book: &mut [u8],
+    trip: &[u8],
+    offered: &[u8],
+) -> Answer
+    requires { ⌜ Ready (now tariff) counts (now book) ⌝ }
+    ensures { λ r. ⌜ NextPosted (now (tariff .entry)) counts (now (book .entry)) (now (trip .entry)) (now (offered .entry)) (now (book .exit)) r ⌝ }
+{
+    let mut quote = [0u8; LARGEST_STATEMENT];
+    match state_trip(tariff, counts, book, trip, &mut quote) {
+        Stated::Refused(why) => Answer::Refused {
+            number: number(why),
+            place: 0,
+        },
+        Stated::Records {
+            size,
+            window,
+            checkout,
+            class,
+        } => {
+            if !same_bytes(&quote[..size], offered) {
+                return Answer::Refused {
+                    number: number(Refusal::OtherRecord),
+                    place: 0,
+                };
+            }
+            post_records(tariff, counts, book, window, checkout, class, &quote, size);
+            Answer::Written(book.len())
+        }
+    }
+}
+
+// 1 to 11 and 13: under any byte string as a tariff. The book is brought up to date; a refusal does not touch it.
+pub fn post_quote(tariff: &[u8], book: &mut [u8], trip: &[u8], offered: &[u8]) -> Answer
+    ensures { λ r. ⌜ TripPosted (now (tariff .entry)) (now (book .entry)) (now (trip .entry)) (now (offered .entry)) (now (book .exit)) r ⌝ }
+{
+    match readiness_of(tariff, book) {
+        Readiness::Refused { number, place } => Answer::Refused { number, place },
+        Readiness::Ready(counts) => post_next(tariff, counts, book, trip, offered),
+    }
+}

@@ -1,0 +1,5 @@
+-- No price is above 37,900 euros. Rules, section 8, give what makes it up (fare/Steps: price-most).
+use Prim.Native.Nat.{ℕ}
+
+abbrev pub mostPrice : ℕ
+mostPrice = 3790000
