@@ -337,7 +337,7 @@ module _ {first count : ℕ} {page page′ : List ℕ} (few : first + count ≤ 
 pub only-self : {first count : ℕ} {page : List ℕ} → OnlyIn first count page page
 only-self = record { size = refl; others = λ i out. refl }
 
-touched-in :
+pub touched-in :
     {first count place : ℕ} {page page′ : List ℕ} → Touched page page′ place → first ≤ place → place < first + count → OnlyIn first count page page′
 touched-in touched low high =
     record {

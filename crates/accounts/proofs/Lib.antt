@@ -4,8 +4,9 @@ pub mod Conditions
 pub mod Touching
 pub mod Effects
 pub mod Refusing
-pub mod Members
 pub mod Agreeing
 pub mod Halves
+pub mod Lending
+pub mod Members
 pub mod Sharing
 pub mod Placing

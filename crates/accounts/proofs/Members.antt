@@ -7,7 +7,7 @@ use native.Mathlib.Decide.{ℕ-discrete, decLt}
 use mathlib.Core.Path.{_≡_, refl, sym, ap, _∙_}
 use mathlib.Core.List.{List, [], _∷_}
 use mathlib.Core.Logic.{inr}
-use mathlib.Core.Bool.{true, false, not, false≢true}
+use mathlib.Core.Bool.{true, not, false≢true}
 use borrow.Author.Tests.{eq-eqb, ne-eqb}
 use lib.ListN.{length, getD, drop, length-take, length-drop, getD-replicate}
 use lib.Seq.{getD-take, getD-drop, ext-getD}
@@ -23,9 +23,11 @@ use Rattle.tariff.specs.Scan.{readTariff}
 use Rattle.tariff.specs.Areas.{Read}
 use Rattle.ledger.specs.Words.{bookSize, freshBook}
 use Rattle.ledger.proofs.WordLaws.{fresh-size}
-use Rattle.statement.specs.Record.{Part}
-use Rattle.settle.specs.Outcome.{Outcome, refused, accepted, settledUnder, settled, answerOf, bookAfter, statementAfter}
-use Rattle.settle.specs.Runs.{Offer, runFrom, bookFrom}
+use Rattle.statement.specs.Record.{largestStatement}
+use Rattle.settle.specs.Outcome.{Outcome, refused, accepted, quoted, settledUnder, settled, answerOf, partsPriced, bookAfter, statementAfter}
+use Rattle.settle.specs.Posting.{Posting, unposted, renewed, postingOf}
+use Rattle.settle.specs.Runs.{Offer}
+use Rattle.settle.specs.Steps.{posting, postedIn, stepOutcome, eachFrom, bookAfterEach}
 use Rattle.settle.proofs.Ways.{fault-way, faultless-way}
 use Rattle.accounts.specs.Pages.{
   numberSize,
@@ -48,7 +50,8 @@ use Rattle.accounts.specs.Pages.{
   memberSettled,
 }
 use Rattle.accounts.specs.Words.{InNone, Lowest, CanHave, Passing, Touched}
-use Rattle.accounts.specs.Calls.{Call, adds, closes, settles, pageWith, pageFrom, stays, offersOf, settlementsOf}
+use Rattle.accounts.specs.Lent.{placePosted, pagePosted}
+use Rattle.accounts.specs.Calls.{Call, adds, closes, settles, posts, pageWith, pageFrom, stays, stepsOf, settlementsOf}
 use Rattle.accounts.proofs.Replacing.{byte-there}
 use Rattle.accounts.proofs.Conditions.{found-there, not-both}
 use Rattle.accounts.proofs.Touching.{
@@ -90,6 +93,7 @@ use Rattle.accounts.proofs.Effects.{
   closes-there,
   Addable,
 }
+use Rattle.accounts.proofs.Lending.{settled-size, renewed-size, lends-there, posted-there, Lending, leaves, renews, lending}
 
 -- a member stands in a place of a page that passes
 pub record Stands (first count : ℕ) (page : List ℕ) (member place : ℕ) : Type 0 where
@@ -154,7 +158,7 @@ new-book page place member size there = ext-getD 0 (bookAt new place) freshBook 
 
 -- ---- What a call leaves.
 
-module _ (tariff : List ℕ) (first count : ℕ) (few : first + count ≤ places) where
+module _ (first count : ℕ) (few : first + count ≤ places) where
   -- another's place touched: the member stands as before, with the same book
   module _ {page page′ : List ℕ} {member place other : ℕ} (s : Stands first count page member place) (touched : Touched page page′ other)
       (ne : place ≡ other → ⊥) (passing : Passing first count page′) where
@@ -262,10 +266,10 @@ module _ (tariff : List ℕ) (first count : ℕ) (few : first + count ≤ places
           ]
 
   settled-other :
-      {page : List ℕ} {member place : ℕ} (other : ℕ) (o : Offer) → (other ≡ member → ⊥) → Stands first count page member place
+      (tariff : List ℕ) {page : List ℕ} {member place : ℕ} (other : ℕ) (o : Offer) → (other ≡ member → ⊥) → Stands first count page member place
       → Stands first count (bookAfter (memberSettled tariff first count page other (o .bytes) (o .room)) page) member place
       × (bookAt (bookAfter (memberSettled tariff first count page other (o .bytes) (o .room)) page) place ≡ bookAt page place)
-  settled-other {page} {member} {place} other o ne s = go (settling first count page other tariff (o .bytes) (o .room))
+  settled-other tariff {page} {member} {place} other o ne s = go (settling first count page other tariff (o .bytes) (o .room))
     where
       after :
           (counts : Counts) (q : ℕ) → Read tariff counts → Passing first count page → Lowest page other first count q → (out : Outcome)
@@ -288,9 +292,44 @@ module _ (tariff : List ℕ) (first count : ℕ) (few : first + count ≤ places
       go (settle-at counts q read p can l e) =
           rw e (after counts q read p l (settledUnder tariff counts (bookAt page q) (o .bytes) (o .room)) refl)
 
+  -- a trip posted in another place
+  posted-other :
+      (tariff : List ℕ) {page : List ℕ} {member place : ℕ} (other : ℕ) (trip offered : List ℕ) → (other ≡ place → ⊥)
+      → Stands first count page member place
+      → Stands first count (pagePosted page other (placePosted tariff first count page other trip offered)) member place
+      × (bookAt (pagePosted page other (placePosted tariff first count page other trip offered)) place ≡ bookAt page place)
+  posted-other tariff {page} {member} {place} other trip offered ne s = go (lending tariff first count page other trip offered)
+    where
+      go :
+          Lending tariff first count page other trip offered
+          → Stands first count (pagePosted page other (placePosted tariff first count page other trip offered)) member place
+          × (bookAt (pagePosted page other (placePosted tariff first count page other trip offered)) place ≡ bookAt page place)
+      go (leaves e) = rw e (s, refl)
+      go (renews {new} l long e) =
+          let (touched, passing) = settled-passing new (s .passing) (l .from) (l .within) long in
+          rw e (still-stands s touched (λ same. ne (sym same)) passing)
+
   -- ---- The member's own trips.
 
-  module _ {page : List ℕ} {member place : ℕ} (s : Stands first count page member place) (bytes : List ℕ) (room : ℕ) where
+  -- a new book in the member's place: the member stands there as before, with that book
+  renewed-stands :
+      {page : List ℕ} {member place : ℕ} → Stands first count page member place → (new : List ℕ) → length new ≡ bookSize
+      → Stands first count (replaced page (startOf place + numberSize) bookSize new) member place
+      × (bookAt (replaced page (startOf place + numberSize) bookSize new) place ≡ new)
+  renewed-stands {page} {member} {place} s new long =
+      let on-page : place < places = omega (arith, s .within, few) in
+      let (touched, passing) = settled-passing new (s .passing) (s .from) (s .within) long in (
+        record {
+          passing = passing;
+          can = s .can;
+          from = s .from;
+          within = s .within;
+          is = number-kept page place (s .passing .size) on-page new long ∙ s .is;
+        },
+        book-is page place (s .passing .size) on-page new long,
+      )
+
+  module _ (tariff : List ℕ) {page : List ℕ} {member place : ℕ} (s : Stands first count page member place) (bytes : List ℕ) (room : ℕ) where
     abbrev own : Outcome
     own = settled tariff (bookAt page place) bytes room
 
@@ -308,15 +347,6 @@ module _ (tariff : List ℕ) (first count : ℕ) (few : first + count ≤ places
             (found-there first count page member place (s .passing) (s .can) (s .from) (s .within) (s .is))
             ∙ ap (onPage page place) (sym (faultless-way tariff (bookAt page place) bytes room counts is))
 
-    own-size : {new : List ℕ} {parts : List Part} → own ≡ accepted new parts → length new ≡ bookSize
-    own-size {new} {parts} e = go (readTariff tariff) refl
-      where
-        go : (r : Reading) → readTariff tariff ≡ r → length new ≡ bookSize
-        go (Fault number at) is =
-            absurd (let z : _≡_ {A = ℕ} 0 1 = cc (fault-way tariff (bookAt page place) bytes room number at is, e) in omega arith)
-        go (Faultless counts) is =
-            accepted-size tariff counts is (bookAt page place) bytes room (sym (faultless-way tariff (bookAt page place) bytes room counts is) ∙ e)
-
     -- what is left for the member, and what the trip came to on the place's book
     pub record OwnLeft (page′ : List ℕ) : Type 0 where
       pub stands : Stands first count page′ member place
@@ -329,40 +359,48 @@ module _ (tariff : List ℕ) (first count : ℕ) (few : first + count ≤ places
         go : (out : Outcome) → own ≡ out → OwnLeft (bookAfter (onPage page place own) page)
         go (refused number at) is = rw is (record { stands = s; book = rw is; outcome = rw (own-settled, is) })
         go (accepted new parts) is =
-            let long = own-size is in
-            let on-page : place < places = omega (arith, s .within, few) in
-            let (touched, passing) = settled-passing new (s .passing) (s .from) (s .within) long in
-            let book-there = book-is page place (s .passing .size) on-page new long in
-            rw is
-            (record {
-              stands = record {
-                passing = passing;
-                can = s .can;
-                from = s .from;
-                within = s .within;
-                is = number-kept page place (s .passing .size) on-page new long ∙ s .is;
-              };
-              book = rw is book-there;
-              outcome = rw (own-settled, is, book-there);
-            })
+            let (stands, book-there) = renewed-stands s new (settled-size tariff (bookAt page place) bytes room is) in
+            rw is (record { stands = stands; book = rw is book-there; outcome = rw (own-settled, is, book-there) })
+
+  -- A trip posted on the member's book leaves the book that it leaves by itself.
+  module _ (tariff : List ℕ) {page : List ℕ} {member place : ℕ} (s : Stands first count page member place) (trip offered : List ℕ) where
+    abbrev page-posted : List ℕ
+    page-posted = pagePosted page place (placePosted tariff first count page place trip offered)
+
+    pub own-posted :
+        Stands first count page-posted member place
+        × (bookAt page-posted place ≡ bookAfter (stepOutcome tariff (bookAt page place) (posting trip offered)) (bookAt page place))
+    unfolding stepOutcome
+    own-posted =
+        let there =
+        posted-there tariff first count page place trip offered
+        (lends-there first count page place (record { size = s .passing .size; from = s .from; within = s .within }))
+        in
+        rw there (go (postingOf tariff (bookAt page place) trip offered) refl)
+      where
+        go :
+            (p : Posting) → postingOf tariff (bookAt page place) trip offered ≡ p
+            → Stands first count (pagePosted page place p) member place
+            × (bookAt (pagePosted page place p) place
+            ≡ bookAfter (postedIn (partsPriced (quoted tariff (bookAt page place) trip largestStatement)) p) (bookAt page place))
+        go (unposted number at) is = (s, refl)
+        go (renewed new) is = renewed-stands s new (renewed-size tariff (bookAt page place) trip offered is)
 
   -- ---- Calls one after another.
 
   -- what calls leave for a member whose account none of them closes: the member still stands there; the trips came to what they come to
   -- when settled one after another on the book that stood there; and the book is the one that this leaves
   pub record Kept (page : List ℕ) (member place : ℕ) (calls : List Call) : Type 0 where
-    pub stands : Stands first count (pageFrom tariff first count page calls) member place
-    pub settlements :
-        settlementsOf tariff first count page member place calls ≡ runFrom tariff (bookAt page place) (offersOf member calls)
-    pub book : bookAt (pageFrom tariff first count page calls) place ≡ bookFrom tariff (bookAt page place) (offersOf member calls)
+    pub stands : Stands first count (pageFrom first count page calls) member place
+    pub settlements : settlementsOf first count page member place calls ≡ eachFrom (bookAt page place) (stepsOf member place calls)
+    pub book : bookAt (pageFrom first count page calls) place ≡ bookAfterEach (bookAt page place) (stepsOf member place calls)
 
   -- one call that leaves the member's book, and then others
   kept-on :
       {page : List ℕ} {member place : ℕ} (call : Call) (calls : List Call)
-      → bookAt (pageWith tariff first count page call) place ≡ bookAt page place
-      → settlementsOf tariff first count page member place (call ∷ calls)
-      ≡ settlementsOf tariff first count (pageWith tariff first count page call) member place calls
-      → offersOf member (call ∷ calls) ≡ offersOf member calls → Kept (pageWith tariff first count page call) member place calls
+      → bookAt (pageWith first count page call) place ≡ bookAt page place
+      → settlementsOf first count page member place (call ∷ calls) ≡ settlementsOf first count (pageWith first count page call) member place calls
+      → stepsOf member place (call ∷ calls) ≡ stepsOf member place calls → Kept (pageWith first count page call) member place calls
       → Kept page member place (call ∷ calls)
   unfolding pageFrom
   kept-on call calls same its none k =
@@ -374,21 +412,34 @@ module _ (tariff : List ℕ) (first count : ℕ) (few : first + count ≤ places
 
   -- one of the member's own, and then others
   kept-own :
-      {page : List ℕ} {member place : ℕ} (s : Stands first count page member place) (o : Offer) (calls : List Call)
-      → Kept (pageWith tariff first count page (settles member o)) member place calls → Kept page member place (settles member o ∷ calls)
-  unfolding pageFrom pageWith offersOf settlementsOf runFrom bookFrom
-  kept-own {page} {member} {place} s o calls k =
-      let left = own-left s (o .bytes) (o .room) in
+      (tariff : List ℕ) {page : List ℕ} {member place : ℕ} (s : Stands first count page member place) (o : Offer) (calls : List Call)
+      → Kept (pageWith first count page (settles tariff member o)) member place calls → Kept page member place (settles tariff member o ∷ calls)
+  unfolding pageFrom pageWith stepsOf settlementsOf eachFrom bookAfterEach stepOutcome
+  kept-own tariff {page} {member} {place} s o calls k =
+      let left = own-left tariff s (o .bytes) (o .room) in
       record {
         stands = k .stands;
         settlements = rw (eq-eqb member member refl, left .outcome, k .settlements, left .book);
         book = rw (eq-eqb member member refl) (k .book ∙ rw (left .book));
       }
 
+  kept-posted :
+      (tariff : List ℕ) {page : List ℕ} {member place : ℕ} (s : Stands first count page member place) (trip offered : List ℕ) (calls : List Call)
+      → Kept (pageWith first count page (posts tariff place trip offered)) member place calls
+      → Kept page member place (posts tariff place trip offered ∷ calls)
+  unfolding pageFrom pageWith stepsOf settlementsOf eachFrom bookAfterEach
+  kept-posted tariff {page} {member} {place} s trip offered calls k =
+      let left = own-posted tariff s trip offered .1 in
+      record {
+        stands = k .stands;
+        settlements = rw (eq-eqb place place refl, k .settlements, left);
+        book = rw (eq-eqb place place refl) (k .book ∙ rw left);
+      }
+
   pub member-kept :
       (calls : List Call) {page : List ℕ} {member place : ℕ} → Stands first count page member place → stays member calls ≡ true
       → Kept page member place calls
-  unfolding pageFrom pageWith stays offersOf settlementsOf runFrom bookFrom
+  unfolding pageFrom pageWith stays stepsOf settlementsOf eachFrom bookAfterEach
   member-kept [] s stay = record { stands = s; settlements = refl; book = refl }
   member-kept (adds other ∷ calls) s stay =
       let (s′, same) = added-other other s in
@@ -401,12 +452,19 @@ module _ (tariff : List ℕ) (first count : ℕ) (few : first + count ≤ places
             kept-on (closes other) calls same refl refl
             (member-kept calls s′ (both-right (not (eqb other member)) (stays member calls) stay))
       ]
-  member-kept (settles other o ∷ calls) {page} {member} {place} s stay =
+  member-kept (settles tariff other o ∷ calls) {page} {member} {place} s stay =
       elim (ℕ-discrete other member) [
         | no ne ↦
-            let (s′, same) = settled-other other o ne s in
-            kept-on (settles other o) calls same (rw (ne-eqb other member ne)) (rw (ne-eqb other member ne)) (member-kept calls s′ stay)
-        | yes e ↦ rw e (kept-own s o calls (member-kept calls (own-left s (o .bytes) (o .room) .stands) stay))
+            let (s′, same) = settled-other tariff other o ne s in
+            kept-on (settles tariff other o) calls same (rw (ne-eqb other member ne)) (rw (ne-eqb other member ne)) (member-kept calls s′ stay)
+        | yes e ↦ rw e (kept-own tariff s o calls (member-kept calls (own-left tariff s (o .bytes) (o .room) .stands) stay))
+      ]
+  member-kept (posts tariff other trip offered ∷ calls) {page} {member} {place} s stay =
+      elim (ℕ-discrete other place) [
+        | no ne ↦
+            let (s′, same) = posted-other tariff other trip offered ne s in
+            kept-on (posts tariff other trip offered) calls same (rw (ne-eqb other place ne)) (rw (ne-eqb other place ne)) (member-kept calls s′ stay)
+        | yes e ↦ rw e (kept-posted tariff s trip offered calls (member-kept calls (own-posted tariff s trip offered .0) stay))
       ]
 
   -- ---- From adding to closing.
@@ -436,11 +494,10 @@ module _ (tariff : List ℕ) (first count : ℕ) (few : first + count ≤ places
     pub lowest : Lowest page 0 first count place
     pub page-added : List ℕ
     pub added-is : added first count page member ≡ changed page-added
-    pub settlements :
-        settlementsOf tariff first count page-added member place calls ≡ runFrom tariff freshBook (offersOf member calls)
-    pub book : bookAt (pageFrom tariff first count page-added calls) place ≡ bookFrom tariff freshBook (offersOf member calls)
-    pub stands : Stands first count (pageFrom tariff first count page-added calls) member place
-    pub closing : ClosedThere (pageFrom tariff first count page-added calls) member place
+    pub settlements : settlementsOf first count page-added member place calls ≡ eachFrom freshBook (stepsOf member place calls)
+    pub book : bookAt (pageFrom first count page-added calls) place ≡ bookAfterEach freshBook (stepsOf member place calls)
+    pub stands : Stands first count (pageFrom first count page-added calls) member place
+    pub closing : ClosedThere (pageFrom first count page-added calls) member place
 
   -- On any page that passes, lacks the member and has a free place, whatever the books on it hold.
   pub from-adding-to-closing :

@@ -10,10 +10,12 @@ use mathlib.Core.Bool.{true}
 use borrow.Author.Tests.{eq-eqb, ne-eqb}
 use Rattle.ledger.specs.Words.{freshBook}
 use Rattle.statement.specs.Record.{statementOf}
-use Rattle.settle.specs.Runs.{Settlement, runFrom, bookFrom}
+use Rattle.settle.specs.Posting.{postingAnswer}
+use Rattle.settle.specs.Runs.{Settlement}
+use Rattle.settle.specs.Steps.{eachFrom, bookAfterEach}
 use Rattle.accounts.specs.Pages.{places, bookAt, changed}
 use Rattle.accounts.specs.Words.{InNone, Lowest}
-use Rattle.accounts.specs.Calls.{Call, adds, closes, settles, pageWith, pageFrom, stays, offersOf, settlementsOf}
+use Rattle.accounts.specs.Calls.{Call, adds, closes, settles, posts, pageWith, pageFrom, stays, stepsOf, settlementsOf}
 use Rattle.accounts.specs.Associations.{ownPlaces, firstPlace, addedFor, closedFor, Association, AgreeFor, OnlyOf}
 use Rattle.accounts.specs.Sharing.{
   Asked,
@@ -43,6 +45,7 @@ use Rattle.accounts.proofs.Halves.{
   settling-only,
   other-agrees,
 }
+use Rattle.accounts.proofs.Lending.{posted-for, posting-only, posting-alike}
 
 -- ---- One call.
 
@@ -52,62 +55,66 @@ same-reply :
 same-reply one two three = rw (one, two, three)
 
 -- Two pages of one length that agree in an association's places give it equal replies to the same call, and agree there afterwards.
-module _ (tariff : List ℕ) (association : ℕ) {page page′ : List ℕ} (agree : AgreeFor association page page′) where
+module _ (association : ℕ) {page page′ : List ℕ} (agree : AgreeFor association page page′) where
   pub call-alike :
       (call : Call)
-      → (replyTo tariff association page call ≡ replyTo tariff association page′ call)
-      × AgreeFor association (pageWithFor tariff association page call) (pageWithFor tariff association page′ call)
+      → (replyTo association page call ≡ replyTo association page′ call)
+      × AgreeFor association (pageWithFor association page call) (pageWithFor association page′ call)
   unfolding replyTo pageWithFor
   call-alike (adds member) =
       let a = adding-alike association agree member in (same-reply (a .answers) refl (a .pages .same), a .pages)
   call-alike (closes member) =
       let a = closing-alike association agree member in (same-reply (a .answers) refl (a .pages .same), a .pages)
-  call-alike (settles member o) =
+  call-alike (settles tariff member o) =
       let a = settling-alike association agree member tariff (o .bytes) (o .room) in
       (same-reply (a .answers) (ap statementOf (a .parts)) (a .pages .same), a .pages)
+  call-alike (posts tariff place trip offered) =
+      let a = posting-alike association agree tariff place trip offered in
+      (same-reply (ap postingAnswer (a .same)) refl (a .pages .same), a .pages)
 
 -- No call changes a byte outside of its association's places.
-pub call-only : (tariff : List ℕ) (association : ℕ) (page : List ℕ) (call : Call) → OnlyOf association page (pageWithFor tariff association page call)
+pub call-only : (association : ℕ) (page : List ℕ) (call : Call) → OnlyOf association page (pageWithFor association page call)
 unfolding pageWithFor
-call-only tariff association page (adds member) = adding-only association page member
-call-only tariff association page (closes member) = closing-only association page member
-call-only tariff association page (settles member o) = settling-only association page member tariff (o .bytes) (o .room)
+call-only association page (adds member) = adding-only association page member
+call-only association page (closes member) = closing-only association page member
+call-only association page (settles tariff member o) = settling-only association page member tariff (o .bytes) (o .room)
+call-only association page (posts tariff place trip offered) = posting-only tariff association page place trip offered
 
 -- So it leaves the other's places as they were, also where both have a member with the same number: these are two people.
 pub other-left :
-    (tariff : List ℕ) (association other : ℕ) (page : List ℕ) (call : Call) → (association ≡ other → ⊥)
-    → AgreeFor other page (pageWithFor tariff association page call)
-other-left tariff association other page call ne = other-agrees ne (call-only tariff association page call)
+    (association other : ℕ) (page : List ℕ) (call : Call) → (association ≡ other → ⊥)
+    → AgreeFor other page (pageWithFor association page call)
+other-left association other page call ne = other-agrees ne (call-only association page call)
 
 -- ---- Some calls.
 
-module _ (tariff : List ℕ) (association : ℕ) where
+module _ (association : ℕ) where
   -- an association by itself: its page and its replies where only it calls
   unfoldable pageAlone : List ℕ → List Call → List ℕ
   pageAlone page [] = page
-  pageAlone page (call ∷ calls) = pageAlone (pageWithFor tariff association page call) calls
+  pageAlone page (call ∷ calls) = pageAlone (pageWithFor association page call) calls
 
   unfoldable repliesAlone : List ℕ → List Call → List Reply
   repliesAlone page [] = []
-  repliesAlone page (call ∷ calls) = replyTo tariff association page call ∷ repliesAlone (pageWithFor tariff association page call) calls
+  repliesAlone page (call ∷ calls) = replyTo association page call ∷ repliesAlone (pageWithFor association page call) calls
 
   -- a call of the other leaves its places
   other-call :
       {page page′ : List ℕ} (asked : Asked) → (asked .association ≡ association → ⊥) → AgreeFor association page page′
-      → AgreeFor association (pageWithFor tariff (asked .association) page (asked .call)) page′
+      → AgreeFor association (pageWithFor (asked .association) page (asked .call)) page′
   other-call {page} asked ne agree =
-      agree-trans (agree-sym (other-left tariff (asked .association) association page (asked .call) ne)) agree
+      agree-trans (agree-sym (other-left (asked .association) association page (asked .call) ne)) agree
 
   alone :
       (calls : List Asked) {page page′ : List ℕ} → AgreeFor association page page′
-      → (repliesTo tariff association page calls ≡ repliesAlone page′ (callsOf association calls))
-      × AgreeFor association (pageShared tariff page calls) (pageAlone page′ (callsOf association calls))
+      → (repliesTo association page calls ≡ repliesAlone page′ (callsOf association calls))
+      × AgreeFor association (pageShared page calls) (pageAlone page′ (callsOf association calls))
   unfolding repliesTo callsOf pageShared repliesAlone pageAlone
   alone [] agree = (refl, agree)
   alone (asked ∷ later) {page} {page′} agree =
       elim (ℕ-discrete (asked .association) association) [
         | yes e ↦
-            let (same, next) = call-alike tariff association agree (asked .call) in
+            let (same, next) = call-alike association agree (asked .call) in
             let (rest, pages) = alone later next in
             rw (eq-eqb (asked .association) association e, e) (rw (same, rest), pages)
         | no ne ↦ rw (ne-eqb (asked .association) association ne) (alone later (other-call asked ne agree))
@@ -117,8 +124,8 @@ module _ (tariff : List ℕ) (association : ℕ) where
   -- its replies are equal, and so are its places at the end.
   pub runs-alike :
       (calls calls′ : List Asked) {page page′ : List ℕ} → AgreeFor association page page′ → callsOf association calls ≡ callsOf association calls′
-      → (repliesTo tariff association page calls ≡ repliesTo tariff association page′ calls′)
-      × AgreeFor association (pageShared tariff page calls) (pageShared tariff page′ calls′)
+      → (repliesTo association page calls ≡ repliesTo association page′ calls′)
+      × AgreeFor association (pageShared page calls) (pageShared page′ calls′)
   runs-alike calls calls′ {page} {page′} agree same =
       let (one, pages) = alone calls agree in
       let (other, pages′) = alone calls′ (agree-self {page = page′}) in (
@@ -128,26 +135,28 @@ module _ (tariff : List ℕ) (association : ℕ) where
 
 -- ---- A member's trips.
 
-module _ (tariff : List ℕ) (association : ℕ) (is : Association association) where
+module _ (association : ℕ) (is : Association association) where
   -- a call in an association's places
-  with-for : (page : List ℕ) (call : Call) → pageWithFor tariff association page call ≡ pageWith tariff (firstPlace association) ownPlaces page call
+  with-for : (page : List ℕ) (call : Call) → pageWithFor association page call ≡ pageWith (firstPlace association) ownPlaces page call
   unfolding pageWithFor pageWith
   with-for page (adds member) = rw (added-for association page member (one-is is))
   with-for page (closes member) = rw (closed-for association page member (one-is is))
-  with-for page (settles member o) = rw (settled-for association page member tariff (o .bytes) (o .room) (one-is is))
+  with-for page (settles tariff member o) = rw (settled-for association page member tariff (o .bytes) (o .room) (one-is is))
+  with-for page (posts tariff place trip offered) = rw (posted-for tariff association page place trip offered (one-is is))
 
   module _ (member place : ℕ) (low : firstPlace association ≤ place) (high : place < firstPlace association + ownPlaces) where
     -- one of its calls, before others
     before :
         (call : Call) (calls : List Call) {page page′ : List ℕ} {later : List Settlement} → AgreeFor association page page′
         → later
-        ≡ settlementsOf tariff (firstPlace association) ownPlaces (pageWith tariff (firstPlace association) ownPlaces page′ call) member place calls
-        → settlementBefore tariff association page member place call later
-        ≡ settlementsOf tariff (firstPlace association) ownPlaces page′ member place (call ∷ calls)
+        ≡ settlementsOf (firstPlace association) ownPlaces (pageWith (firstPlace association) ownPlaces page′ call) member place calls
+        → settlementBefore association page member place call later
+        ≡ settlementsOf (firstPlace association) ownPlaces page′ member place (call ∷ calls)
     unfolding settlementBefore settlementsOf
     before (adds other) calls agree e = e
     before (closes other) calls agree e = e
-    before (settles other o) calls {page} {page′} agree e =
+    before (posts tariff other trip offered) calls {page} {page′} agree e = rw (book-agrees agree place low high, e)
+    before (settles tariff other o) calls {page} {page′} agree e =
         let a = settling-alike association agree other tariff (o .bytes) (o .room) in
         rw (
           book-agrees agree place low high,
@@ -159,20 +168,20 @@ module _ (tariff : List ℕ) (association : ℕ) (is : Association association) 
     -- what a member's trips come to, and the places that are left, are those of the association's calls alone
     own-calls :
         (calls : List Asked) {page page′ : List ℕ} → AgreeFor association page page′
-        → (settlementsFor tariff association page member place calls
-        ≡ settlementsOf tariff (firstPlace association) ownPlaces page′ member place (callsOf association calls))
-        × AgreeFor association (pageShared tariff page calls)
-        (pageFrom tariff (firstPlace association) ownPlaces page′ (callsOf association calls))
+        → (settlementsFor association page member place calls
+        ≡ settlementsOf (firstPlace association) ownPlaces page′ member place (callsOf association calls))
+        × AgreeFor association (pageShared page calls)
+        (pageFrom (firstPlace association) ownPlaces page′ (callsOf association calls))
     unfolding settlementsFor callsOf pageShared pageFrom settlementsOf
     own-calls [] agree = (refl, agree)
     own-calls (asked ∷ later) {page} {page′} agree =
         elim (ℕ-discrete (asked .association) association) [
           | yes e ↦
-              let next = rw (with-for page′ (asked .call)) at (call-alike tariff association agree (asked .call) .1) in
+              let next = rw (with-for page′ (asked .call)) at (call-alike association agree (asked .call) .1) in
               let (rest, pages) = own-calls later next in
               rw (eq-eqb (asked .association) association e, e) (before (asked .call) (callsOf association later) agree rest, pages)
           | no ne ↦
-              rw (ne-eqb (asked .association) association ne) (own-calls later (other-call tariff association asked ne agree))
+              rw (ne-eqb (asked .association) association ne) (own-calls later (other-call association asked ne agree))
         ]
 
   -- a member stands on every page that agrees
@@ -204,11 +213,11 @@ module _ (tariff : List ℕ) (association : ℕ) (is : Association association) 
     pub page-added : List ℕ
     pub added-is : addedFor association page member ≡ changed page-added
     pub settlements :
-        settlementsFor tariff association page-added member place calls ≡ runFrom tariff freshBook (offersOf member (callsOf association calls))
-    pub book : bookAt (pageShared tariff page-added calls) place ≡ bookFrom tariff freshBook (offersOf member (callsOf association calls))
+        settlementsFor association page-added member place calls ≡ eachFrom freshBook (stepsOf member place (callsOf association calls))
+    pub book : bookAt (pageShared page-added calls) place ≡ bookAfterEach freshBook (stepsOf member place (callsOf association calls))
     pub closing :
-        ClosedThere tariff (firstPlace association) ownPlaces (few-own is) (pageShared tariff page-added calls) member place
-    pub closed-is : closedFor association (pageShared tariff page-added calls) member ≡ changed (closing .page-closed)
+        ClosedThere (firstPlace association) ownPlaces (few-own is) (pageShared page-added calls) member place
+    pub closed-is : closedFor association (pageShared page-added calls) member ≡ changed (closing .page-closed)
 
   -- On any page whose half passes, lacks the member and has a free place, whatever else the page holds.
   pub shared-from-adding-to-closing :
@@ -217,12 +226,12 @@ module _ (tariff : List ℕ) (association : ℕ) (is : Association association) 
       → OwnBookFor page member calls
   shared-from-adding-to-closing page member calls a free stay =
       let own =
-      from-adding-to-closing tariff (firstPlace association) ownPlaces (few-own is) page member (callsOf association calls) a free stay
+      from-adding-to-closing (firstPlace association) ownPlaces (few-own is) page member (callsOf association calls) a free stay
       in
       let low = own .lowest .from in
       let high = own .lowest .within in
       let (settlements, pages) = own-calls member (own .place) low high calls (agree-self {page = own .page-added}) in
-      let closing = closed-there tariff (firstPlace association) ownPlaces (few-own is) (stands-alike pages (own .stands)) in
+      let closing = closed-there (firstPlace association) ownPlaces (few-own is) (stands-alike pages (own .stands)) in
       record {
         place = own .place;
         lowest = own .lowest;
@@ -231,5 +240,5 @@ module _ (tariff : List ℕ) (association : ℕ) (is : Association association) 
         settlements = settlements ∙ own .settlements;
         book = book-agrees pages (own .place) low high ∙ own .book;
         closing = closing;
-        closed-is = closed-for association (pageShared tariff (own .page-added) calls) member (one-is is) ∙ closing .closed-is;
+        closed-is = closed-for association (pageShared (own .page-added) calls) member (one-is is) ∙ closing .closed-is;
       }

@@ -1,50 +1,66 @@
--- Calls on a page one after another: members added, closed, and settled trip by trip, in any order and for any members.
+-- Calls on a page one after another: members added, closed, and settled trip by trip, and trips posted on the book in a place, in any order,
+-- for any members and each under any tariff.
 use Prim.Native.Nat.{ℕ}
 use mathlib.Core.List.{List, [], _∷_}
 use mathlib.Core.Bool.{Bool, true, cond, not, _&&_}
 use lib.Dec.{eqb}
 use Rattle.settle.specs.Outcome.{bookAfter}
 use Rattle.settle.specs.Runs.{Offer, Settlement}
+use Rattle.settle.specs.Steps.{settling, posting, offerOf, stepOutcome, StepUnder}
 use Rattle.accounts.specs.Pages.{bookAt, added, closed, pageAfter, onBook, memberSettled}
+use Rattle.accounts.specs.Lent.{placePosted, pagePosted}
 
+-- settling takes a tariff, a member and a trip; a posting a tariff, a place, a trip and a record
 pub data Call : Type 0 where
   adds : ℕ → Call
   closes : ℕ → Call
-  settles : ℕ → Offer → Call
+  settles : List ℕ → ℕ → Offer → Call
+  posts : List ℕ → ℕ → List ℕ → List ℕ → Call
 
 -- the page that a call leaves
-unfoldable pub pageWith : List ℕ → ℕ → ℕ → List ℕ → Call → List ℕ
-pageWith tariff first count page (adds member) = pageAfter (added first count page member) page
-pageWith tariff first count page (closes member) = pageAfter (closed first count page member) page
-pageWith tariff first count page (settles member o) = bookAfter (memberSettled tariff first count page member (o .bytes) (o .room)) page
+unfoldable pub pageWith : ℕ → ℕ → List ℕ → Call → List ℕ
+pageWith first count page (adds member) = pageAfter (added first count page member) page
+pageWith first count page (closes member) = pageAfter (closed first count page member) page
+pageWith first count page (settles tariff member o) = bookAfter (memberSettled tariff first count page member (o .bytes) (o .room)) page
+pageWith first count page (posts tariff place trip offered) = pagePosted page place (placePosted tariff first count page place trip offered)
 
 -- and some calls
-unfoldable pub pageFrom : List ℕ → ℕ → ℕ → List ℕ → List Call → List ℕ
-pageFrom tariff first count page [] = page
-pageFrom tariff first count page (call ∷ calls) = pageFrom tariff first count (pageWith tariff first count page call) calls
+unfoldable pub pageFrom : ℕ → ℕ → List ℕ → List Call → List ℕ
+pageFrom first count page [] = page
+pageFrom first count page (call ∷ calls) = pageFrom first count (pageWith first count page call) calls
 
 -- no call closes the member's account
 unfoldable pub stays : ℕ → List Call → Bool
 stays member [] = true
 stays member (adds other ∷ calls) = stays member calls
 stays member (closes other ∷ calls) = not (eqb other member) && stays member calls
-stays member (settles other o ∷ calls) = stays member calls
+stays member (settles tariff other o ∷ calls) = stays member calls
+stays member (posts tariff place trip offered ∷ calls) = stays member calls
 
--- the trips that are offered for a member
-unfoldable pub offersOf : ℕ → List Call → List Offer
-offersOf member [] = []
-offersOf member (adds other ∷ calls) = offersOf member calls
-offersOf member (closes other ∷ calls) = offersOf member calls
-offersOf member (settles other o ∷ calls) = cond (eqb other member) (o ∷ offersOf member calls) (offersOf member calls)
+-- the steps of a member in a place: the trips that are settled for the member, and those that are posted in the place, each with its tariff
+unfoldable pub stepsOf : ℕ → ℕ → List Call → List StepUnder
+stepsOf member place [] = []
+stepsOf member place (adds other ∷ calls) = stepsOf member place calls
+stepsOf member place (closes other ∷ calls) = stepsOf member place calls
+stepsOf member place (settles tariff other o ∷ calls) =
+    let later = stepsOf member place calls in
+    cond (eqb other member) (record { tariff = tariff; step = settling o } ∷ later) later
+stepsOf member place (posts tariff other trip offered ∷ calls) =
+    let later = stepsOf member place calls in
+    cond (eqb other place) (record { tariff = tariff; step = posting trip offered } ∷ later) later
 
--- what they came to, with the book that stood in a place before each
-unfoldable pub settlementsOf : List ℕ → ℕ → ℕ → List ℕ → ℕ → ℕ → List Call → List Settlement
-settlementsOf tariff first count page member place [] = []
-settlementsOf tariff first count page member place (adds other ∷ calls) =
-    settlementsOf tariff first count (pageWith tariff first count page (adds other)) member place calls
-settlementsOf tariff first count page member place (closes other ∷ calls) =
-    settlementsOf tariff first count (pageWith tariff first count page (closes other)) member place calls
-settlementsOf tariff first count page member place (settles other o ∷ calls) =
+-- what they came to, with the book that stood in the place before each
+unfoldable pub settlementsOf : ℕ → ℕ → List ℕ → ℕ → ℕ → List Call → List Settlement
+settlementsOf first count page member place [] = []
+settlementsOf first count page member place (adds other ∷ calls) =
+    settlementsOf first count (pageWith first count page (adds other)) member place calls
+settlementsOf first count page member place (closes other ∷ calls) =
+    settlementsOf first count (pageWith first count page (closes other)) member place calls
+settlementsOf first count page member place (settles tariff other o ∷ calls) =
     let outcome = memberSettled tariff first count page other (o .bytes) (o .room) in
-    let later = settlementsOf tariff first count (pageWith tariff first count page (settles other o)) member place calls in
+    let later = settlementsOf first count (pageWith first count page (settles tariff other o)) member place calls in
     cond (eqb other member) (record { book = bookAt page place; offer = o; outcome = onBook place outcome } ∷ later) later
+settlementsOf first count page member place (posts tariff other trip offered ∷ calls) =
+    let outcome = stepOutcome tariff (bookAt page place) (posting trip offered) in
+    let later = settlementsOf first count (pageWith first count page (posts tariff other trip offered)) member place calls in
+    cond (eqb other place) (record { book = bookAt page place; offer = offerOf (posting trip offered); outcome = outcome } ∷ later) later

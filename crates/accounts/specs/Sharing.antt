@@ -1,14 +1,17 @@
--- Both associations call on one page, one after another and in any order.
+-- Both associations call on one page, one after another and in any order, each call under a tariff of its own.
 use Prim.Native.Nat.{ℕ}
 use mathlib.Core.List.{List, [], _∷_}
 use mathlib.Core.Bool.{cond}
 use lib.Dec.{eqb}
 use Rattle.statement.specs.Record.{statementOf}
 use Rattle.settle.specs.Outcome.{Outcome, answerOf, partsIn, bookAfter}
+use Rattle.settle.specs.Posting.{Posting, postingAnswer}
 use Rattle.settle.specs.Runs.{Settlement}
+use Rattle.settle.specs.Steps.{posting, offerOf, stepOutcome}
 use Rattle.accounts.specs.Pages.{bookAt, Change, pageAfter, changeAnswer, onBook}
-use Rattle.accounts.specs.Calls.{Call, adds, closes, settles}
+use Rattle.accounts.specs.Calls.{Call, adds, closes, settles, posts}
 use Rattle.accounts.specs.Associations.{placesOf, addedFor, closedFor, settledFor}
+use Rattle.accounts.specs.Lent.{postedFor, pagePosted}
 
 -- a call, and the association whose it is
 pub record Asked : Type 0 where
@@ -16,16 +19,18 @@ pub record Asked : Type 0 where
   pub call : Call
 
 -- the page that a call of an association leaves
-unfoldable pub pageWithFor : List ℕ → ℕ → List ℕ → Call → List ℕ
-pageWithFor tariff association page (adds member) = pageAfter (addedFor association page member) page
-pageWithFor tariff association page (closes member) = pageAfter (closedFor association page member) page
-pageWithFor tariff association page (settles member o) =
+unfoldable pub pageWithFor : ℕ → List ℕ → Call → List ℕ
+pageWithFor association page (adds member) = pageAfter (addedFor association page member) page
+pageWithFor association page (closes member) = pageAfter (closedFor association page member) page
+pageWithFor association page (settles tariff member o) =
     bookAfter (settledFor tariff association page member (o .bytes) (o .room)) page
+pageWithFor association page (posts tariff place trip offered) =
+    pagePosted page place (postedFor tariff association page place trip offered)
 
 -- and some calls
-unfoldable pub pageShared : List ℕ → List ℕ → List Asked → List ℕ
-pageShared tariff page [] = page
-pageShared tariff page (asked ∷ later) = pageShared tariff (pageWithFor tariff (asked .association) page (asked .call)) later
+unfoldable pub pageShared : List ℕ → List Asked → List ℕ
+pageShared page [] = page
+pageShared page (asked ∷ later) = pageShared (pageWithFor (asked .association) page (asked .call)) later
 
 -- the calls of one association
 unfoldable pub callsOf : ℕ → List Asked → List Call
@@ -53,32 +58,41 @@ tripReply outcome association page =
       places = placesOf association (bookAfter outcome page);
     }
 
-unfoldable pub replyTo : List ℕ → ℕ → List ℕ → Call → Reply
-replyTo tariff association page (adds member) = changeReply (addedFor association page member) association page
-replyTo tariff association page (closes member) = changeReply (closedFor association page member) association page
-replyTo tariff association page (settles member o) =
+abbrev pub postingReply : Posting → ℕ → List ℕ → ℕ → Reply
+postingReply posted association page place =
+    record { answer = postingAnswer posted; written = []; places = placesOf association (pagePosted page place posted) }
+
+unfoldable pub replyTo : ℕ → List ℕ → Call → Reply
+replyTo association page (adds member) = changeReply (addedFor association page member) association page
+replyTo association page (closes member) = changeReply (closedFor association page member) association page
+replyTo association page (settles tariff member o) =
     tripReply (settledFor tariff association page member (o .bytes) (o .room)) association page
+replyTo association page (posts tariff place trip offered) =
+    postingReply (postedFor tariff association page place trip offered) association page place
 
 -- of its calls among all, first to last
-unfoldable pub repliesTo : List ℕ → ℕ → List ℕ → List Asked → List Reply
-repliesTo tariff association page [] = []
-repliesTo tariff association page (asked ∷ later) =
-    let rest = repliesTo tariff association (pageWithFor tariff (asked .association) page (asked .call)) later in
-    cond (eqb (asked .association) association) (replyTo tariff association page (asked .call) ∷ rest) rest
+unfoldable pub repliesTo : ℕ → List ℕ → List Asked → List Reply
+repliesTo association page [] = []
+repliesTo association page (asked ∷ later) =
+    let rest = repliesTo association (pageWithFor (asked .association) page (asked .call)) later in
+    cond (eqb (asked .association) association) (replyTo association page (asked .call) ∷ rest) rest
 
 -- ---- A member's trips.
 
 -- what a call came to for a member in a place, before those that came later
-unfoldable pub settlementBefore : List ℕ → ℕ → List ℕ → ℕ → ℕ → Call → List Settlement → List Settlement
-settlementBefore tariff association page member place (adds other) later = later
-settlementBefore tariff association page member place (closes other) later = later
-settlementBefore tariff association page member place (settles other o) later =
+unfoldable pub settlementBefore : ℕ → List ℕ → ℕ → ℕ → Call → List Settlement → List Settlement
+settlementBefore association page member place (adds other) later = later
+settlementBefore association page member place (closes other) later = later
+settlementBefore association page member place (settles tariff other o) later =
     let outcome = settledFor tariff association page other (o .bytes) (o .room) in
     cond (eqb other member) (record { book = bookAt page place; offer = o; outcome = onBook place outcome } ∷ later) later
+settlementBefore association page member place (posts tariff other trip offered) later =
+    let outcome = stepOutcome tariff (bookAt page place) (posting trip offered) in
+    cond (eqb other place) (record { book = bookAt page place; offer = offerOf (posting trip offered); outcome = outcome } ∷ later) later
 
 -- what the trips of an association's member came to, with the book that stood in a place before each
-unfoldable pub settlementsFor : List ℕ → ℕ → List ℕ → ℕ → ℕ → List Asked → List Settlement
-settlementsFor tariff association page member place [] = []
-settlementsFor tariff association page member place (asked ∷ later) =
-    let rest = settlementsFor tariff association (pageWithFor tariff (asked .association) page (asked .call)) member place later in
-    cond (eqb (asked .association) association) (settlementBefore tariff association page member place (asked .call) rest) rest
+unfoldable pub settlementsFor : ℕ → List ℕ → ℕ → ℕ → List Asked → List Settlement
+settlementsFor association page member place [] = []
+settlementsFor association page member place (asked ∷ later) =
+    let rest = settlementsFor association (pageWithFor (asked .association) page (asked .call)) member place later in
+    cond (eqb (asked .association) association) (settlementBefore association page member place (asked .call) rest) rest

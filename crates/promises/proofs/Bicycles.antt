@@ -1,5 +1,5 @@
--- A bicycle's payments per trip over a run from a fresh book under one tariff: in areas of kind 8 no payment is above the price per trip, those
--- of a window never pass the cap, and a payment is less than the price only where the cap is then full.
+-- A bicycle's payments per trip over a run of settlings and postings from a fresh book under one tariff: in areas of kind 8 no payment is above
+-- the price per trip, those of a window never pass the cap, and a payment is less than the price only where the cap is then full.
 -- Assumes nothing.
 use Prim.Native.Nat.{ℕ, _+_, _≤_, _<_}
 use native.Mathlib.Omega.{arith}
@@ -29,8 +29,9 @@ use Rattle.ledger.proofs.WindowLaws.{window-room}
 use Rattle.posting.proofs.NextPart.{next-right}
 use Rattle.posting.proofs.SoundAgain.{posted-sound}
 use Rattle.statement.specs.Record.{Part}
-use Rattle.settle.specs.Outcome.{Outcome, refused, accepted, partOf, oneMore, partsOf, postedAll, settled, bookAfter}
-use Rattle.settle.specs.Runs.{Offer, bookFrom}
+use Rattle.settle.specs.Outcome.{Outcome, refused, accepted, partOf, oneMore, partsOf, postedAll, bookAfter}
+use Rattle.settle.specs.Steps.{Step, offerOf, stepOutcome, bookAfterEach, under, bookAfterSteps}
+use Rattle.settle.proofs.Steps.{step-settles}
 use Rattle.promises.specs.Conditions.{tripRides, tripWindow, AcceptedBy, wordsBefore}
 use Rattle.promises.specs.Runs.{bookOf, PaysInTurn, pays-no-more, pays-on, pays-off}
 use Rattle.promises.proofs.RideLaws.{on-another}
@@ -117,36 +118,35 @@ module _ {tariff book bytes : List ℕ} {room : ℕ} {new : List ℕ} {parts : L
 
 module _ (tariff : List ℕ) (counts : Counts) (read : Read tariff counts) (k : ℕ) (few : k < 10) where
   accepted-pays :
-      (book bytes : List ℕ) (room : ℕ) {new : List ℕ} {parts : List Part} → Within tariff counts k book
-      → settled tariff book bytes room ≡ accepted new parts
-      → PaysInTurn tariff counts k (coverWord (wordsBefore book bytes) k) (paidWord (wordsBefore book bytes) k) parts (coverWord new k) (paidWord new k)
+      (book : List ℕ) (step : Step) {new : List ℕ} {parts : List Part} → Within tariff counts k book
+      → stepOutcome tariff book step ≡ accepted new parts
+      → PaysInTurn tariff counts k (coverWord (wordsBefore book (offerOf step .bytes)) k) (paidWord (wordsBefore book (offerOf step .bytes)) k) parts
+      (coverWord new k) (paidWord new k)
       × Within tariff counts k new
-  accepted-pays book bytes room s e =
-      let a = accepted-is tariff book bytes room e in
+  accepted-pays book step s e =
+      let a = accepted-is tariff book (offerOf step .bytes) (offerOf step .room) (step-settles tariff book step e) in
       let same = read-one tariff counts (a .counts) read (a .read) in
       rw same (trip-pays a few (rw same at s))
 
-  within-outcome :
-      (book bytes : List ℕ) (room : ℕ) (outcome : Outcome) → settled tariff book bytes room ≡ outcome → Within tariff counts k book
+  pub within-outcome :
+      (book : List ℕ) (step : Step) (outcome : Outcome) → stepOutcome tariff book step ≡ outcome → Within tariff counts k book
       → Within tariff counts k (bookAfter outcome book)
-  within-outcome book bytes room (refused n place) e s = s
-  within-outcome book bytes room (accepted new parts) e s = accepted-pays book bytes room s e .1
+  within-outcome book step (refused n place) e s = s
+  within-outcome book step (accepted new parts) e s = accepted-pays book step s e .1
 
-  within-from : (run : List Offer) (book : List ℕ) → Within tariff counts k book → Within tariff counts k (bookFrom tariff book run)
-  unfolding bookFrom
+  within-from : (run : List Step) (book : List ℕ) → Within tariff counts k book → Within tariff counts k (bookAfterSteps tariff book run)
+  unfolding bookAfterEach under
   within-from [] book s = s
-  within-from (o ∷ run) book s =
-      within-from run (bookAfter (settled tariff book (o .bytes) (o .room)) book)
-      (within-outcome book (o .bytes) (o .room) (settled tariff book (o .bytes) (o .room)) refl s)
+  within-from (step ∷ run) book s =
+      within-from run (bookAfter (stepOutcome tariff book step) book) (within-outcome book step (stepOutcome tariff book step) refl s)
 
   -- After any run the payments are within the cap of the covering area, where that is of kind 8.
-  pub payments-within-cap : (run : List Offer) → WithinCap tariff counts (coverWord (bookOf tariff run) k) (paidWord (bookOf tariff run) k)
+  pub payments-within-cap : (run : List Step) → WithinCap tariff counts (coverWord (bookOf tariff run) k) (paidWord (bookOf tariff run) k)
   payments-within-cap run = within-from run freshBook (within-fresh tariff counts k)
 
-  -- And of a trip that is accepted behind a run, part by part, from the words that count for it to those that it leaves.
+  -- And of a trip that is settled or posted behind a run, part by part, from the words that count for it to those that it leaves.
   pub bicycle-pays-per-trip :
-      (run : List Offer) (bytes : List ℕ) (room : ℕ) {new : List ℕ} {parts : List Part}
-      → settled tariff (bookOf tariff run) bytes room ≡ accepted new parts
-      → PaysInTurn tariff counts k (coverWord (wordsBefore (bookOf tariff run) bytes) k) (paidWord (wordsBefore (bookOf tariff run) bytes) k) parts
-      (coverWord new k) (paidWord new k)
-  bicycle-pays-per-trip run bytes room e = accepted-pays (bookOf tariff run) bytes room (payments-within-cap run) e .0
+      (run : List Step) (step : Step) {new : List ℕ} {parts : List Part} → stepOutcome tariff (bookOf tariff run) step ≡ accepted new parts
+      → PaysInTurn tariff counts k (coverWord (wordsBefore (bookOf tariff run) (offerOf step .bytes)) k)
+      (paidWord (wordsBefore (bookOf tariff run) (offerOf step .bytes)) k) parts (coverWord new k) (paidWord new k)
+  bicycle-pays-per-trip run step e = accepted-pays (bookOf tariff run) step (payments-within-cap run) e .0

@@ -5,6 +5,7 @@ pub mod Bicycles
 pub mod Quotes
 pub mod Answers
 pub mod Midnight
+pub mod MovedRecords
 pub mod Offsets
 pub mod Table
 pub mod Refusing
@@ -15,3 +16,8 @@ pub mod Books
 pub mod RideLaws
 pub mod Broken
 pub mod ReadBack
+pub mod Exported
+pub mod InRow
+pub mod Numbers
+pub mod TripWords
+pub mod Payments

@@ -1,35 +1,71 @@
 -- The promises for each member of an association, from adding to closing.
 --
 -- A member is added on any page that passes 18 for the association, lacks the member in its places and has a free one; then any calls of both
--- associations follow, for this member and for others, but none by which the association closes this account. The member's settlements are
--- those of the member's trips among these calls, each with the book that stood in the member's place before it. They are a run from a fresh
--- book, so that what is promised of runs is promised of them. That there is such a run, whatever else the page holds, is
+-- associations follow, for this member and for others, each under any tariff, but none by which the association closes this account. The
+-- member's settlements are those of the trips that are settled for the member or posted in the member's place among these calls, each with the
+-- book that stood there before it. They are a run from a fresh book, each step under its own tariff; and where that is one tariff, whatever the
+-- others' is, what is promised of runs is promised of them. That there is such a run, whatever else the page holds, is
 -- `shared-from-adding-to-closing` (accounts/proofs/Sharing.antt).
 -- Assumes nothing.
 use Prim.Native.Nat.{ℕ, _<_}
 use mathlib.Core.Path.{_≡_, refl, sym, ap, subst, _∙_}
 use mathlib.Core.Logic.{_↔_}
-use mathlib.Core.Bool.{true}
-use mathlib.Core.List.{List, [], _∷_, List·Memᴰ, List·Memᴰ·head, List·Memᴰ·tail, List·Memᴰ·not-nil}
-use Rattle.caps.specs.Rides.{PromiseThree}
+use mathlib.Core.Bool.{true, cond}
+use mathlib.Core.List.{List, [], _∷_, _++_, List·Memᴰ, List·Memᴰ·head, List·Memᴰ·tail, List·Memᴰ·not-nil}
+use Rattle.caps.specs.Limits.{Full}
+use Rattle.caps.specs.Named.{nameIn, NamedCap, capNamed, sumNamed}
+use Rattle.caps.specs.Tree.{Tree}
+use Rattle.caps.specs.Rides.{ChargedRide, allTotal, secondTotal, charges, oneClass, Reordered, PromiseThree}
 use Rattle.tariff.specs.declared.Counts.{Counts}
 use Rattle.tariff.specs.Areas.{Read}
-use Rattle.ledger.specs.Words.{freshBook}
+use Rattle.trip.specs.Moments.{checkoutOf}
+use Rattle.ledger.specs.Words.{freshBook, secondSum, allSum, coverWord, paidWord}
 use Rattle.ledger.specs.Sound.{sound}
+use Rattle.ledger.specs.Windows.{belongs}
 use Rattle.charging.specs.Caps.{treeOf}
 use Rattle.charging.specs.Charging.{isChild}
-use Rattle.settle.specs.Outcome.{Outcome, refused, settledUnder, settled, bookAfter, Settled}
-use Rattle.settle.specs.Runs.{Offer, Settlement, runFrom}
+use Rattle.cycles.specs.InWords.{WithinCap}
+use Rattle.statement.specs.Record.{Part}
+use Rattle.settle.specs.Outcome.{Outcome, refused, accepted, settledUnder, bookAfter, Settled}
+use Rattle.settle.specs.Runs.{Settlement}
+use Rattle.settle.specs.Steps.{Step, offerOf, stepOutcome, StepUnder, eachFrom, bookAfterEach, under, stepsFrom}
 use Rattle.settle.proofs.Ways.{faultless-way}
 use Rattle.accounts.specs.Pages.{bookAt, Change, Changed}
-use Rattle.accounts.specs.Calls.{offersOf}
+use Rattle.accounts.specs.Calls.{stepsOf}
 use Rattle.accounts.specs.Associations.{Association}
 use Rattle.accounts.specs.Sharing.{Asked, pageShared, callsOf, settlementsFor}
 use Rattle.accounts.proofs.Sharing.{OwnBookFor}
-use Rattle.promises.specs.Conditions.{RefusedBy}
-use Rattle.promises.specs.Runs.{Span, RiderWindow, WithinDay, windowsOver, windowsOf, tripsIn, acceptedOver}
+use Rattle.promises.specs.Conditions.{wordsBefore, RefusedBy}
+use Rattle.promises.specs.Runs.{
+  bookOf,
+  ridesOver,
+  ridesOf,
+  CutsFull,
+  PaysInTurn,
+  Span,
+  RiderWindow,
+  WithinDay,
+  OpenFirst,
+  windowsOver,
+  windowsOf,
+  tripsIn,
+  acceptedOver,
+}
+use Rattle.promises.specs.Moved.{MovedTrip, MovedBook, MovedOutcome, MovedStep, MovedRun}
 use Rattle.promises.proofs.Answers.{refused-exactly}
-use Rattle.promises.proofs.Promises.{promise-three, trips-within-a-day, every-trip-counts, book-stays-sound}
+use Rattle.promises.proofs.Promises.{
+  promise-three,
+  named-cap-full,
+  cuts-name-full-caps,
+  trips-within-a-day,
+  every-trip-counts,
+  open-window,
+  words-are-totals,
+  any-order,
+  book-stays-sound,
+}
+use Rattle.promises.proofs.Bicycles.{payments-within-cap, bicycle-pays-per-trip}
+use Rattle.promises.proofs.Midnight.{night-alike, night-outcomes}
 
 -- ---- What comes back.
 
@@ -60,59 +96,156 @@ on-its-book tariff counts read book trip room n at = (
 
 -- ---- From adding to closing.
 
--- In a run, each trip came to what settling it on the book before it comes to.
-pub each-settled :
-    (tariff : List ℕ) (run : List Offer) (book : List ℕ) (s : Settlement) → List·Memᴰ s (runFrom tariff book run)
-    → s .outcome ≡ settled tariff (s .book) (s .offer .bytes) (s .offer .room)
-unfolding runFrom
-each-settled tariff [] book s there = absurd (List·Memᴰ·not-nil there)
-each-settled tariff (o ∷ run) book s (List·Memᴰ·head is) = rw is refl
-each-settled tariff (o ∷ run) book s (List·Memᴰ·tail there) =
-    each-settled tariff run (bookAfter (settled tariff book (o .bytes) (o .room)) book) s there
+-- a settlement of some steps: one of them, on the book before it, under the step's tariff
+pub record CameTo (steps : List StepUnder) (s : Settlement) : Type 0 where
+  pub asked : StepUnder
+  pub there : List·Memᴰ asked steps
+  pub offer : s .offer ≡ offerOf (asked .step)
+  pub outcome : s .outcome ≡ stepOutcome (asked .tariff) (s .book) (asked .step)
 
-module _ (tariff : List ℕ) (association : ℕ) (is : Association association) (page : List ℕ) (member : ℕ) (calls : List Asked)
-    (own : OwnBookFor tariff association is page member calls) where
-  -- the trips that the association offered for the member, and what they came to
-  abbrev offers : List Offer
-  offers = offersOf member (callsOf association calls)
+pub each-came-to : (steps : List StepUnder) (book : List ℕ) (s : Settlement) → List·Memᴰ s (eachFrom book steps) → CameTo steps s
+unfolding eachFrom
+each-came-to [] book s there = absurd (List·Memᴰ·not-nil there)
+each-came-to (asked ∷ later) book s (List·Memᴰ·head is) =
+    rw is (record { asked = asked; there = List·Memᴰ·head refl; offer = refl; outcome = refl })
+each-came-to (asked ∷ later) book s (List·Memᴰ·tail there) =
+    let c = each-came-to later (bookAfter (stepOutcome (asked .tariff) book (asked .step)) book) s there in
+    record { asked = c .asked; there = List·Memᴰ·tail (c .there); offer = c .offer; outcome = c .outcome }
+
+module _ (association : ℕ) (is : Association association) (page : List ℕ) (member : ℕ) (calls : List Asked)
+    (own : OwnBookFor association is page member calls) where
+  -- the member's steps among the association's calls, what they came to, and the member's book afterwards
+  abbrev its-steps : List StepUnder
+  its-steps = stepsOf member (own .place) (callsOf association calls)
 
   abbrev its : List Settlement
-  its = settlementsFor tariff association (own .page-added) member (own .place) calls
+  its = settlementsFor association (own .page-added) member (own .place) calls
 
-  -- Promise 2: each of them is settled as the rules say on the book before it; what `Answers` says of settling, it says of each.
-  pub member-settled : (s : Settlement) → List·Memᴰ s its → s .outcome ≡ settled tariff (s .book) (s .offer .bytes) (s .offer .room)
-  member-settled s there =
-      each-settled tariff offers freshBook s (subst (λ (l : List Settlement). List·Memᴰ s l) (own .settlements) there)
+  abbrev its-book : List ℕ
+  its-book = bookAt (pageShared (own .page-added) calls) (own .place)
 
-  module _ (counts : Counts) (read : Read tariff counts) where
-    -- The member's book is sound whenever it is looked at.
-    pub member-book-sound : sound (bookAt (pageShared tariff (own .page-added) calls) (own .place)) (counts .areas) ≡ true
-    member-book-sound =
-        ap (λ (b : List ℕ). sound b (counts .areas)) (own .book) ∙ book-stays-sound tariff counts read offers
+  -- Promise 2: each of them came to what settling or posting it on the book before it comes to; what `Answers` and `Quotes` say of these, they
+  -- say of each.
+  pub member-settled : (s : Settlement) → List·Memᴰ s its → CameTo its-steps s
+  member-settled s there = each-came-to its-steps freshBook s (subst (λ (l : List Settlement). List·Memᴰ s l) (own .settlements) there)
 
-    module _ (rider : ℕ) (known : rider < 21) where
-      -- the windows of the member's trips, with a rider's rides in each
-      abbrev its-windows : List RiderWindow
-      its-windows = windowsOver tariff counts rider its []
+  -- The rest where the member's own trips are under one tariff.
+  module _ (tariff : List ℕ) (run : List Step) (one : its-steps ≡ under tariff run) where
+    pub its-run : its ≡ stepsFrom tariff freshBook run
+    its-run = own .settlements ∙ ap (eachFrom freshBook) one
 
-      windows-are : its-windows ≡ windowsOf tariff counts rider offers
-      windows-are = ap (λ (l : List Settlement). windowsOver tariff counts rider l []) (own .settlements)
+    pub its-book-is : its-book ≡ bookOf tariff run
+    its-book-is = own .book ∙ ap (bookAfterEach freshBook) one
 
-      -- Promise 3, in each window.
-      pub member-promise-three :
-          (window : RiderWindow) → List·Memᴰ window its-windows → PromiseThree (treeOf tariff counts (isChild rider)) (window .rides)
-      member-promise-three window there =
-          promise-three tariff counts read rider known offers window
-          (subst (λ (l : List RiderWindow). List·Memᴰ window l) windows-are there)
+    module _ (counts : Counts) (read : Read tariff counts) where
+      -- The member's book is sound whenever it is looked at.
+      pub member-book-sound : sound its-book (counts .areas) ≡ true
+      member-book-sound = ap (λ (b : List ℕ). sound b (counts .areas)) its-book-is ∙ book-stays-sound tariff counts read run
 
-      -- Each is one of 24 hours,
-      pub member-trips-within-a-day :
-          (window : RiderWindow) → List·Memᴰ window its-windows → (trip : Span) → List·Memᴰ trip (window .trips) → WithinDay (window .opening) trip
-      member-trips-within-a-day window there =
-          trips-within-a-day tariff counts read rider known offers window
-          (subst (λ (l : List RiderWindow). List·Memᴰ window l) windows-are there)
+      -- Bicycles: after each trip the payments are within the cap of the covering area, where that is of kind 8;
+      pub member-payments-within-cap : (k : ℕ) → k < 10 → WithinCap tariff counts (coverWord its-book k) (paidWord its-book k)
+      member-payments-within-cap k few = rw its-book-is (payments-within-cap tariff counts read k few run)
 
-      -- and every accepted trip counts in one.
-      pub member-trips-count : tripsIn its-windows ≡ acceptedOver its []
-      member-trips-count =
-          rw (own .settlements) (every-trip-counts tariff counts read rider known offers)
+      -- and the next trip, settled or posted, is paid part by part, from the words that count for it to those that it leaves.
+      pub member-bicycle-pays :
+          (k : ℕ) → k < 10 → (step : Step) {new : List ℕ} {parts : List Part} → stepOutcome tariff its-book step ≡ accepted new parts
+          → PaysInTurn tariff counts k (coverWord (wordsBefore its-book (offerOf step .bytes)) k)
+          (paidWord (wordsBefore its-book (offerOf step .bytes)) k) parts (coverWord new k) (paidWord new k)
+      member-bicycle-pays k few step e = rw its-book-is (bicycle-pays-per-trip tariff counts read k few run step (rw its-book-is at e))
+
+      module _ (rider : ℕ) (known : rider < 21) where
+        abbrev tree : Tree
+        tree = treeOf tariff counts (isChild rider)
+
+        -- the windows of the member's trips, with a rider's rides in each; and those in the open one
+        abbrev its-windows : List RiderWindow
+        its-windows = windowsOver tariff counts rider its []
+
+        abbrev its-rides : List ChargedRide
+        its-rides = ridesOver tariff counts rider its []
+
+        windows-are : its-windows ≡ windowsOf tariff counts rider run
+        windows-are = ap (λ (l : List Settlement). windowsOver tariff counts rider l []) its-run
+
+        rides-are : its-rides ≡ ridesOf tariff counts rider run
+        rides-are = ap (λ (l : List Settlement). ridesOver tariff counts rider l []) its-run
+
+        of-run : {window : RiderWindow} → List·Memᴰ window its-windows → List·Memᴰ window (windowsOf tariff counts rider run)
+        of-run {window} there = subst (λ (l : List RiderWindow). List·Memᴰ window l) windows-are there
+
+        -- Promise 3, in each window: charges at most prices, no cap passed, a cut only at a full cap, and the sum of one class.
+        pub member-promise-three : (window : RiderWindow) → List·Memᴰ window its-windows → PromiseThree tree (window .rides)
+        member-promise-three window there = promise-three tariff counts read rider known run window (of-run there)
+
+        -- The cap that is named for a cut is exactly full,
+        pub member-named-cap-full :
+            (window : RiderWindow) → List·Memᴰ window its-windows → (later : List ChargedRide) (e : ChargedRide) (es : List ChargedRide)
+            → window .rides ≡ later ++ e ∷ es → e .charge < e .price
+            → let name = nameIn tree (λ a. secondTotal tree a es) (λ a. allTotal tree a es) (e .class) (e .area) (e .price) in
+            NamedCap tree (λ a. secondTotal tree a es) (λ a. allTotal tree a es) (e .class) (e .area) (e .charge) name
+            × Full (sumNamed (λ a. secondTotal tree a (e ∷ es)) (λ a. allTotal tree a (e ∷ es)) name) (capNamed tree name)
+        member-named-cap-full window there = named-cap-full tariff counts read rider known run window (of-run there)
+
+        -- as the parts of the next trip, settled or posted, tell it.
+        pub member-cuts-name-full-caps :
+            (step : Step) {new : List ℕ} {parts : List Part} → stepOutcome tariff its-book step ≡ accepted new parts
+            → CutsFull tariff counts rider parts (cond (belongs its-book (checkoutOf (offerOf step .bytes))) its-rides [])
+        member-cuts-name-full-caps step e =
+            rw (its-book-is, rides-are) (cuts-name-full-caps tariff counts read rider known run step (rw its-book-is at e))
+
+        -- Each window is one of 24 hours,
+        pub member-trips-within-a-day :
+            (window : RiderWindow) → List·Memᴰ window its-windows → (trip : Span) → List·Memᴰ trip (window .trips) → WithinDay (window .opening) trip
+        member-trips-within-a-day window there = trips-within-a-day tariff counts read rider known run window (of-run there)
+
+        -- every accepted trip counts in one,
+        pub member-trips-count : tripsIn its-windows ≡ acceptedOver its []
+        member-trips-count = rw its-run (every-trip-counts tariff counts read rider known run)
+
+        -- the first is the one that the book has open,
+        pub member-open-window : OpenFirst its-book its-rides its-windows
+        member-open-window = rw (its-book-is, its-run) (open-window tariff counts read rider known run)
+
+        -- and the book's words for the rider are the totals of the charges in it.
+        pub member-words-are-totals :
+            (x : ℕ) → x < counts .areas
+            → (allSum its-book rider x ≡ allTotal tree x its-rides) × (secondSum its-book rider x ≡ secondTotal tree x its-rides)
+        member-words-are-totals x h = rw (its-book-is, its-run) (words-are-totals tariff counts read rider known run x h)
+
+-- ---- Two members, of one page or of two, of one association or of two; or one member twice.
+
+module _ (association association′ : ℕ) (is : Association association) (is′ : Association association′) (page page′ : List ℕ) (member member′ : ℕ)
+    (calls calls′ : List Asked) (own : OwnBookFor association is page member calls) (own′ : OwnBookFor association′ is′ page′ member′ calls′)
+    (tariff : List ℕ) (run run′ : List Step) (one : its-steps association is page member calls own ≡ under tariff run)
+    (other : its-steps association′ is′ page′ member′ calls′ own′ ≡ under tariff run′) where
+  abbrev book : List ℕ
+  book = its-book association is page member calls own
+
+  abbrev book′ : List ℕ
+  book′ = its-book association′ is′ page′ member′ calls′ own′
+
+  -- The order of rides of one class does not change their sum.
+  pub member-any-order :
+      (counts : Counts) (read : Read tariff counts) (rider : ℕ) (known : rider < 21) (window window′ : RiderWindow)
+      → List·Memᴰ window (its-windows association is page member calls own tariff run one counts read rider known)
+      → List·Memᴰ window′ (its-windows association′ is′ page′ member′ calls′ own′ tariff run′ other counts read rider known)
+      → (class : ℕ) → oneClass class (window .rides) ≡ true → oneClass class (window′ .rides) ≡ true → Reordered (window .rides) (window′ .rides)
+      → charges (window .rides) ≡ charges (window′ .rides)
+  member-any-order counts read rider known window window′ there there′ =
+      any-order tariff counts read rider known run run′ window window′
+      (of-run association is page member calls own tariff run one counts read rider known there)
+      (of-run association′ is′ page′ member′ calls′ own′ tariff run′ other counts read rider known there′)
+
+  -- A night moved on the calendar leaves books that differ in the opening and the last check-out alone,
+  pub member-night-alike : {d : ℕ} → MovedRun d run run′ → MovedBook d book book′
+  member-night-alike moved =
+      rw (its-book-is association is page member calls own tariff run one, its-book-is association′ is′ page′ member′ calls′ own′ tariff run′ other)
+      (night-alike tariff moved)
+
+  -- and each trip of it is refused or accepted as before, with the same charges.
+  pub member-night-outcomes :
+      {d : ℕ} {step step′ : Step} → MovedStep d (MovedTrip d) step step′ → MovedRun d run run′
+      → MovedOutcome d (stepOutcome tariff book step) (stepOutcome tariff book′ step′)
+  member-night-outcomes step before =
+      rw (its-book-is association is page member calls own tariff run one, its-book-is association′ is′ page′ member′ calls′ own′ tariff run′ other)
+      (night-outcomes tariff step before)

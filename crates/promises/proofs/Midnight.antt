@@ -1,5 +1,5 @@
 -- Midnight: windows look at minutes, never at dates. A trip opens a new window exactly when none is open or its check-out is over 1,440
--- minutes after the opening; and a night moved on the calendar, over midnight, a month's end or a year's end, is settled alike.
+-- minutes after the opening; and a night moved on the calendar, over midnight, a month's end or a year's end, is settled and posted alike.
 -- Assumes nothing.
 use Prim.Native.Nat.{ℕ, _+_, _<_}
 use native.Mathlib.Nat.{add-zero}
@@ -7,7 +7,7 @@ use native.Mathlib.Omega.{arith}
 use mathlib.Core.Path.{_≡_, refl, sym, ap, _∙_}
 use mathlib.Core.Logic.{_↔_, _⊎_, inl, inr, ⊎-elim}
 use mathlib.Core.List.{List}
-use mathlib.Core.Bool.{Bool, true, false, not, _&&_, false≢true}
+use mathlib.Core.Bool.{Bool, true, false, cond, not, _&&_, false≢true}
 use borrow.Author.Tests.{leb-true, leb-false, le-leb, eq-eqb, ne-eqb, eqb-true, eqb-false}
 use lib.Dec.{leb, eqb}
 use Rattle.units.specs.Day.{dayMinutes}
@@ -20,15 +20,36 @@ use Rattle.tariff.specs.Areas.{Read}
 use Rattle.ledger.specs.Words.{freshBook, tripsOf, openingOf, lastOutOf}
 use Rattle.ledger.specs.Windows.{belongs, windowOf}
 use Rattle.ledger.proofs.WordLaws.{word-fresh}
-use Rattle.statement.specs.Record.{Part}
+use Rattle.statement.specs.Record.{Part, largestStatement, statementOf}
+use Rattle.deciding.specs.declared.refusals.Refusal.the-variants.{OtherRecord}
 use Rattle.deciding.specs.Refusals.{refusal, rows, Verdict, nothing, found, firstOf}
-use Rattle.settle.specs.Outcome.{Outcome, accepted, acceptedTrip, settled, bookAfter}
-use Rattle.deciding.proofs.Decisions.{refused-first, clear-first}
+use Rattle.settle.specs.Outcome.{priced, Outcome, refused, accepted, acceptedTrip, quoted, settled, partsPriced, bookAfter}
+use Rattle.settle.specs.Posting.{sameBytes, unposted, renewed, postingOf}
+use Rattle.deciding.proofs.Decisions.{clear-first}
 use Rattle.settle.proofs.Ways.{fault-way, refused-way, accepted-way}
-use Rattle.settle.specs.Runs.{Offer, bookFrom}
+use Rattle.deciding.proofs.Decisions.{refused-first}
+use Rattle.settle.proofs.Postings.{same-exactly}
+use Rattle.settle.specs.Runs.{Offer}
+use Rattle.settle.specs.Steps.{Step, postedIn, stepOutcome, bookAfterEach, under, bookAfterSteps}
 use Rattle.promises.specs.Runs.{bookOf}
-use Rattle.promises.specs.Moved.{MovedTrip, MovedBook, MovedOutcome, both-refused, both-accepted, MovedRun, moved-none, moved-more}
+use Rattle.promises.specs.Moved.{
+  MovedTrip,
+  MovedBook,
+  MovedParts,
+  MovedOutcome,
+  both-refused,
+  both-accepted,
+  MovedRecord,
+  MovedStep,
+  moved-settling,
+  moved-posting,
+  moved-none,
+  moved-more,
+  MovedRun,
+}
 use Rattle.promises.proofs.Answers.{accepted-is}
+use Rattle.promises.proofs.Quotes.{quote-refuses-alike, Present, refuses, quotes, present}
+use Rattle.promises.proofs.ReadBack.{settled-readable}
 use Rattle.promises.proofs.Shifts.{Shifted, rows-same, moved-parts, moved-book}
 use Rattle.promises.proofs.Alike.{fresh-same}
 
@@ -128,6 +149,88 @@ offer-moved :
     → MovedBook d book book′ → MovedOutcome d (settled tariff book (o .bytes) (o .room)) (settled tariff book′ (o′ .bytes) (o′ .room))
 offer-moved tariff {d} {o} trip room books = rw room (moved-alike tariff (o .room) d trip books)
 
+-- ---- A trip posted.
+
+-- two tests that hold alike
+both-alike : (a b c d : List ℕ) → a ≡ b ↔ c ≡ d → sameBytes c d ≡ sameBytes a b
+both-alike a b c d alike = go (sameBytes a b) (sameBytes c d) refl refl
+  where
+    go : (t t′ : Bool) → sameBytes a b ≡ t → sameBytes c d ≡ t′ → t′ ≡ t
+    go true true e e′ = refl
+    go false false e e′ = refl
+    go true false e e′ = sym e′ ∙ same-exactly c d .1 (alike .0 (same-exactly a b .0 e))
+    go false true e e′ = sym (sym e ∙ same-exactly a b .1 (alike .1 (same-exactly c d .0 e′)))
+
+-- two outcomes so moved are both acceptances or both refusals
+abbrev taken : Outcome → ℕ
+taken (refused number place) = 0
+taken (accepted new parts) = 1
+
+taken-alike : {d : ℕ} {o o′ : Outcome} → MovedOutcome d o o′ → taken o ≡ taken o′
+taken-alike (both-refused n place) = refl
+taken-alike (both-accepted books parts) = refl
+
+module _ (tariff : List ℕ) {d : ℕ} {trip trip′ offered offered′ book book′ : List ℕ} (m : MovedTrip d trip trip′) (r : MovedRecord d offered offered′)
+    (books : MovedBook d book book′) where
+  abbrev posted : Outcome
+  posted = postedIn (partsPriced (quoted tariff book trip largestStatement)) (postingOf tariff book trip offered)
+
+  abbrev posted′ : Outcome
+  posted′ = postedIn (partsPriced (quoted tariff book′ trip′ largestStatement)) (postingOf tariff book′ trip′ offered′)
+
+  -- both quotes are refused alike, and so is every record
+  none-posted :
+      (n place : ℕ) → postingOf tariff book trip offered ≡ unposted n place → (n′ place′ : ℕ) → postingOf tariff book′ trip′ offered′ ≡ unposted n′ place′
+      → MovedOutcome d (refused n place) (refused n′ place′) → MovedOutcome d posted posted′
+  none-posted n place e n′ place′ e′ alike = rw (e, e′) alike
+
+  -- or both are accepted, and each record is that of the present quote or not
+  by-record :
+      {parts parts′ : List Part} {new new′ : List ℕ} (same : Bool)
+      → postingOf tariff book trip offered ≡ cond same (renewed new) (unposted (refusal OtherRecord) 0)
+      → postingOf tariff book′ trip′ offered′ ≡ cond same (renewed new′) (unposted (refusal OtherRecord) 0)
+      → quoted tariff book trip largestStatement ≡ priced parts → quoted tariff book′ trip′ largestStatement ≡ priced parts′
+      → MovedOutcome d (accepted new parts) (accepted new′ parts′) → MovedOutcome d posted posted′
+  by-record true e e′ q q′ alike = rw (e, e′, q, q′) alike
+  by-record false e e′ q q′ alike = rw (e, e′) (both-refused (refusal OtherRecord) 0)
+
+  parts-moved : {new new′ : List ℕ} {parts parts′ : List Part} → MovedOutcome d (accepted new parts) (accepted new′ parts′) → MovedParts d parts parts′
+  parts-moved (both-accepted books parts) = parts
+
+  posting-moved : MovedOutcome d posted posted′
+  posting-moved = go (present tariff book trip) (present tariff book′ trip′) (moved-alike tariff largestStatement d m books)
+    where
+      go :
+          Present tariff book trip → Present tariff book′ trip′
+          → MovedOutcome d (settled tariff book trip largestStatement) (settled tariff book′ trip′ largestStatement) → MovedOutcome d posted posted′
+      go (refuses n place posts q) (refuses n′ place′ posts′ q′) alike =
+          none-posted n place (posts offered) n′ place′ (posts′ offered′)
+          (rw
+          (quote-refuses-alike tariff book trip largestStatement n place .0 q, quote-refuses-alike tariff book′ trip′ largestStatement n′ place′ .0 q′)
+          at alike)
+      go (refuses n place posts q) (quotes parts′ new′ posts′ q′ s′) alike =
+          absurd (omega (arith, taken-alike (rw (quote-refuses-alike tariff book trip largestStatement n place .0 q, s′) at alike)))
+      go (quotes parts new posts q s) (refuses n′ place′ posts′ q′) alike =
+          absurd (omega (arith, taken-alike (rw (s, quote-refuses-alike tariff book′ trip′ largestStatement n′ place′ .0 q′) at alike)))
+      go (quotes parts new posts q s) (quotes parts′ new′ posts′ q′ s′) alike =
+          let alike′ : MovedOutcome d (accepted new parts) (accepted new′ parts′) = rw (s, s′) at alike in
+          let readable = settled-readable tariff book trip largestStatement s in
+          let readable′ = settled-readable tariff book′ trip′ largestStatement s′ in
+          let same =
+          both-alike (statementOf parts) offered (statementOf parts′) offered′ (r .alike readable readable′ (parts-moved alike′))
+          in
+          by-record (sameBytes (statementOf parts) offered) (posts offered) (posts′ offered′ ∙ rw same) q q′ alike′
+
+-- ---- A night.
+
+-- the same of a step
+step-moved :
+    (tariff : List ℕ) {d : ℕ} {step step′ : Step} {book book′ : List ℕ} → MovedStep d (MovedTrip d) step step′ → MovedBook d book book′
+    → MovedOutcome d (stepOutcome tariff book step) (stepOutcome tariff book′ step′)
+unfolding stepOutcome
+step-moved tariff (moved-settling {o} {o′} trip room) books = offer-moved tariff {o = o} {o′ = o′} trip room books
+step-moved tariff (moved-posting trip records) books = posting-moved tariff trip records books
+
 -- the books that two such outcomes leave
 book-after :
     {d : ℕ} {o o′ : Outcome} {book book′ : List ℕ} → MovedOutcome d o o′ → MovedBook d book book′ → MovedBook d (bookAfter o book) (bookAfter o′ book′)
@@ -144,24 +247,22 @@ fresh-moved d =
       in-calendar = omega (arith, word-fresh 2);
     }
 
--- a run of such trips, from such books on
+-- a run of such steps, from such books on
 run-moved :
-    (tariff : List ℕ) {d : ℕ} {run run′ : List Offer} → MovedRun d run run′ → {book book′ : List ℕ} → MovedBook d book book′
-    → MovedBook d (bookFrom tariff book run) (bookFrom tariff book′ run′)
-unfolding bookFrom
+    (tariff : List ℕ) {d : ℕ} {run run′ : List Step} → MovedRun d run run′ → {book book′ : List ℕ} → MovedBook d book book′
+    → MovedBook d (bookAfterSteps tariff book run) (bookAfterSteps tariff book′ run′)
+unfolding bookAfterEach under
 run-moved tariff moved-none before = before
-run-moved tariff (moved-more {o} {o′} trip room later) before =
-    run-moved tariff later (book-after (offer-moved tariff {o = o} {o′ = o′} trip room before) before)
+run-moved tariff (moved-more step later) before = run-moved tariff later (book-after (step-moved tariff step before) before)
 
--- One cap for one night, whatever the dates. Where every trip of a run from a fresh book is moved by the same number of minutes, the books
--- differ in the opening and the last check-out alone.
+-- One cap for one night, whatever the dates. Where every trip of a run from a fresh book, settled or posted, is moved by the same number of
+-- minutes, the books differ in the opening and the last check-out alone.
 pub night-alike :
-    (tariff : List ℕ) {d : ℕ} {run run′ : List Offer} → MovedRun d run run′ → MovedBook d (bookOf tariff run) (bookOf tariff run′)
+    (tariff : List ℕ) {d : ℕ} {run run′ : List Step} → MovedRun d run run′ → MovedBook d (bookOf tariff run) (bookOf tariff run′)
 night-alike tariff {d} moved = run-moved tariff moved (fresh-moved d)
 
 -- And each trip of the night is refused or accepted as before, with the same charges.
 pub night-outcomes :
-    (tariff : List ℕ) {d : ℕ} {o o′ : Offer} {run run′ : List Offer} → MovedTrip d (o .bytes) (o′ .bytes) → o′ .room ≡ o .room
-    → MovedRun d run run′
-    → MovedOutcome d (settled tariff (bookOf tariff run) (o .bytes) (o .room)) (settled tariff (bookOf tariff run′) (o′ .bytes) (o′ .room))
-night-outcomes tariff {d} {o} {o′} trip room before = offer-moved tariff {o = o} {o′ = o′} trip room (night-alike tariff before)
+    (tariff : List ℕ) {d : ℕ} {step step′ : Step} {run run′ : List Step} → MovedStep d (MovedTrip d) step step′ → MovedRun d run run′
+    → MovedOutcome d (stepOutcome tariff (bookOf tariff run) step) (stepOutcome tariff (bookOf tariff run′) step′)
+night-outcomes tariff step before = step-moved tariff step (night-alike tariff before)

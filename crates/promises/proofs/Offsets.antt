@@ -17,20 +17,22 @@ use Rattle.tariff.specs.Scan.{readTariff}
 use Rattle.tariff.specs.Areas.{Read}
 use Rattle.deciding.specs.Refusals.{rows, Verdict, nothing, found, firstOf}
 use Rattle.settle.specs.Outcome.{acceptedTrip, settled}
-use Rattle.settle.specs.Runs.{Offer}
-use Rattle.deciding.proofs.Decisions.{refused-first, clear-first}
+use Rattle.settle.specs.Steps.{Step, stepOutcome}
+use Rattle.deciding.proofs.Decisions.{clear-first}
 use Rattle.settle.proofs.Ways.{fault-way, refused-way, accepted-way}
+use Rattle.deciding.proofs.Decisions.{refused-first}
 use Rattle.promises.specs.Runs.{bookOf}
 use Rattle.promises.specs.Moved.{
   MovedTrip,
   MovedStamps,
   MovedOutcome,
-  MovedRun,
+  MovedStep,
+  moved-settling,
+  moved-posting,
   moved-none,
   moved-more,
+  MovedRun,
   MovedNight,
-  night-none,
-  night-more,
 }
 use Rattle.promises.proofs.Shifts.{Shifted, rides-alike, rows-same}
 use Rattle.promises.proofs.Midnight.{night-outcomes}
@@ -101,27 +103,29 @@ module _ (tariff book : List ℕ) (room : ℕ) {trip trip′ : List ℕ} (one : 
 
 -- ---- A night moved by its stamps.
 
-moved-run : {d : ℕ} {run run′ : List Offer} → MovedNight d run run′ → MovedRun d run run′
-moved-run night-none = moved-none
-moved-run (night-more trip room more) = moved-more (moved-trip trip) room (moved-run more)
+moved-step : {d : ℕ} {step step′ : Step} → MovedStep d (MovedStamps d) step step′ → MovedStep d (MovedTrip d) step step′
+moved-step (moved-settling trip room) = moved-settling (moved-trip trip) room
+moved-step (moved-posting trip records) = moved-posting (moved-trip trip) records
+
+moved-run : {d : ℕ} {run run′ : List Step} → MovedNight d run run′ → MovedRun d run run′
+moved-run moved-none = moved-none
+moved-run (moved-more step more) = moved-more (moved-step step) (moved-run more)
 
 -- A trip after a night, all of whose stamps tell moments d minutes later, is refused or accepted as before, with the same charges.
 pub moved-night :
-    (tariff : List ℕ) {d : ℕ} {o o′ : Offer} {run run′ : List Offer} → MovedStamps d (o .bytes) (o′ .bytes) → o′ .room ≡ o .room
-    → MovedNight d run run′
-    → MovedOutcome d (settled tariff (bookOf tariff run) (o .bytes) (o .room)) (settled tariff (bookOf tariff run′) (o′ .bytes) (o′ .room))
-moved-night tariff {o = o} {o′ = o′} trip room before = night-outcomes tariff {o = o} {o′ = o′} (moved-trip trip) room (moved-run before)
+    (tariff : List ℕ) {d : ℕ} {step step′ : Step} {run run′ : List Step} → MovedStep d (MovedStamps d) step step′ → MovedNight d run run′
+    → MovedOutcome d (stepOutcome tariff (bookOf tariff run) step) (stepOutcome tariff (bookOf tariff run′) step′)
+moved-night tariff step before = night-outcomes tariff (moved-step step) (moved-run before)
 
 -- So it is with a night moved by whole hours, and with one moved by whole days.
 pub hours-later :
-    (hours : ℕ) (tariff : List ℕ) {o o′ : Offer} {run run′ : List Offer} → MovedStamps (60 * hours) (o .bytes) (o′ .bytes) → o′ .room ≡ o .room
+    (hours : ℕ) (tariff : List ℕ) {step step′ : Step} {run run′ : List Step} → MovedStep (60 * hours) (MovedStamps (60 * hours)) step step′
     → MovedNight (60 * hours) run run′
-    → MovedOutcome (60 * hours) (settled tariff (bookOf tariff run) (o .bytes) (o .room)) (settled tariff (bookOf tariff run′) (o′ .bytes) (o′ .room))
-hours-later hours tariff {o} {o′} trip room before = moved-night tariff {o = o} {o′ = o′} trip room before
+    → MovedOutcome (60 * hours) (stepOutcome tariff (bookOf tariff run) step) (stepOutcome tariff (bookOf tariff run′) step′)
+hours-later hours tariff step before = moved-night tariff step before
 
 pub days-later :
-    (days : ℕ) (tariff : List ℕ) {o o′ : Offer} {run run′ : List Offer} → MovedStamps (dayMinutes * days) (o .bytes) (o′ .bytes)
-    → o′ .room ≡ o .room → MovedNight (dayMinutes * days) run run′
-    → MovedOutcome (dayMinutes * days) (settled tariff (bookOf tariff run) (o .bytes) (o .room))
-    (settled tariff (bookOf tariff run′) (o′ .bytes) (o′ .room))
-days-later days tariff {o} {o′} trip room before = moved-night tariff {o = o} {o′ = o′} trip room before
+    (days : ℕ) (tariff : List ℕ) {step step′ : Step} {run run′ : List Step}
+    → MovedStep (dayMinutes * days) (MovedStamps (dayMinutes * days)) step step′ → MovedNight (dayMinutes * days) run run′
+    → MovedOutcome (dayMinutes * days) (stepOutcome tariff (bookOf tariff run) step) (stepOutcome tariff (bookOf tariff run′) step′)
+days-later days tariff step before = moved-night tariff step before

@@ -1,7 +1,7 @@
 -- Promise 3, about settling itself.
 --
--- A run is any list of trips, offered one after another to `settled`, the definition that the exported function's contract cites, from a
--- fresh book under one faultless tariff. A rider is the account holder (0), a carried adult (1 to 10) or a carried child (11 to 20). The
+-- A run is any list of trips, each offered to `settled` or, with any bytes as a record, to `postingOf`, the definitions that the exported
+-- functions' contracts cite, one after another from a fresh book under one faultless tariff. A rider is the account holder (0), a carried adult (1 to 10) or a carried child (11 to 20). The
 -- windows of a run are read off the check-ins and check-outs of its accepted trips alone; a ride's area, class and price are those of the
 -- accepted trip's part, and its charge is the one at the rider's place among the part's (specs/Runs.antt). A trip that was broken has two
 -- parts, and is two rides here. Every beginning of a run is a run: so what is said here of every run holds after each of its trips.
@@ -15,19 +15,7 @@ use lib.ListN.{length}
 use Rattle.caps.specs.Limits.{AtMost, Full}
 use Rattle.caps.specs.Named.{nameIn, NamedCap, capNamed, sumNamed}
 use Rattle.caps.specs.Tree.{Tree, IsTree}
-use Rattle.caps.specs.Rides.{
-  ChargedRide,
-  ChargedInTurn,
-  allTotal,
-  secondTotal,
-  charges,
-  CapFull,
-  ownPrices,
-  oneClass,
-  totalsAlone,
-  Reordered,
-  PromiseThree,
-}
+use Rattle.caps.specs.Rides.{ChargedRide, ChargedInTurn, allTotal, secondTotal, charges, CapFull, ownPrices, oneClass, totalsAlone, Reordered, PromiseThree}
 use Rattle.caps.proofs.Promise.{promise-three as of-charged}
 use Rattle.caps.proofs.Window.{earlier, cut-names-full, state-total}
 use Rattle.caps.proofs.OneClass.{order-free, reordered-same}
@@ -42,8 +30,8 @@ use Rattle.charging.specs.Caps.{secondCap, allCap, treeOf}
 use Rattle.charging.specs.Charging.{isChild}
 use Rattle.charging.proofs.Trees.{is-tree}
 use Rattle.statement.specs.Record.{Part}
-use Rattle.settle.specs.Outcome.{accepted, settled}
-use Rattle.settle.specs.Runs.{Offer, runFrom}
+use Rattle.settle.specs.Outcome.{accepted}
+use Rattle.settle.specs.Steps.{Step, offerOf, stepOutcome, stepsFrom}
 use Rattle.promises.specs.Runs.{bookOf, ridesOf, CutsFull, Span, RiderWindow, WithinDay, OpenFirst, tripsIn, acceptedOver, windowsOf}
 use Rattle.promises.proofs.RunLaws.{RightWindow, KeptRun, kept, cuts-behind, trips-over}
 
@@ -55,12 +43,12 @@ module _ (tariff : List ℕ) (counts : Counts) (read : Read tariff counts) (ride
   tree-is : IsTree tree
   tree-is = is-tree (faultless tariff counts read) (isChild rider)
 
-  run-kept : (run : List Offer) → KeptRun tariff counts rider (bookOf tariff run) (ridesOf tariff counts rider run) (windowsOf tariff counts rider run)
+  run-kept : (run : List Step) → KeptRun tariff counts rider (bookOf tariff run) (ridesOf tariff counts rider run) (windowsOf tariff counts rider run)
   run-kept run = kept tariff counts read rider known run
 
   -- ---- Each window.
 
-  module _ (run : List Offer) (window : RiderWindow) (there : List·Memᴰ window (windowsOf tariff counts rider run)) where
+  module _ (run : List Step) (window : RiderWindow) (there : List·Memᴰ window (windowsOf tariff counts rider run)) where
     -- the rider's rides in the window, the latest first
     abbrev rides : List ChargedRide
     rides = window .rides
@@ -115,22 +103,22 @@ module _ (tariff : List ℕ) (counts : Counts) (read : Read tariff counts) (ride
 
   -- ---- Each trip.
 
-  -- What caps took off, as a trip's parts tell it, where the trip is accepted behind a run: each cut of the rider makes up the price with the
+  -- What caps took off, as a trip's parts tell it, where the trip is settled or posted behind a run: each cut of the rider makes up the price with the
   -- charge. Where it is nothing, no cap is named; else the named cap is the one that left the least over the rider's rides before it in the
   -- window. These had not passed it, and with this ride it is exactly full: from a fresh book under one tariff no cut names a passed cap.
   pub cuts-name-full-caps :
-      (run : List Offer) (bytes : List ℕ) (room : ℕ) {new : List ℕ} {parts : List Part}
-      → settled tariff (bookOf tariff run) bytes room ≡ accepted new parts
-      → CutsFull tariff counts rider parts (cond (belongs (bookOf tariff run) (checkoutOf bytes)) (ridesOf tariff counts rider run) [])
+      (run : List Step) (step : Step) {new : List ℕ} {parts : List Part} → stepOutcome tariff (bookOf tariff run) step ≡ accepted new parts
+      → CutsFull tariff counts rider parts
+      (cond (belongs (bookOf tariff run) (checkoutOf (offerOf step .bytes))) (ridesOf tariff counts rider run) [])
   cuts-name-full-caps = cuts-behind tariff counts read rider known
 
   -- ---- All windows.
 
-  module _ (run : List Offer) where
+  module _ (run : List Step) where
     -- Every accepted trip counts in one of them: their trips together are the trips that were accepted, the latest first.
-    pub every-trip-counts : tripsIn (windowsOf tariff counts rider run) ≡ acceptedOver (runFrom tariff freshBook run) []
+    pub every-trip-counts : tripsIn (windowsOf tariff counts rider run) ≡ acceptedOver (stepsFrom tariff freshBook run) []
     unfolding tripsIn
-    every-trip-counts = trips-over tariff counts rider (runFrom tariff freshBook run) []
+    every-trip-counts = trips-over tariff counts rider (stepsFrom tariff freshBook run) []
 
     -- The first is the one that the book has open at the run's end.
     pub open-window : OpenFirst (bookOf tariff run) (ridesOf tariff counts rider run) (windowsOf tariff counts rider run)
@@ -150,7 +138,7 @@ module _ (tariff : List ℕ) (counts : Counts) (read : Read tariff counts) (ride
   -- ---- The order of the rides.
 
   -- two windows, of two runs or of one, in which the rider's rides are of one class
-  module _ (run run′ : List Offer) (window window′ : RiderWindow) (there : List·Memᴰ window (windowsOf tariff counts rider run))
+  module _ (run run′ : List Step) (window window′ : RiderWindow) (there : List·Memᴰ window (windowsOf tariff counts rider run))
       (there′ : List·Memᴰ window′ (windowsOf tariff counts rider run′)) (class : ℕ) (one : oneClass class (window .rides) ≡ true)
       (other : oneClass class (window′ .rides) ≡ true) where
     -- So the order does not change the sum: where the prices in each area are the same in all, so are the charges.
@@ -163,14 +151,14 @@ module _ (tariff : List ℕ) (counts : Counts) (read : Read tariff counts) (ride
     pub any-order : Reordered (window .rides) (window′ .rides) → charges (window .rides) ≡ charges (window′ .rides)
     any-order = reordered-same tree-is class (window-right run window there .charged) (window-right run′ window′ there′ .charged) one other
 
--- The book stays sound, whatever is settled on it.
+-- The book stays sound, whatever is settled or posted on it.
 pub book-stays-sound :
-    (tariff : List ℕ) (counts : Counts) → Read tariff counts → (run : List Offer) → sound (bookOf tariff run) (counts .areas) ≡ true
+    (tariff : List ℕ) (counts : Counts) → Read tariff counts → (run : List Step) → sound (bookOf tariff run) (counts .areas) ≡ true
 book-stays-sound tariff counts read run = kept tariff counts read 0 (omega arith) run .in-book .sound-book
 
 -- Each part of an accepted trip counts as a trip of its window: the book's first word is the number of the holder's rides in the window that
 -- is open, of which a trip that was broken has two.
 pub parts-count :
-    (tariff : List ℕ) (counts : Counts) → Read tariff counts → (run : List Offer)
+    (tariff : List ℕ) (counts : Counts) → Read tariff counts → (run : List Step)
     → tripsOf (bookOf tariff run) ≡ length (ridesOf tariff counts 0 run)
 parts-count tariff counts read run = kept tariff counts read 0 (omega arith) run .in-book .each-counts refl

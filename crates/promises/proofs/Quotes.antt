@@ -14,7 +14,7 @@ use Rattle.tariff.specs.declared.Reading.the-variants.{Fault, Faultless}
 use Rattle.tariff.specs.Scan.{readTariff}
 use Rattle.tariff.specs.Areas.{Read}
 use Rattle.tariff.specs.Layout.{longestTariff}
-use Rattle.tariff.proofs.Faults.{first-fault, fault-says, fault-exactly, fault-number}
+use Rattle.tariff.proofs.Faults.{first-fault, fault-says, fault-exactly, fault-number, fault-most}
 use Rattle.trip.specs.declared.Trip.{Trip}
 use Rattle.trip.specs.Record.{countAt}
 use Rattle.trip.specs.Trips.{tripOf}
@@ -29,57 +29,15 @@ use Rattle.deciding.specs.declared.decide.Decision.the-variants.{Refused, Clear
 use Rattle.deciding.specs.declared.refusals.Refusal.the-variants.{NoRoom, OtherRecord}
 use Rattle.deciding.specs.Refusals.{refusal, lastRefusal, Numbered, Verdict, nothing, found, firstOf}
 use Rattle.deciding.specs.Deciding.{decidedUnder}
-use Rattle.settle.specs.Outcome.{
-  Quote,
-  unquoted,
-  priced,
-  Outcome,
-  refused,
-  accepted,
-  tripParts,
-  tripPosted,
-  bookWith,
-  acceptedTrip,
-  quotedUnder,
-  quoted,
-  settled,
-  settledUnder,
-  Settled,
-  Quoted,
-}
+use Rattle.settle.specs.Outcome.{Quote, unquoted, priced, Outcome, refused, accepted, tripParts, tripPosted, bookWith, acceptedTrip, quotedUnder, quoted, settled, settledUnder, Settled, Quoted}
 use Rattle.settle.specs.Posting.{sameBytes, postingRows, unposted, renewed, postingOf, Posted}
 use Rattle.deciding.specs.Contracts.{AllClear}
 use Rattle.settle.specs.Contracts.{clearPosting}
 use Rattle.deciding.proofs.Rows.{has, first-range, first-has}
 use Rattle.deciding.proofs.Decisions.{refused-found, clear-first, clear-found, all-clear}
-use Rattle.settle.proofs.Ways.{
-  unquoted-under,
-  priced-under,
-  fault-quote,
-  faultless-quote,
-  afterQuote,
-  by-quote,
-  fault-way,
-  faultless-way,
-  refused-under,
-  accepted-under,
-}
+use Rattle.settle.proofs.Ways.{unquoted-under, priced-under, fault-quote, faultless-quote, afterQuote, by-quote, fault-way, faultless-way, refused-under, accepted-under}
 use Rattle.settle.proofs.Clear.{parts-right, size-most}
-use Rattle.settle.proofs.Postings.{
-  posting-range,
-  no-room-row,
-  same-exactly,
-  earlier-or-room,
-  none-earlier,
-  none-then,
-  posting-found,
-  posting-none,
-  posting-earlier,
-  posted-refused,
-  posted-clear,
-  fault-posting,
-  faultless-posting,
-}
+use Rattle.settle.proofs.Postings.{posting-range, no-room-row, same-exactly, earlier-or-room, none-earlier, none-then, posting-found, posting-none, posting-earlier, posted-refused, posted-clear, fault-posting, faultless-posting}
 use Rattle.promises.specs.Conditions.{tripWindow, RefusedBy, AcceptedBy}
 use Rattle.promises.specs.Quotes.{InTwoSteps, refuse-alike, accept-alike, PostsQuote, PostingRefusedBy, at-fault, at-row}
 use Rattle.promises.proofs.Refusing.{posting-first-exactly, none-exactly}
@@ -229,7 +187,7 @@ module _ (tariff book trip : List ℕ) where
         → postingOf tariff book trip offered ≡ cond (sameBytes (statementOf parts) offered) (renewed new) (unposted (refusal OtherRecord) 0))
         → quoted tariff book trip largestStatement ≡ priced parts → settled tariff book trip largestStatement ≡ accepted new parts → Present
 
-  present : Present
+  pub present : Present
   unfolding acceptedTrip
   present = go (readTariff tariff) refl
     where
@@ -320,18 +278,19 @@ module _ (tariff book trip : List ℕ) where
           (faultless-posting tariff book trip offered counts read
           ∙ posting-found tariff counts book trip offered (posting-first-exactly tariff counts book trip offered why .1 first))
 
-  -- Its number is 1 to 11, 13 or 17, and 0 is the place from 4 on.
+  -- Its number is 1 to 11, 13 or 17, its place lies in the tariff or at its end, and 0 is the place from 4 on.
   pub posting-number :
       (offered : List ℕ) {n place : ℕ} → postingOf tariff book trip offered ≡ unposted n place
-      → (1 ≤ n) × Numbered (refusal OtherRecord) n × (n ≡ refusal NoRoom → ⊥) × (4 ≤ n → place ≡ 0)
+      → (1 ≤ n) × Numbered (refusal OtherRecord) n × (n ≡ refusal NoRoom → ⊥) × (place ≤ longestTariff) × (4 ≤ n → place ≡ 0)
   posting-number offered {n} {place} e = met (posting-refused-exactly offered n place .0 e)
     where
-      met : PostingRefusedBy tariff book trip offered n place → (1 ≤ n) × Numbered (refusal OtherRecord) n × (n ≡ refusal NoRoom → ⊥) × (4 ≤ n → place ≡ 0)
+      met :
+          PostingRefusedBy tariff book trip offered n place
+          → (1 ≤ n) × Numbered (refusal OtherRecord) n × (n ≡ refusal NoRoom → ⊥) × (place ≤ longestTariff) × (4 ≤ n → place ≡ 0)
       met (at-fault soFar found-there says) =
-          ⊎-elim (λ is. (omega arith, inl (omega arith), λ twelve. omega arith, λ h. absurd (omega arith)))
-          (⊎-elim (λ is. (omega arith, inl (omega arith), λ twelve. omega arith, λ h. absurd (omega arith)))
-          (λ is. (omega arith, inl (omega arith), λ twelve. omega arith, λ h. absurd (omega arith))))
-          (fault-number tariff n place soFar found-there)
+          let (small, near) = fault-most tariff n place (fault-exactly tariff n place .1 (soFar, found-there .passed, says)) in
+          let some : 1 ≤ n = ⊎-elim (λ is. omega arith) (⊎-elim (λ is. omega arith) (λ is. omega arith)) (fault-number tariff n place soFar found-there) in
+          (some, inl (omega (arith, small)), λ twelve. omega (arith, small), near, λ h. absurd (omega (arith, small)))
       met (at-row counts read why is at first) =
           let table = postingRows tariff counts book trip offered in
           let there = posting-first-exactly tariff counts book trip offered why .1 first in
@@ -341,6 +300,7 @@ module _ (tariff book trip : List ℕ) where
             rw is high,
             λ twelve.
                 false≢true (sym (no-room-row tariff counts book trip offered) ∙ ap (λ (k : ℕ). has refusal k table) (sym twelve ∙ is) ∙ stands),
+            omega (arith, at),
             λ h. at,
           )
 

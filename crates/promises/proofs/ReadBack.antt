@@ -179,7 +179,7 @@ module _ (tariff book trip : List ℕ) (room : ℕ) {new : List ℕ} {parts : Li
 -- ---- Reading them back.
 
 -- the parts' records, behind any bytes and before any others
-read-all : (parts : List Part) → EachReadable parts → (before rest : List ℕ) → ReadFrom (before ++ (statementOf parts ++ rest)) (length before) parts
+pub read-all : (parts : List Part) → EachReadable parts → (before rest : List ℕ) → ReadFrom (before ++ (statementOf parts ++ rest)) (length before) parts
 unfolding statementOf
 read-all [] nobody before rest = over
 read-all (part ∷ parts) (also complete ok each) before rest =

@@ -15,6 +15,7 @@ use Rattle.charging.specs.Caps.{treeOf}
 use Rattle.charging.specs.Charging.{isChild}
 use Rattle.settle.specs.Outcome.{settled, bookAfter}
 use Rattle.settle.specs.Runs.{Offer, runFrom}
+use Rattle.settle.specs.Steps.{settlings}
 use Rattle.roll.specs.declared.Line.the-variants.{Refused}
 use Rattle.roll.specs.Lines.{offersOf, brokenIn, lineOf, linesIn, linesOf}
 use Rattle.promises.specs.Runs.{RiderWindow, windowsOf}
@@ -52,11 +53,11 @@ module _ (tariff roll : List ℕ) (records : ℕ) where
   pub printed-promise-three :
       (counts : Counts) → Read tariff counts → (n : ℕ) → n ≤ length run
       → (take n (linesOf records tariff freshBook roll) ≡ linesIn (runFrom tariff freshBook (take n run)))
-      × ((rider : ℕ) → rider < 21 → (window : RiderWindow) → List·Memᴰ window (windowsOf tariff counts rider (take n run))
+      × ((rider : ℕ) → rider < 21 → (window : RiderWindow) → List·Memᴰ window (windowsOf tariff counts rider (settlings (take n run)))
       → PromiseThree (treeOf tariff counts (isChild rider)) (window .rides))
   printed-promise-three counts read n few = (
     ap (take n) roll-is-a-run
         ∙ take-append-le n (linesIn (runFrom tariff freshBook run)) _ (rw (line-each tariff freshBook run) few)
         ∙ first-lines tariff freshBook run n,
-    λ rider known window there. promise-three tariff counts read rider known (take n run) window there,
+    λ rider known window there. promise-three tariff counts read rider known (settlings (take n run)) window there,
   )

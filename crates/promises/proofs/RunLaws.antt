@@ -27,8 +27,10 @@ use Rattle.ledger.proofs.WordLaws.{word-fresh}
 use Rattle.ledger.proofs.SoundLaws.{sound-has}
 use Rattle.statement.specs.Record.{Part}
 use Rattle.deciding.specs.declared.refusals.Refusal.the-variants as why
-use Rattle.settle.specs.Outcome.{Outcome, refused, accepted, settled, bookAfter}
-use Rattle.settle.specs.Runs.{Offer, Settlement, runFrom, bookFrom}
+use Rattle.settle.specs.Outcome.{Outcome, refused, accepted, bookAfter}
+use Rattle.settle.specs.Runs.{Settlement}
+use Rattle.settle.specs.Steps.{Step, offerOf, stepOutcome, eachFrom, bookAfterEach, under, stepsFrom, bookAfterSteps}
+use Rattle.settle.proofs.Steps.{step-settles}
 use Rattle.promises.specs.Conditions.{tripRides, tripWindow, conditionWith, AcceptedBy}
 use Rattle.promises.specs.Runs.{
   bookOf,
@@ -97,7 +99,7 @@ pub record KeptRun (tariff : List ℕ) (counts : Counts) (rider : ℕ) (book : L
   pub in-step : OpenFirst book rides windows
   pub each : (window : RiderWindow) → List·Memᴰ window windows → RightWindow (treeOf tariff counts (isChild rider)) window
 
-fresh-run : (tariff : List ℕ) (counts : Counts) (rider : ℕ) → KeptRun tariff counts rider freshBook [] []
+pub fresh-run : (tariff : List ℕ) (counts : Counts) (rider : ℕ) → KeptRun tariff counts rider freshBook [] []
 fresh-run tariff counts rider =
     record {
       in-book = kept-fresh tariff counts rider;
@@ -213,44 +215,44 @@ trip-taken a known k =
     record { after = kept-trip a known k; forward = fields .forward; short = fields .short; on-time = not-before a }
 
 -- After every outcome.
-after-outcome :
+pub after-outcome :
     {tariff : List ℕ} {counts : Counts} {rider : ℕ} {book : List ℕ} {rides : List ChargedRide} {windows : List RiderWindow} → Read tariff counts
-    → rider < 21 → KeptRun tariff counts rider book rides windows → (bytes : List ℕ) (room : ℕ) (outcome : Outcome)
-    → settled tariff book bytes room ≡ outcome
-    → KeptRun tariff counts rider (bookAfter outcome book) (ridesAfter tariff counts rider book bytes outcome rides)
-    (windowsAfter tariff counts rider bytes outcome windows)
+    → rider < 21 → KeptRun tariff counts rider book rides windows → (step : Step) (outcome : Outcome) → stepOutcome tariff book step ≡ outcome
+    → KeptRun tariff counts rider (bookAfter outcome book) (ridesAfter tariff counts rider book (offerOf step .bytes) outcome rides)
+    (windowsAfter tariff counts rider (offerOf step .bytes) outcome windows)
 unfolding ridesAfter windowsAfter
-after-outcome read known s bytes room (refused number place) e = s
-after-outcome {tariff} {counts} {rider} {book} {rides} {windows} read known s bytes room (accepted after parts) e =
-    let a = accepted-is tariff book bytes room e in
+after-outcome read known s step (refused number place) e = s
+after-outcome {tariff} {counts} {rider} {book} {rides} {windows} read known s step (accepted after parts) e =
+    let a = accepted-is tariff book (offerOf step .bytes) (offerOf step .room) (step-settles tariff book step e) in
     let same = read-one tariff counts (a .counts) read (a .read) in
     let s′ : KeptRun tariff (a .counts) rider book rides windows = rw same at s in
     rw same (after-trip s′ (trip-taken a known (s′ .in-book)))
 
--- Whatever is settled, one trip after another.
+-- Whatever is settled or posted, one trip after another.
 kept-from :
-    {tariff : List ℕ} {counts : Counts} → Read tariff counts → {rider : ℕ} → rider < 21 → (run : List Offer) {book : List ℕ} {rides : List ChargedRide}
+    {tariff : List ℕ} {counts : Counts} → Read tariff counts → {rider : ℕ} → rider < 21 → (run : List Step) {book : List ℕ} {rides : List ChargedRide}
     {windows : List RiderWindow} → KeptRun tariff counts rider book rides windows
-    → KeptRun tariff counts rider (bookFrom tariff book run) (ridesOver tariff counts rider (runFrom tariff book run) rides)
-    (windowsOver tariff counts rider (runFrom tariff book run) windows)
-unfolding bookFrom runFrom ridesOver windowsOver
+    → KeptRun tariff counts rider (bookAfterSteps tariff book run) (ridesOver tariff counts rider (stepsFrom tariff book run) rides)
+    (windowsOver tariff counts rider (stepsFrom tariff book run) windows)
+unfolding bookAfterEach eachFrom under ridesOver windowsOver
 kept-from read known [] s = s
-kept-from {tariff} read known (o ∷ run) {book} s =
-    kept-from read known run (after-outcome read known s (o .bytes) (o .room) (settled tariff book (o .bytes) (o .room)) refl)
+kept-from {tariff} read known (step ∷ run) {book} s =
+    kept-from read known run (after-outcome read known s step (stepOutcome tariff book step) refl)
 
 -- From a fresh book.
 pub kept :
-    (tariff : List ℕ) (counts : Counts) → Read tariff counts → (rider : ℕ) → rider < 21 → (run : List Offer)
+    (tariff : List ℕ) (counts : Counts) → Read tariff counts → (rider : ℕ) → rider < 21 → (run : List Step)
     → KeptRun tariff counts rider (bookOf tariff run) (ridesOf tariff counts rider run) (windowsOf tariff counts rider run)
 kept tariff counts read rider known run = kept-from read known run (fresh-run tariff counts rider)
 
 -- A trip that is accepted behind a run: the cuts of each of its parts.
 pub cuts-behind :
-    (tariff : List ℕ) (counts : Counts) → Read tariff counts → (rider : ℕ) → rider < 21 → (run : List Offer) (bytes : List ℕ) (room : ℕ)
-    {new : List ℕ} {parts : List Part} → settled tariff (bookOf tariff run) bytes room ≡ accepted new parts
-    → CutsFull tariff counts rider parts (cond (belongs (bookOf tariff run) (checkoutOf bytes)) (ridesOf tariff counts rider run) [])
-cuts-behind tariff counts read rider known run bytes room e =
-    let a = accepted-is tariff (bookOf tariff run) bytes room e in
+    (tariff : List ℕ) (counts : Counts) → Read tariff counts → (rider : ℕ) → rider < 21 → (run : List Step) (step : Step)
+    {new : List ℕ} {parts : List Part} → stepOutcome tariff (bookOf tariff run) step ≡ accepted new parts
+    → CutsFull tariff counts rider parts
+    (cond (belongs (bookOf tariff run) (checkoutOf (offerOf step .bytes))) (ridesOf tariff counts rider run) [])
+cuts-behind tariff counts read rider known run step e =
+    let a = accepted-is tariff (bookOf tariff run) (offerOf step .bytes) (offerOf step .room) (step-settles tariff (bookOf tariff run) step e) in
     let same = read-one tariff counts (a .counts) read (a .read) in
     let k = kept tariff counts read rider known run .in-book in
     rw same (cuts-trip a known (rw same at k))

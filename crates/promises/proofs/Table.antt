@@ -45,9 +45,12 @@ use Rattle.statement.specs.Record.{statementSize}
 use Rattle.deciding.specs.Refusals.{refusal, rows, Verdict, nothing, found, firstOf}
 use Rattle.settle.specs.Outcome.{Outcome, refused, partOf, oneMore, partsOf, postedAll, acceptedTrip, settled, bookAfter}
 use Rattle.settle.specs.Runs.{Offer, Settlement, runFrom, bookFrom}
-use Rattle.deciding.proofs.Decisions.{refused-first, clear-first}
+use Rattle.deciding.proofs.Decisions.{clear-first}
 use Rattle.settle.proofs.Ways.{refused-way, accepted-way}
-use Rattle.promises.specs.Runs.{bookOf, entryOf, cutOf, ridesWith, ridesAfter, ridesOver}
+use Rattle.deciding.proofs.Decisions.{refused-first}
+use Rattle.settle.specs.Steps.{settlings}
+use Rattle.settle.proofs.Steps.{settlings-run, settlings-book}
+use Rattle.promises.specs.Runs.{entryOf, cutOf, ridesWith, ridesAfter, ridesOver}
 use Rattle.promises.specs.Cases.{
   sampleArea,
   areaBytes,
@@ -128,12 +131,13 @@ module _ (tariff : List ℕ) (counts : Counts) (read : Read tariff counts) where
 
   -- every book of a run from a fresh book is sound; `done` are the trips that this one comes from
   run-from :
-      (run done : List Offer) (book : List ℕ) → book ≡ bookOf tariff done → runFrom tariff book run ≡ runOnSound tariff counts book run
+      (run done : List Offer) (book : List ℕ) → book ≡ bookFrom tariff freshBook done → runFrom tariff book run ≡ runOnSound tariff counts book run
   unfolding runFrom runOnSound
   run-from [] done book from = refl
   run-from (o ∷ run) done book from =
       let outcome = settled tariff book (o .bytes) (o .room) in
-      let here = on-sound book (o .bytes) (o .room) (rw from (book-stays-sound tariff counts read done)) in
+      let stays = rw (settlings-book tariff freshBook done) at (book-stays-sound tariff counts read (settlings done)) in
+      let here = on-sound book (o .bytes) (o .room) (rw from stays) in
       rw (← here)
       (ap (λ more. record { book = book; offer = o; outcome = outcome } ∷ more)
       (run-from run (done ++ o ∷ []) (bookAfter outcome book) (rw from (sym (book-more tariff freshBook done o)))))
@@ -192,5 +196,7 @@ table c there =
     let run = run-fresh sample sampleCounts sample-read (offers c) in
     record {
       results-are = ap (resultsOf (c .rider)) run ∙ ap (λ s. s .come-to) sums;
-      window-is = ap (λ settlements. ridesOver sample sampleCounts (c .rider) settlements []) run ∙ ap (λ s. s .window) sums;
+      window-is =
+          ap (λ settlements. ridesOver sample sampleCounts (c .rider) settlements []) (settlings-run sample freshBook (offers c) ∙ run)
+          ∙ ap (λ s. s .window) sums;
     }

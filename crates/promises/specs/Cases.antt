@@ -17,6 +17,7 @@ use Rattle.ledger.specs.Words.{freshBook}
 use Rattle.statement.specs.Record.{Part, largestStatement, uncut}
 use Rattle.settle.specs.Outcome.{Outcome, refused, accepted}
 use Rattle.settle.specs.Runs.{Offer, Settlement, runFrom}
+use Rattle.settle.specs.Steps.{settlings}
 use Rattle.promises.specs.Runs.{entryOf, cutOf, ridesOf}
 
 -- ---- The sample.
@@ -232,7 +233,7 @@ results c = map (λ t. t .1) (c .trips)
 -- that is open at the end. Of one trip it says what `settled sample freshBook` of it is.
 pub record Holds (c : Case) : Type 0 where
   pub results-are : resultsOf (c .rider) (runFrom sample freshBook (offers c)) ≡ results c
-  pub window-is : ridesOf sample sampleCounts (c .rider) (offers c) ≡ ridesIn (results c) []
+  pub window-is : ridesOf sample sampleCounts (c .rider) (settlings (offers c)) ≡ ridesIn (results c) []
 
 -- ---- The table.
 

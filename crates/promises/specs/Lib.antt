@@ -1,7 +1,12 @@
 pub mod Conditions
 pub mod Quotes
 pub mod Runs
+pub mod InRow
+pub mod ReadBack
 pub mod Moved
 pub mod Cases
 pub mod Books
-pub mod ReadBack
+pub mod Exported
+pub mod Numbers
+pub mod TripWords
+pub mod Payments

@@ -1,6 +1,7 @@
 -- Nights moved on the calendar: trips, books, parts and outcomes that are alike but for their minutes of UTC, which are all d later.
 use Prim.Native.Nat.{ℕ, _+_, _≤_}
 use mathlib.Core.Path.{_≡_}
+use mathlib.Core.Logic.{_↔_}
 use mathlib.Core.List.{List, [], _∷_}
 use mathlib.Core.Bool.{true, cond}
 use lib.ListN.{length}
@@ -11,9 +12,11 @@ use Rattle.trip.specs.Record.{checkinPlace, checkoutPlace, classAt, levelAt, pa
 use Rattle.trip.specs.Moments.{stampAt, checkinOf, checkoutOf}
 use Rattle.trip.specs.Trips.{stampsRight}
 use Rattle.ledger.specs.Words.{word, tripsOf, openingOf, lastOutOf}
-use Rattle.statement.specs.Record.{Part}
+use Rattle.statement.specs.Record.{Part, statementOf}
 use Rattle.settle.specs.Outcome.{Outcome, refused, accepted}
 use Rattle.settle.specs.Runs.{Offer}
+use Rattle.settle.specs.Steps.{Step, settling, posting}
+use Rattle.promises.specs.ReadBack.{EachReadable}
 
 -- two trips the same in every field but their stamps: the record's length and frame, class, level, party, the number of stops and each stop
 pub record SameTrip (trip trip′ : List ℕ) : Type 0 where
@@ -73,14 +76,31 @@ pub data MovedOutcome (d : ℕ) : Outcome → Outcome → Type 0 where
   both-accepted : {new new′ : List ℕ} {parts parts′ : List Part} → MovedBook d new new′ → MovedParts d parts parts′
       → MovedOutcome d (accepted new parts) (accepted new′ parts′)
 
--- two runs, trip by trip alike but for their moments, which are d minutes later in the second
-pub data MovedRun (d : ℕ) : List Offer → List Offer → Type 0 where
-  moved-none : MovedRun d [] []
-  moved-more : {o o′ : Offer} {run run′ : List Offer} → MovedTrip d (o .bytes) (o′ .bytes) → o′ .room ≡ o .room → MovedRun d run run′
-      → MovedRun d (o ∷ run) (o′ ∷ run′)
+-- two records offered: of parts that a reader accepts, the one is their charge records exactly where the other is those of the same parts d
+-- minutes later. So it is of two that are no charge records, and of what quotes wrote in two such nights
+pub record MovedRecord (d : ℕ) (offered offered′ : List ℕ) : Type 0 where
+  pub alike :
+      {parts parts′ : List Part} → EachReadable parts → EachReadable parts′ → MovedParts d parts parts′
+      → statementOf parts ≡ offered ↔ statementOf parts′ ≡ offered′
+
+-- two steps alike but for the moments of their trips, as `trips` says of these: settled with the same room, or posted with such records
+pub data MovedStep (d : ℕ) (trips : List ℕ → List ℕ → Type 0) : Step → Step → Type 0 where
+  moved-settling : {o o′ : Offer} → trips (o .bytes) (o′ .bytes) → o′ .room ≡ o .room → MovedStep d trips (settling o) (settling o′)
+  moved-posting :
+      {trip trip′ offered offered′ : List ℕ} → trips trip trip′ → MovedRecord d offered offered′
+      → MovedStep d trips (posting trip offered) (posting trip′ offered′)
+
+-- two runs, step by step alike
+pub data MovedSteps (d : ℕ) (trips : List ℕ → List ℕ → Type 0) : List Step → List Step → Type 0 where
+  moved-none : MovedSteps d trips [] []
+  moved-more :
+      {step step′ : Step} {run run′ : List Step} → MovedStep d trips step step′ → MovedSteps d trips run run′
+      → MovedSteps d trips (step ∷ run) (step′ ∷ run′)
+
+-- the moments are d minutes later in the second
+abbrev pub MovedRun : ℕ → List Step → List Step → Type 0
+MovedRun d = MovedSteps d (MovedTrip d)
 
 -- the same, told by the stamps
-pub data MovedNight (d : ℕ) : List Offer → List Offer → Type 0 where
-  night-none : MovedNight d [] []
-  night-more : {o o′ : Offer} {run run′ : List Offer} → MovedStamps d (o .bytes) (o′ .bytes) → o′ .room ≡ o .room → MovedNight d run run′
-      → MovedNight d (o ∷ run) (o′ ∷ run′)
+abbrev pub MovedNight : ℕ → List Step → List Step → Type 0
+MovedNight d = MovedSteps d (MovedStamps d)

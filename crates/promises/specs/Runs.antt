@@ -1,4 +1,5 @@
--- The windows of a run: the trips that count in each, and a rider's rides in it, read off the parts that the trips were charged in.
+-- The windows of a run, whose trips are settled or posted: those that count in each, and a rider's rides in it, read off the parts that the
+-- trips were charged in.
 use Prim.Native.Nat.{ℕ, _+_, _≤_, _<_}
 use mathlib.Core.Path.{_≡_}
 use mathlib.Core.List.{List, [], _∷_, _++_}
@@ -21,7 +22,8 @@ use Rattle.charging.specs.Charging.{isChild, carries, placeOf, priceFor}
 use Rattle.cycles.specs.InWords.{RidePays}
 use Rattle.statement.specs.Record.{Part, uncut}
 use Rattle.settle.specs.Outcome.{Outcome, refused, accepted}
-use Rattle.settle.specs.Runs.{Offer, Settlement, runFrom, bookFrom}
+use Rattle.settle.specs.Runs.{Settlement}
+use Rattle.settle.specs.Steps.{Step, stepsFrom, bookAfterSteps}
 use Rattle.promises.specs.Conditions.{nameOfCut}
 use Rattle.promises.specs.Books.{bicycleChargeOf, BicycleTakes}
 
@@ -182,13 +184,13 @@ acceptedOver (s ∷ more) before = acceptedOver more (acceptedAfter (s .offer .b
 -- ---- A run from a fresh book.
 
 -- the book that it leaves
-abbrev pub bookOf : List ℕ → List Offer → List ℕ
-bookOf tariff run = bookFrom tariff freshBook run
+abbrev pub bookOf : List ℕ → List Step → List ℕ
+bookOf tariff run = bookAfterSteps tariff freshBook run
 
 -- a rider's rides in the window that is open at its end, the latest first
-abbrev pub ridesOf : List ℕ → Counts → ℕ → List Offer → List ChargedRide
-ridesOf tariff counts rider run = ridesOver tariff counts rider (runFrom tariff freshBook run) []
+abbrev pub ridesOf : List ℕ → Counts → ℕ → List Step → List ChargedRide
+ridesOf tariff counts rider run = ridesOver tariff counts rider (stepsFrom tariff freshBook run) []
 
 -- its windows, the latest first, with a rider's rides in each
-abbrev pub windowsOf : List ℕ → Counts → ℕ → List Offer → List RiderWindow
-windowsOf tariff counts rider run = windowsOver tariff counts rider (runFrom tariff freshBook run) []
+abbrev pub windowsOf : List ℕ → Counts → ℕ → List Step → List RiderWindow
+windowsOf tariff counts rider run = windowsOver tariff counts rider (stepsFrom tariff freshBook run) []

@@ -5,3 +5,4 @@ pub mod Legs
 pub mod Turns
 pub mod Postings
 pub mod Answers
+pub mod Steps
