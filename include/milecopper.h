@@ -150,8 +150,8 @@
 /* The version. The number stands here alone: the library's file names, its pkg-config file, its constant
  * milecopper_version and what the scripts say all come from these lines. */
 #define MILECOPPER_VERSION_MAJOR 0
-#define MILECOPPER_VERSION_MINOR 13
-#define MILECOPPER_VERSION_PATCH 3
+#define MILECOPPER_VERSION_MINOR 14
+#define MILECOPPER_VERSION_PATCH 2
 #define MILECOPPER_VERSION_AS_TEXT(major, minor, patch) #major "." #minor "." #patch
 #define MILECOPPER_VERSION_AS_WRITTEN(major, minor, patch) MILECOPPER_VERSION_AS_TEXT(major, minor, patch)
 #define MILECOPPER_VERSION \

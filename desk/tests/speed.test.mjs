@@ -1,4 +1,5 @@
-// What 100,000 trips of 1,000 members may cost: 2.5 s of processor time and 300 MB, the command's start included.
+// What 100,000 trips of 1,000 members may cost: 2.5 s of processor time and 300 MB, the command's start included. Machines differ, so the test
+// fails at twice the time: an old way of reading or settling takes more than that.
 import assert from 'node:assert/strict';
 import { spawnSync } from 'node:child_process';
 import fs from 'node:fs';
@@ -6,6 +7,9 @@ import os from 'node:os';
 import path from 'node:path';
 import { test } from 'node:test';
 import { ROOT, SAMPLE, numbers, sample } from './support.mjs';
+
+const MOST_SECONDS = 5;
+const MOST_MEGABYTES = 300;
 
 const MEMBERS = 1000;
 const TRIPS_EACH = 100;
@@ -58,7 +62,7 @@ test('wages of 100,000 trips of 1,000 members', (context) => {
     };
     // beside other work the same takes more processor time, so the best of up to three counts
     const costs = [took()];
-    while (costs.length < 3 && costs.at(-1).seconds > 2.5) costs.push(took());
-    assert.ok(Math.min(...costs.map(({ seconds }) => seconds)) <= 2.5, 'processor time');
-    assert.ok(costs[0].megabytes <= 300, 'memory');
+    while (costs.length < 3 && costs.at(-1).seconds > MOST_SECONDS) costs.push(took());
+    assert.ok(Math.min(...costs.map(({ seconds }) => seconds)) <= MOST_SECONDS, 'processor time');
+    assert.ok(costs[0].megabytes <= MOST_MEGABYTES, 'memory');
 });

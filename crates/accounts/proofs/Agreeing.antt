@@ -13,15 +13,15 @@ use lib.Seq.{getD-take, getD-drop}
 use lib.Dec.{leb}
 use Rattle.wire.specs.Each.{each}
 use Rattle.wire.proofs.Number.{get-same}
-use Rattle.tariff.specs.declared.Counts.{Counts}
-use Rattle.tariff.specs.Areas.{Read}
+use Rattle.layout.specs.declared.Counts.{Counts}
+use Rattle.layout.specs.Scan.{Read}
 use Rattle.ledger.specs.Words.{bookSize}
 use Rattle.settle.specs.Outcome.{Outcome, refused, accepted, settledUnder, bookAfter}
-use Rattle.accounts.specs.declared.places.Spot.{Spot}
-use Rattle.accounts.specs.declared.places.Spot.the-variants.{Nowhere, At}
-use Rattle.accounts.specs.declared.checks.Account.{Account}
-use Rattle.accounts.specs.declared.checks.Account.the-variants.{WrongPage, Absent, Present}
-use Rattle.accounts.specs.Pages.{
+use Rattle.page.specs.declared.Spot.{Spot}
+use Rattle.page.specs.declared.Spot.the-variants.{Nowhere, At}
+use Rattle.page.specs.declared.checks.Account.{Account}
+use Rattle.page.specs.declared.checks.Account.the-variants.{WrongPage, Absent, Present}
+use Rattle.page.specs.Pages.{
   numberSize,
   placeSize,
   places,
@@ -43,15 +43,14 @@ use Rattle.accounts.specs.Pages.{
   added,
   closed,
   pageAfter,
-  onPage,
-  memberSettledUnder,
-  memberSettled,
 }
-use Rattle.accounts.specs.Words.{Touched, Agree, ChangesAgree, TripsAgree, OnlyIn}
-use Rattle.accounts.proofs.Replacing.{part-alike, length-replaced, byte-there, byte-other}
-use Rattle.accounts.proofs.Lowest.{lowest-says}
-use Rattle.accounts.proofs.Conditions.{absent-looked, present-there, present-lowest}
-use Rattle.accounts.proofs.Touching.{place-touched, book-touched}
+use Rattle.accounts.specs.Members.{onPage, memberSettledUnder, memberSettled}
+use Rattle.page.specs.InWords.{Touched, Agree, OnlyIn}
+use Rattle.accounts.specs.InWords.{ChangesAgree, TripsAgree}
+use Rattle.page.proofs.Replacing.{part-alike, length-replaced, byte-there, byte-other}
+use Rattle.page.proofs.Lowest.{lowest-says}
+use Rattle.page.proofs.Conditions.{absent-looked, present-there, present-lowest}
+use Rattle.page.proofs.Touching.{place-touched, book-touched}
 use Rattle.accounts.proofs.Effects.{
   accepted-size,
   cleared-long,

@@ -7,11 +7,10 @@ use mathlib.Core.Logic.{_↔_}
 use mathlib.Core.List.{List}
 use lib.ListN.{length, length-replicate}
 use Rattle.wire.proofs.Number.{length-put}
-use Rattle.tariff.specs.declared.Counts.{Counts}
-use Rattle.tariff.specs.declared.Reading.{Reading}
-use Rattle.tariff.specs.declared.Reading.the-variants.{Fault, Faultless}
-use Rattle.tariff.specs.Scan.{readTariff}
-use Rattle.tariff.specs.Areas.{Read}
+use Rattle.layout.specs.declared.Counts.{Counts}
+use Rattle.layout.specs.declared.Reading.{Reading}
+use Rattle.layout.specs.declared.Reading.the-variants.{Fault, Faultless}
+use Rattle.layout.specs.Scan.{readTariff, Read}
 use Rattle.ledger.specs.Words.{bookSize}
 use Rattle.ledger.proofs.SoundLaws.{sound-has}
 use Rattle.statement.specs.Record.{Part}
@@ -22,9 +21,9 @@ use Rattle.settle.specs.Outcome.{Outcome, refused, accepted, tripPosted, accept
 use Rattle.deciding.proofs.Decisions.{clear-found, no-row, all-clear}
 use Rattle.settle.proofs.Ways.{refused-under, accepted-under}
 use Rattle.settle.proofs.Clear.{parts-right}
-use Rattle.accounts.specs.declared.places.Spot.the-variants.{Nowhere, At}
-use Rattle.accounts.specs.declared.checks.Account.the-variants.{WrongPage, Absent, Present}
-use Rattle.accounts.specs.Pages.{
+use Rattle.page.specs.declared.Spot.the-variants.{Nowhere, At}
+use Rattle.page.specs.declared.checks.Account.the-variants.{WrongPage, Absent, Present}
+use Rattle.page.specs.Pages.{
   numberSize,
   placeSize,
   places,
@@ -45,14 +44,12 @@ use Rattle.accounts.specs.Pages.{
   added,
   closed,
   pageAfter,
-  onPage,
-  memberSettledUnder,
-  memberSettled,
 }
-use Rattle.accounts.specs.Words.{InNone, Lowest, CanHave, Passing, Eighteen, Touched}
-use Rattle.accounts.proofs.Lowest.{at-lowest, nowhere-lowest, Searched, in-none, in-one, searched}
-use Rattle.accounts.proofs.Conditions.{Known, refused-page, nowhere, present, known, not-both}
-use Rattle.accounts.proofs.Touching.{book-touched, number-kept}
+use Rattle.accounts.specs.Members.{onPage, memberSettledUnder, memberSettled}
+use Rattle.page.specs.InWords.{InNone, Lowest, CanHave, Passing, Eighteen, Touched}
+use Rattle.page.proofs.Lowest.{at-lowest, nowhere-lowest, Searched, in-none, in-one, searched}
+use Rattle.page.proofs.Conditions.{Known, refused-page, nowhere, present, known, not-both}
+use Rattle.page.proofs.Touching.{book-touched, number-kept}
 
 -- An accepted trip's new book is as long as every book.
 pub accepted-size :

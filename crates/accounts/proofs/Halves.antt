@@ -10,30 +10,16 @@ use mathlib.Core.Logic.{_↔_, inl, inr, ⊎-elim}
 use mathlib.Core.List.{List}
 use mathlib.Core.Bool.{true, false}
 use borrow.Author.Tests.{le-leb, lt-leb}
-use Rattle.tariff.specs.declared.Counts.{Counts}
-use Rattle.tariff.specs.declared.Reading.{Reading}
-use Rattle.tariff.specs.declared.Reading.the-variants.{Fault, Faultless}
-use Rattle.tariff.specs.Scan.{readTariff}
-use Rattle.tariff.specs.Areas.{Read}
+use Rattle.layout.specs.declared.Counts.{Counts}
+use Rattle.layout.specs.declared.Reading.{Reading}
+use Rattle.layout.specs.declared.Reading.the-variants.{Fault, Faultless}
+use Rattle.layout.specs.Scan.{readTariff, Read}
 use Rattle.statement.specs.Record.{Part}
 use Rattle.settle.specs.Outcome.{refused, accepted, bookAfter}
-use Rattle.accounts.specs.Pages.{
-  placeSize,
-  places,
-  startOf,
-  numberAt,
-  replaced,
-  newPlace,
-  noPlace,
-  unchanged,
-  changed,
-  added,
-  closed,
-  pageAfter,
-  memberSettledUnder,
-  memberSettled,
-}
-use Rattle.accounts.specs.Words.{InNone, Lowest, Touched, ChangesAgree, TripsAgree}
+use Rattle.page.specs.Pages.{placeSize, places, startOf, numberAt, replaced, newPlace, noPlace, unchanged, changed, added, closed, pageAfter}
+use Rattle.accounts.specs.Members.{memberSettledUnder, memberSettled}
+use Rattle.page.specs.InWords.{InNone, Lowest, Touched}
+use Rattle.accounts.specs.InWords.{ChangesAgree, TripsAgree}
 use Rattle.accounts.specs.Associations.{
   ownPlaces,
   firstPlace,
@@ -56,13 +42,7 @@ use Rattle.accounts.specs.Associations.{
   for-others,
 }
 use Rattle.accounts.proofs.Effects.{by-tariff, by-page, Addable, no-room-exactly, takes-the-lowest, settling-touches-one}
-use Rattle.accounts.proofs.Refusing.{
-  same-number,
-  same-refusal,
-  adding-refused-exactly,
-  closing-refused-exactly,
-  settling-refused-exactly,
-}
+use Rattle.accounts.proofs.Refusing.{same-number, same-refusal, adding-refused-exactly, closing-refused-exactly, settling-refused-exactly}
 use Rattle.accounts.proofs.Agreeing.{
   added-agrees,
   closed-agrees,

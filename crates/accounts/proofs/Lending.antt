@@ -9,9 +9,9 @@ use borrow.Author.Tests.{eq-eqb, le-leb, lt-ltb, eqb-true, leb-true, ltb-true}
 use lib.ListN.{length}
 use lib.Dec.{leb, ltb, eqb}
 use Rattle.wire.proofs.Tests.{both-left, both-right}
-use Rattle.tariff.specs.declared.Reading.{Reading}
-use Rattle.tariff.specs.declared.Reading.the-variants.{Fault, Faultless}
-use Rattle.tariff.specs.Scan.{readTariff}
+use Rattle.layout.specs.declared.Reading.{Reading}
+use Rattle.layout.specs.declared.Reading.the-variants.{Fault, Faultless}
+use Rattle.layout.specs.Scan.{readTariff}
 use Rattle.ledger.specs.Words.{bookSize}
 use Rattle.statement.specs.Record.{Part, largestStatement}
 use Rattle.settle.specs.Outcome.{accepted, quoted, settled, partsPriced}
@@ -19,11 +19,11 @@ use Rattle.settle.specs.Posting.{Posting, unposted, renewed, postingOf}
 use Rattle.settle.specs.Steps.{postedIn}
 use Rattle.settle.proofs.Ways.{fault-way, faultless-way}
 use Rattle.settle.proofs.Steps.{posting-settles}
-use Rattle.accounts.specs.Pages.{numberSize, places, pageSize, startOf, bookAt}
-use Rattle.accounts.specs.Words.{Agree, OnlyIn}
+use Rattle.page.specs.Pages.{numberSize, places, pageSize, startOf, bookAt}
+use Rattle.page.specs.InWords.{Agree, OnlyIn}
 use Rattle.accounts.specs.Associations.{ownPlaces, firstPlace, isAssociation, AgreeFor, OnlyOf}
 use Rattle.accounts.specs.Lent.{lends, placePosted, postedFor, pagePosted}
-use Rattle.accounts.proofs.Touching.{book-touched}
+use Rattle.page.proofs.Touching.{book-touched}
 use Rattle.accounts.proofs.Effects.{accepted-size}
 use Rattle.accounts.proofs.Agreeing.{book-agrees, replaced-agrees, only-self, touched-in}
 use Rattle.accounts.proofs.Halves.{Which, is-one, is-none, which, few-own}

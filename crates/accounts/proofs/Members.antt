@@ -16,11 +16,10 @@ use Rattle.wire.specs.Number.{getLe}
 use Rattle.wire.proofs.Number.{read-back}
 use Rattle.wire.proofs.Number as number
 use Rattle.wire.proofs.Tests.{both-left, both-right}
-use Rattle.tariff.specs.declared.Counts.{Counts}
-use Rattle.tariff.specs.declared.Reading.{Reading}
-use Rattle.tariff.specs.declared.Reading.the-variants.{Fault, Faultless}
-use Rattle.tariff.specs.Scan.{readTariff}
-use Rattle.tariff.specs.Areas.{Read}
+use Rattle.layout.specs.declared.Counts.{Counts}
+use Rattle.layout.specs.declared.Reading.{Reading}
+use Rattle.layout.specs.declared.Reading.the-variants.{Fault, Faultless}
+use Rattle.layout.specs.Scan.{readTariff, Read}
 use Rattle.ledger.specs.Words.{bookSize, freshBook}
 use Rattle.ledger.proofs.WordLaws.{fresh-size}
 use Rattle.statement.specs.Record.{largestStatement}
@@ -29,7 +28,7 @@ use Rattle.settle.specs.Posting.{Posting, unposted, renewed, postingOf}
 use Rattle.settle.specs.Runs.{Offer}
 use Rattle.settle.specs.Steps.{posting, postedIn, stepOutcome, eachFrom, bookAfterEach}
 use Rattle.settle.proofs.Ways.{fault-way, faultless-way}
-use Rattle.accounts.specs.Pages.{
+use Rattle.page.specs.Pages.{
   numberSize,
   placeSize,
   places,
@@ -45,16 +44,14 @@ use Rattle.accounts.specs.Pages.{
   added,
   closed,
   pageAfter,
-  onPage,
-  onBook,
-  memberSettled,
 }
-use Rattle.accounts.specs.Words.{InNone, Lowest, CanHave, Passing, Touched}
+use Rattle.accounts.specs.Members.{onPage, onBook, memberSettled}
+use Rattle.page.specs.InWords.{InNone, Lowest, CanHave, Passing, Touched}
 use Rattle.accounts.specs.Lent.{placePosted, pagePosted}
 use Rattle.accounts.specs.Calls.{Call, adds, closes, settles, posts, pageWith, pageFrom, stays, stepsOf, settlementsOf}
-use Rattle.accounts.proofs.Replacing.{byte-there}
-use Rattle.accounts.proofs.Conditions.{found-there, not-both}
-use Rattle.accounts.proofs.Touching.{
+use Rattle.page.proofs.Replacing.{byte-there}
+use Rattle.page.proofs.Conditions.{found-there, not-both}
+use Rattle.page.proofs.Touching.{
   other-place,
   other-number,
   other-book,

@@ -2,21 +2,19 @@
 -- Assumes nothing.
 use Prim.Native.Nat.{ℕ, _+_}
 use native.Mathlib.Omega.{arith}
-use mathlib.Core.Path.{_≡_, refl, ap, _∙_}
-use mathlib.Core.List.{List, _++_}
-use lib.ListN.{length, take, drop, take-append-drop}
-use Rattle.tariff.specs.declared.Counts.{Counts}
+use mathlib.Core.Path.{_≡_, refl, ap}
+use mathlib.Core.List.{List}
+use lib.ListN.{length, take, drop}
+use Rattle.layout.specs.declared.Counts.{Counts}
 use Rattle.ledger.specs.Words.{bookSize}
 use Rattle.settle.specs.declared.Answer.{Answer}
 use Rattle.settle.specs.declared.Answer.the-variants.{Refused, Written}
 use Rattle.settle.specs.Outcome.{Outcome, refused, accepted, settledUnder}
 use Rattle.settle.specs.Contracts.{Told}
-use Rattle.accounts.specs.Pages.{numberSize, placeSize, startOf, bookAt, replaced, Change, unchanged, changed, onPage}
+use Rattle.page.specs.Pages.{numberSize, placeSize, startOf, bookAt, replaced, Change, unchanged, changed}
+use Rattle.page.proofs.Replacing.{put-back}
+use Rattle.accounts.specs.Members.{onPage}
 use Rattle.accounts.specs.Contracts.{ChangeTold, PlaceSettled}
-
--- What is put back as it was leaves the page.
-pub put-back : (page : List ℕ) (start size : ℕ) → replaced page start size (take size (drop start page)) ≡ page
-put-back page start size = ap (take start page ++_) (take-append-drop size (drop start page)) ∙ take-append-drop start page
 
 -- What is told of a place's book is told of the page.
 on-page-told :
@@ -49,12 +47,6 @@ pub place-told :
     → PlaceSettled tariff counts page place trip statement (replaced page (startOf place + numberSize) size book′) statement′ r
 place-told tariff counts page place size trip statement e told =
     rw e (on-page-told (settledUnder tariff counts (bookAt page place) trip (length statement)) page place (rw e at told))
-
--- the new bytes of a part of the page, lent from where it begins to where it ends
-pub part-put :
-    (page : List ℕ) (start size long : ℕ) {bytes bytes′ : List ℕ} → size ≡ long → bytes′ ≡ bytes
-    → replaced page start size bytes′ ≡ replaced page start long bytes
-part-put page start size long e is = rw (e, is)
 
 -- ---- What a change tells.
 

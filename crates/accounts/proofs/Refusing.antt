@@ -5,12 +5,13 @@ use native.Mathlib.Omega.{arith}
 use mathlib.Core.Path.{_≡_, refl, sym, ap, subst, _∙_}
 use mathlib.Core.Logic.{_↔_}
 use mathlib.Core.List.{List}
-use Rattle.tariff.specs.declared.Counts.{Counts}
-use Rattle.tariff.specs.Areas.{Read}
+use Rattle.layout.specs.declared.Counts.{Counts}
+use Rattle.layout.specs.Scan.{Read}
 use Rattle.settle.specs.Outcome.{Outcome, refused, accepted, settledUnder}
-use Rattle.accounts.specs.declared.checks.Account.the-variants.{WrongPage, Absent, Present}
-use Rattle.accounts.specs.Pages.{bookAt, accountOf, unchanged, added, closed, onPage, memberSettled}
-use Rattle.accounts.specs.Words.{
+use Rattle.page.specs.declared.checks.Account.the-variants.{WrongPage, Absent, Present}
+use Rattle.page.specs.Pages.{bookAt, accountOf, unchanged, added, closed}
+use Rattle.accounts.specs.Members.{onPage, memberSettled}
+use Rattle.page.specs.InWords.{
   InNone,
   InOne,
   Lowest,
@@ -24,14 +25,10 @@ use Rattle.accounts.specs.Words.{
   ClosingRefused,
   close-eighteen,
   close-nineteen,
-  SettlingRefused,
-  settle-faulty,
-  settle-eighteen,
-  settle-nineteen,
-  settle-table,
 }
-use Rattle.accounts.proofs.Lowest.{nowhere-lowest}
-use Rattle.accounts.proofs.Conditions.{eighteen-exactly, not-both, not-eighteen, wrong-way, found-nowhere, found-there}
+use Rattle.accounts.specs.InWords.{SettlingRefused, settle-faulty, settle-eighteen, settle-nineteen, settle-table}
+use Rattle.page.proofs.Lowest.{nowhere-lowest}
+use Rattle.page.proofs.Conditions.{eighteen-exactly, not-both, not-eighteen, wrong-way, found-nowhere, found-there}
 use Rattle.accounts.proofs.Effects.{
   not-changed,
   Adding,

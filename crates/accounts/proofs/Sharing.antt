@@ -13,21 +13,11 @@ use Rattle.statement.specs.Record.{statementOf}
 use Rattle.settle.specs.Posting.{postingAnswer}
 use Rattle.settle.specs.Runs.{Settlement}
 use Rattle.settle.specs.Steps.{eachFrom, bookAfterEach}
-use Rattle.accounts.specs.Pages.{places, bookAt, changed}
-use Rattle.accounts.specs.Words.{InNone, Lowest}
+use Rattle.page.specs.Pages.{places, bookAt, changed}
+use Rattle.page.specs.InWords.{InNone, Lowest}
 use Rattle.accounts.specs.Calls.{Call, adds, closes, settles, posts, pageWith, pageFrom, stays, stepsOf, settlementsOf}
 use Rattle.accounts.specs.Associations.{ownPlaces, firstPlace, addedFor, closedFor, Association, AgreeFor, OnlyOf}
-use Rattle.accounts.specs.Sharing.{
-  Asked,
-  pageWithFor,
-  pageShared,
-  callsOf,
-  Reply,
-  replyTo,
-  repliesTo,
-  settlementBefore,
-  settlementsFor,
-}
+use Rattle.accounts.specs.Sharing.{Asked, pageWithFor, pageShared, callsOf, Reply, replyTo, repliesTo, settlementBefore, settlementsFor}
 use Rattle.accounts.proofs.Effects.{Addable}
 use Rattle.accounts.proofs.Members.{Stands, ClosedThere, closed-there, from-adding-to-closing}
 use Rattle.accounts.proofs.Agreeing.{agree-self, agree-sym, agree-trans, number-agrees, book-agrees}

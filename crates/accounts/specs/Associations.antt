@@ -1,18 +1,19 @@
 -- docs/RULES.md, section 21: two associations share a page. Association 0 has the first six places, association 1 the others, each with its own
--- members. What is said of some places of a page (Pages, Words) is here said of an association's; 21 comes before all of it but the tariff's.
+-- members. What is said of some places of a page (page/Pages, InWords) is here said of an association's; 21 comes before all of it but the tariff's.
 use Prim.Native.Nat.{ℕ, _*_}
 use mathlib.Core.Path.{_≡_}
 use mathlib.Core.Logic.{_⊎_}
 use mathlib.Core.List.{List}
 use mathlib.Core.Bool.{Bool, cond}
 use lib.Dec.{leb}
-use Rattle.tariff.specs.declared.Counts.{Counts}
-use Rattle.tariff.specs.declared.Reading.the-variants.{Fault, Faultless}
-use Rattle.tariff.specs.Scan.{readTariff}
-use Rattle.tariff.specs.Areas.{Read}
+use Rattle.layout.specs.declared.Counts.{Counts}
+use Rattle.layout.specs.declared.Reading.the-variants.{Fault, Faultless}
+use Rattle.layout.specs.Scan.{readTariff, Read}
 use Rattle.settle.specs.Outcome.{Outcome, refused}
-use Rattle.accounts.specs.Pages.{placesAt, Change, unchanged, added, closed, memberSettledUnder}
-use Rattle.accounts.specs.Words.{Agree, OnlyIn, AddingRefused, ClosingRefused, SettlingRefused}
+use Rattle.page.specs.Pages.{placesAt, Change, unchanged, added, closed}
+use Rattle.accounts.specs.Members.{memberSettledUnder}
+use Rattle.page.specs.InWords.{Agree, OnlyIn, AddingRefused, ClosingRefused}
+use Rattle.accounts.specs.InWords.{SettlingRefused}
 
 -- so many places, from this one on
 abbrev pub ownPlaces : ℕ

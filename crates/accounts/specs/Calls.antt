@@ -7,7 +7,8 @@ use lib.Dec.{eqb}
 use Rattle.settle.specs.Outcome.{bookAfter}
 use Rattle.settle.specs.Runs.{Offer, Settlement}
 use Rattle.settle.specs.Steps.{settling, posting, offerOf, stepOutcome, StepUnder}
-use Rattle.accounts.specs.Pages.{bookAt, added, closed, pageAfter, onBook, memberSettled}
+use Rattle.page.specs.Pages.{bookAt, added, closed, pageAfter}
+use Rattle.accounts.specs.Members.{onBook, memberSettled}
 use Rattle.accounts.specs.Lent.{placePosted, pagePosted}
 
 -- settling takes a tariff, a member and a trip; a posting a tariff, a place, a trip and a record

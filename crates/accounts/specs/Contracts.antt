@@ -1,36 +1,16 @@
 -- What the functions over a page ask and answer, up to those that the exported ones call.
-use Prim.Native.Nat.{ℕ, _+_, _≤_, _<_}
+use Prim.Native.Nat.{ℕ}
 use mathlib.Core.Path.{_≡_}
 use mathlib.Core.List.{List}
 use lib.ListN.{length}
-use Rattle.tariff.specs.declared.Counts.{Counts}
+use Rattle.layout.specs.declared.Counts.{Counts}
 use Rattle.settle.specs.declared.Answer.{Answer}
 use Rattle.settle.specs.declared.Answer.the-variants.{Refused, Written}
 use Rattle.settle.specs.Outcome.{settledUnder}
 use Rattle.settle.specs.Contracts.{AnswerFits, Told}
-use Rattle.accounts.specs.Pages.{
-  places,
-  placeSize,
-  pageSize,
-  bookAt,
-  Change,
-  unchanged,
-  changed,
-  pageAfter,
-  onPage,
-  memberSettledUnder,
-}
+use Rattle.page.specs.Pages.{placeSize, bookAt, Change, unchanged, changed, pageAfter}
+use Rattle.accounts.specs.Members.{onPage, memberSettledUnder}
 use Rattle.accounts.specs.Associations.{settledForUnder, settledFor}
-
--- what looking at some places asks: a page of the right length, which has them all
-pub record Looked (page : List ℕ) (first count : ℕ) : Type 0 where
-  pub size : length page ≡ pageSize
-  pub there : first + count ≤ places
-
--- at one place
-pub record OnPage (page : List ℕ) (place : ℕ) : Type 0 where
-  pub size : length page ≡ pageSize
-  pub there : place < places
 
 -- acceptance answers the bytes written, which are a place's
 abbrev pub toldChange : Change → Answer

@@ -6,7 +6,7 @@ use lib.ListN.{length}
 use lib.Dec.{leb, ltb, eqb}
 use Rattle.ledger.specs.Words.{bookSize}
 use Rattle.settle.specs.Posting.{Posting, unposted, renewed, postingOf}
-use Rattle.accounts.specs.Pages.{numberSize, pageSize, startOf, bookAt, replaced}
+use Rattle.page.specs.Pages.{numberSize, pageSize, startOf, bookAt, replaced}
 use Rattle.accounts.specs.Associations.{ownPlaces, firstPlace, isAssociation}
 
 -- the page has its length, and the place is one of some, so that its book can be lent

@@ -8,7 +8,8 @@ use Rattle.settle.specs.Outcome.{Outcome, answerOf, partsIn, bookAfter}
 use Rattle.settle.specs.Posting.{Posting, postingAnswer}
 use Rattle.settle.specs.Runs.{Settlement}
 use Rattle.settle.specs.Steps.{posting, offerOf, stepOutcome}
-use Rattle.accounts.specs.Pages.{bookAt, Change, pageAfter, changeAnswer, onBook}
+use Rattle.page.specs.Pages.{bookAt, Change, pageAfter}
+use Rattle.accounts.specs.Members.{changeAnswer, onBook}
 use Rattle.accounts.specs.Calls.{Call, adds, closes, settles, posts}
 use Rattle.accounts.specs.Associations.{placesOf, addedFor, closedFor, settledFor}
 use Rattle.accounts.specs.Lent.{postedFor, pagePosted}

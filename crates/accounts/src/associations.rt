@@ -4,11 +4,11 @@ use crate::add;
 use crate::close;
 use crate::refuse;
 use crate::settle_found;
+use layout::Counts;
+use layout::Reading;
+use scan::read_tariff;
 use settle::Answer;
-use tariff::Counts;
-use tariff::Reading;
-use tariff::scan::read_tariff;
-ghost use Rattle.tariff.specs.Areas.{Read};
+ghost use Rattle.layout.specs.Scan.{Read};
 ghost use Rattle.accounts.specs.Associations.{addedFor, closedFor};
 ghost use Rattle.accounts.specs.Contracts.{ChangeTold, OwnSettled, ForSettled};
 
@@ -50,7 +50,8 @@ fn settle_own(
     statement: &mut [u8],
 ) -> Answer
     requires { ⌜ Read (now tariff) counts ⌝ }
-    ensures { λ r. ⌜ OwnSettled (now (tariff .entry)) counts association (now (page .entry)) member (now (trip .entry)) (now (statement .entry)) (now (page .exit)) (now (statement .exit)) r ⌝ }
+    ensures { λ r. ⌜ OwnSettled (now (tariff .entry)) counts association (now (page .entry)) member (now (trip .entry))
+        (now (statement .entry)) (now (page .exit)) (now (statement .exit)) r ⌝ }
 {
     if association > 1 {
         return refuse(NO_ASSOCIATION);
@@ -78,7 +79,8 @@ pub fn settle_for(
     trip: &[u8],
     statement: &mut [u8],
 ) -> Answer
-    ensures { λ r. ⌜ ForSettled (now (tariff .entry)) association (now (page .entry)) member (now (trip .entry)) (now (statement .entry)) (now (page .exit)) (now (statement .exit)) r ⌝ }
+    ensures { λ r. ⌜ ForSettled (now (tariff .entry)) association (now (page .entry)) member (now (trip .entry))
+        (now (statement .entry)) (now (page .exit)) (now (statement .exit)) r ⌝ }
 {
     match read_tariff(tariff) {
         Reading::Fault { number, at } => Answer::Refused { number, place: at },

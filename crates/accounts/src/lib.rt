@@ -1,36 +1,30 @@
-// A page of accounts: twelve places, each a member's number and a book. Members are added, settled and closed on some places that follow
-// each other, `count` of them from `first` on; two associations have six each.
+// A page of accounts: members are added, settled and closed on some of its places that follow each other, `count` of them from `first` on; two
+// associations have six each.
 //
 // associations.rt  the functions for an association, on its own places
-// places.rt        where a place stands, its number, the lowest with a number
-// checks.rt        what is refused before anything else of the page is looked at, and where a member stands; only reads
-// clear.rt         a place cleared, or written for a new member
 //
 // Decide first, write last: a refusal changes no byte. Nothing is copied: settling is lent the book where it stands on the page.
-use checks::Account;
-use checks::account_of;
-use clear::clear;
-use clear::write_new;
+use layout::Counts;
 use ledger::words::SIZE;
-use places::NUMBER_SIZE;
-use places::PLACE_SIZE;
-use places::Spot;
-use places::lowest_with;
+use page::NUMBER_SIZE;
+use page::PLACE_SIZE;
+use page::Spot;
+use page::checks::Account;
+use page::checks::account_of;
+use page::clear::clear_place;
+use page::clear::fill_place;
+use page::lowest_with;
 use settle::Answer;
 use settle::settle_under;
-use tariff::Counts;
 ghost use mathlib.Core.Path.{_≡_};
 ghost use Prim.Native.Nat.{_+_, _≤_};
-ghost use lib.ListN.{length};
-ghost use Rattle.tariff.specs.Areas.{Read};
+ghost use Rattle.layout.specs.Scan.{Read};
 ghost use Rattle.settle.specs.declared.Answer.the-variants.{Refused};
-ghost use Rattle.accounts.specs.Pages.{places, startOf, placeSize, clearedPlace, newPlace, replaced, added, closed};
-ghost use Rattle.accounts.specs.Contracts.{OnPage, ChangeTold, PlaceSettled, FoundSettled};
+ghost use Rattle.page.specs.Pages.{places, added, closed};
+ghost use Rattle.page.specs.Contracts.{OnPage};
+ghost use Rattle.accounts.specs.Contracts.{ChangeTold, PlaceSettled, FoundSettled};
 
 pub mod associations;
-pub mod checks;
-pub mod clear;
-pub mod places;
 
 // The page of the wrong length, a number outside its range or stored twice; a member who is not there, or is already; no free place.
 const WRONG_PAGE: u8 = 18;
@@ -43,26 +37,6 @@ fn refuse(number: u8) -> Answer
     ensures { λ r. ⌜ r ≡ Refused number 0 ⌝ }
 {
     Answer::Refused { number, place: 0 }
-}
-
-// A place written for a new member.
-fn fill_place(page: &mut [u8], place: usize, member: u32)
-    requires { ⌜ OnPage (now page) place ⌝ }
-    ensures { λ _. ⌜ now (page .exit) ≡ replaced (now (page .entry)) (startOf place) placeSize (newPlace member) ⌝ }
-{
-    let start = place * PLACE_SIZE;
-    let end = start + PLACE_SIZE;
-    write_new(&mut page[start..end], member);
-}
-
-// A place cleared.
-fn clear_place(page: &mut [u8], place: usize)
-    requires { ⌜ OnPage (now page) place ⌝ }
-    ensures { λ _. ⌜ now (page .exit) ≡ replaced (now (page .entry)) (startOf place) placeSize clearedPlace ⌝ }
-{
-    let start = place * PLACE_SIZE;
-    let end = start + PLACE_SIZE;
-    clear(&mut page[start..end]);
 }
 
 // Adds a member: the number and a fresh book in the lowest free place. 18, 19, 20.
@@ -108,7 +82,8 @@ fn settle_at(
     statement: &mut [u8],
 ) -> Answer
     requires { ⌜ Read (now tariff) counts × OnPage (now page) place ⌝ }
-    ensures { λ r. ⌜ PlaceSettled (now (tariff .entry)) counts (now (page .entry)) place (now (trip .entry)) (now (statement .entry)) (now (page .exit)) (now (statement .exit)) r ⌝ }
+    ensures { λ r. ⌜ PlaceSettled (now (tariff .entry)) counts (now (page .entry)) place (now (trip .entry))
+        (now (statement .entry)) (now (page .exit)) (now (statement .exit)) r ⌝ }
 {
     let start = place * PLACE_SIZE + NUMBER_SIZE;
     let end = start + SIZE;
@@ -127,7 +102,8 @@ fn settle_found(
     statement: &mut [u8],
 ) -> Answer
     requires { ⌜ Read (now tariff) counts × (first + count ≤ places) ⌝ }
-    ensures { λ r. ⌜ FoundSettled (now (tariff .entry)) counts first count (now (page .entry)) member (now (trip .entry)) (now (statement .entry)) (now (page .exit)) (now (statement .exit)) r ⌝ }
+    ensures { λ r. ⌜ FoundSettled (now (tariff .entry)) counts first count (now (page .entry)) member (now (trip .entry))
+        (now (statement .entry)) (now (page .exit)) (now (statement .exit)) r ⌝ }
 {
     match account_of(page, first, count, member) {
         Account::WrongPage => refuse(WRONG_PAGE),

@@ -11,11 +11,11 @@ use lib.Dec.{eqb}
 use Rattle.caps.proofs.Climb.{fold-related}
 use Rattle.caps.proofs.Charge.{charge-same}
 use Rattle.caps.proofs.Named.{name-class}
-use Rattle.tariff.specs.declared.Counts.{Counts}
-use Rattle.tariff.specs.Rules.{levelOf}
-use Rattle.tariff.specs.Areas.{parentOf, FaultlessTariff}
-use Rattle.tariff.proofs.Within.{parent-there}
-use Rattle.fare.specs.declared.Ride.{Ride}
+use Rattle.layout.specs.declared.Counts.{Counts}
+use Rattle.layout.specs.Rules.{levelOf}
+use Rattle.areas.specs.Areas.{parentOf, FaultlessTariff}
+use Rattle.areas.proofs.Within.{parent-there}
+use Rattle.trip.specs.declared.Ride.{Ride}
 use Rattle.ledger.specs.declared.Window.{Window}
 use Rattle.ledger.specs.Words.{word, putWord, pairPlace, secondSum, allSum, firstChild, coverPlace, coverWord, paidPlace, paidWord}
 use Rattle.ledger.specs.Windows.{inWindow, opened}

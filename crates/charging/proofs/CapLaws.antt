@@ -6,9 +6,9 @@ use mathlib.Core.Bool.{Bool, true, false}
 use Rattle.units.specs.declared.Cents.{Cents}
 use Rattle.units.specs.declared.Cap.the-variants.{NoCap, UpTo}
 use Rattle.units.specs.Rounding.{raisedBy, reducedBy}
-use Rattle.tariff.specs.declared.Area.{Area}
-use Rattle.tariff.specs.Areas.{AreaRanges}
-use Rattle.fare.specs.Prices.{step4}
+use Rattle.layout.specs.declared.Area.{Area}
+use Rattle.areas.specs.Areas.{AreaRanges}
+use Rattle.prices.specs.Prices.{step4}
 use Rattle.charging.specs.Caps.{secondCap, allCap, capsHere}
 
 -- A day cap is at most 60,000 cents.

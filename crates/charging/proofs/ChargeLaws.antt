@@ -16,13 +16,13 @@ use Rattle.caps.specs.Named.{nameIn}
 use Rattle.caps.specs.Contracts.{nameOf}
 use Rattle.caps.proofs.Charge.{charge-smallest}
 use Rattle.caps.proofs.Named.{amount-past, name-past}
-use Rattle.tariff.specs.declared.Counts.{Counts}
-use Rattle.tariff.specs.Areas.{areaAt, FaultlessTariff}
-use Rattle.tariff.proofs.Faultless.{faultless}
-use Rattle.fare.specs.declared.Ride.{Ride}
-use Rattle.fare.specs.declared.Earlier.{Earlier}
-use Rattle.fare.specs.Contracts.{Priceable}
-use Rattle.fare.proofs.Steps.{price-most}
+use Rattle.layout.specs.declared.Counts.{Counts}
+use Rattle.areas.specs.Areas.{areaAt, FaultlessTariff}
+use Rattle.areas.proofs.Faultless.{faultless}
+use Rattle.trip.specs.declared.Ride.{Ride}
+use Rattle.trip.specs.declared.Earlier.{Earlier}
+use Rattle.prices.specs.Contracts.{Priceable}
+use Rattle.prices.proofs.Steps.{price-most}
 use Rattle.ledger.specs.Words.{secondSum, allSum, firstChild, coverWord, paidWord}
 use Rattle.ledger.specs.Windows.{inWindow}
 use Rattle.ledger.proofs.SoundLaws.{sound-has}

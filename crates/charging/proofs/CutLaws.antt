@@ -16,11 +16,11 @@ use Rattle.caps.specs.Named.{noName, CapHere, all-classes, second-class, NamedC
 use Rattle.caps.proofs.Climb.{within-there}
 use Rattle.caps.proofs.Charge.{charge-smallest}
 use Rattle.caps.proofs.NamedCaps.{name-none, name-says, name-one, named-full}
-use Rattle.tariff.specs.declared.Counts.{Counts}
-use Rattle.tariff.specs.Areas.{areaAt, FaultlessTariff}
-use Rattle.tariff.proofs.Faultless.{faultless}
-use Rattle.fare.specs.declared.Ride.{Ride}
-use Rattle.fare.proofs.Steps.{price-most}
+use Rattle.layout.specs.declared.Counts.{Counts}
+use Rattle.areas.specs.Areas.{areaAt, FaultlessTariff}
+use Rattle.areas.proofs.Faultless.{faultless}
+use Rattle.trip.specs.declared.Ride.{Ride}
+use Rattle.prices.proofs.Steps.{price-most}
 use Rattle.ledger.specs.Words.{secondSum, allSum, firstChild}
 use Rattle.charging.specs.Caps.{treeOf}
 use Rattle.charging.specs.Charging.{isChild, priceFor, riderCharge}

@@ -17,14 +17,14 @@ use Rattle.caps.specs.Named.{nameIn}
 use Rattle.caps.specs.Contracts.{nameOf}
 use Rattle.caps.proofs.Charge.{charge-class}
 use Rattle.caps.proofs.Named.{name-class}
-use Rattle.tariff.specs.declared.Area.{Area}
-use Rattle.tariff.specs.declared.Counts.{Counts}
-use Rattle.tariff.specs.Areas.{areaAt, liesWithin, FaultlessTariff}
-use Rattle.tariff.proofs.Faultless.{faultless}
-use Rattle.fare.specs.declared.Ride.{Ride}
-use Rattle.fare.specs.declared.Earlier.{Earlier}
-use Rattle.fare.specs.declared.Earlier.the-variants.{Nothing, Part}
-use Rattle.fare.specs.Prices.{priceOf}
+use Rattle.layout.specs.declared.Area.{Area}
+use Rattle.layout.specs.declared.Counts.{Counts}
+use Rattle.areas.specs.Areas.{areaAt, liesWithin, FaultlessTariff}
+use Rattle.areas.proofs.Faultless.{faultless}
+use Rattle.trip.specs.declared.Ride.{Ride}
+use Rattle.trip.specs.declared.Earlier.{Earlier}
+use Rattle.trip.specs.declared.Earlier.the-variants.{Nothing, Part}
+use Rattle.prices.specs.Prices.{priceOf}
 use Rattle.ledger.specs.declared.Window.{Window}
 use Rattle.ledger.specs.Words.{word, tripsOf, pairPlace, secondSum, allSum, coverPlace, coverWord, paidPlace, paidWord}
 use Rattle.ledger.specs.Windows.{inWindow, opened}

@@ -7,8 +7,8 @@ use mathlib.Core.Path.{_≡_}
 use mathlib.Core.Bool.{true}
 use mathlib.Core.List.{List}
 use Rattle.units.specs.Day.{dayMinutes}
-use Rattle.tariff.specs.declared.Counts.{Counts}
-use Rattle.tariff.specs.Areas.{Read}
+use Rattle.layout.specs.declared.Counts.{Counts}
+use Rattle.layout.specs.Scan.{Read}
 use Rattle.trip.specs.Record.{countAt}
 use Rattle.trip.specs.Trips.{tripOf}
 use Rattle.trip.specs.Contracts.{GoodTrip}

@@ -10,9 +10,9 @@ use mathlib.Core.List.{List}
 use Rattle.caps.specs.Named.{nameIn}
 use Rattle.caps.proofs.Charge.{charge-smallest}
 use Rattle.caps.proofs.NamedCaps.{charge-least, name-says}
-use Rattle.tariff.specs.declared.Counts.{Counts}
-use Rattle.tariff.specs.Areas.{FaultlessTariff}
-use Rattle.fare.specs.declared.Ride.{Ride}
+use Rattle.layout.specs.declared.Counts.{Counts}
+use Rattle.areas.specs.Areas.{FaultlessTariff}
+use Rattle.trip.specs.declared.Ride.{Ride}
 use Rattle.ledger.specs.Words.{secondSum, allSum}
 use Rattle.charging.specs.Caps.{treeOf}
 use Rattle.charging.specs.Charging.{isChild, priceFor, riderCharge}

@@ -14,12 +14,26 @@ use lib.ListN.{length, getD}
 use Rattle.units.specs.Price.{mostPrice}
 use Rattle.caps.specs.Tree.{within}
 use Rattle.caps.proofs.Climb.{within-state}
-use Rattle.tariff.specs.declared.Counts.{Counts}
-use Rattle.tariff.specs.Areas.{FaultlessTariff}
-use Rattle.tariff.proofs.Faultless.{faultless}
-use Rattle.fare.specs.declared.Ride.{Ride}
+use Rattle.layout.specs.declared.Counts.{Counts}
+use Rattle.areas.specs.Areas.{FaultlessTariff}
+use Rattle.areas.proofs.Faultless.{faultless}
+use Rattle.trip.specs.declared.Ride.{Ride}
 use Rattle.ledger.specs.declared.Window.{Window}
-use Rattle.ledger.specs.Words.{bookSize, word, putWord, tripsOf, openingOf, lastOutOf, allSum, pairAt, firstChild, coverPlace, coverWord, paidPlace, paidWord}
+use Rattle.ledger.specs.Words.{
+  bookSize,
+  word,
+  putWord,
+  tripsOf,
+  openingOf,
+  lastOutOf,
+  allSum,
+  pairAt,
+  firstChild,
+  coverPlace,
+  coverWord,
+  paidPlace,
+  paidWord,
+}
 use Rattle.ledger.specs.Sound.{mostPaid}
 use Rattle.ledger.specs.Windows.{inWindow, opened}
 use Rattle.ledger.proofs.WordLaws.{word-put-same, word-put-other, size-put}

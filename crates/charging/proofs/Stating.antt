@@ -12,14 +12,14 @@ use borrow.Author.Tests.{le-leb, le-ltb, lt-ltb}
 use lib.ListN.{length, getD}
 use Rattle.caps.specs.declared.Cut.{Cut}
 use Rattle.wire.specs.Number.{getLe, bytesOf}
-use Rattle.tariff.specs.declared.Area.{Area}
-use Rattle.tariff.specs.declared.Counts.{Counts}
-use Rattle.tariff.specs.Areas.{areaAt}
-use Rattle.tariff.proofs.Faultless.{faultless}
-use Rattle.fare.specs.declared.Ride.{Ride}
-use Rattle.fare.specs.declared.Earlier.{Earlier}
-use Rattle.fare.specs.declared.Earlier.the-variants.{Nothing, Part}
-use Rattle.fare.specs.Prices.{priceOf}
+use Rattle.layout.specs.declared.Area.{Area}
+use Rattle.layout.specs.declared.Counts.{Counts}
+use Rattle.areas.specs.Areas.{areaAt}
+use Rattle.areas.proofs.Faultless.{faultless}
+use Rattle.trip.specs.declared.Ride.{Ride}
+use Rattle.trip.specs.declared.Earlier.{Earlier}
+use Rattle.trip.specs.declared.Earlier.the-variants.{Nothing, Part}
+use Rattle.prices.specs.Prices.{priceOf}
 use Rattle.statement.specs.Record.{
   headSize,
   personSize,

@@ -12,11 +12,22 @@ use borrow.Author.Tests.{eq-eqb, ne-eqb, eqb-true}
 use lib.ListN.{length, getD}
 use lib.Dec.{eqb}
 use Rattle.caps.specs.Tree.{IsTree, within}
-use Rattle.caps.proofs.Climb.{fold-keeps, upwards, climb-top, climb-up, within-top, within-above, within-self, within-parent, within-there, not-within-child}
-use Rattle.tariff.specs.declared.Counts.{Counts}
-use Rattle.tariff.specs.Rules.{levelOf}
-use Rattle.tariff.specs.Areas.{parentOf, FaultlessTariff}
-use Rattle.tariff.proofs.Within.{parent-there}
+use Rattle.caps.proofs.Climb.{
+  fold-keeps,
+  upwards,
+  climb-top,
+  climb-up,
+  within-top,
+  within-above,
+  within-self,
+  within-parent,
+  within-there,
+  not-within-child,
+}
+use Rattle.layout.specs.declared.Counts.{Counts}
+use Rattle.layout.specs.Rules.{levelOf}
+use Rattle.areas.specs.Areas.{parentOf, FaultlessTariff}
+use Rattle.areas.proofs.Within.{parent-there}
 use Rattle.ledger.specs.Words.{bookSize, word, putWord, pairPlace, secondSum, allSum}
 use Rattle.ledger.proofs.WordLaws.{word-put-same, word-put-other, size-put}
 use Rattle.charging.specs.Caps.{treeOf}

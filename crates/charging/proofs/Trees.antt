@@ -14,11 +14,11 @@ use Rattle.units.proofs.Rounding.{hundredths-least, hundredths-not-below}
 use Rattle.caps.specs.Limits.{CapOrder, neither, both}
 use Rattle.caps.specs.Tree.{IsTree, within}
 use Rattle.caps.proofs.Climb.{within-past}
-use Rattle.tariff.specs.declared.Area.{Area}
-use Rattle.tariff.specs.declared.Counts.{Counts}
-use Rattle.tariff.specs.Areas.{areaAt, liesWithin, FaultlessTariff}
-use Rattle.tariff.proofs.Within.{above-of, parent-there}
-use Rattle.fare.specs.Prices.{step4}
+use Rattle.layout.specs.declared.Area.{Area}
+use Rattle.layout.specs.declared.Counts.{Counts}
+use Rattle.areas.specs.Areas.{areaAt, liesWithin, FaultlessTariff}
+use Rattle.areas.proofs.Within.{above-of, parent-there}
+use Rattle.prices.specs.Prices.{step4}
 use Rattle.charging.specs.Caps.{secondCap, allCap, treeOf}
 
 -- hundredths keep the order of amounts

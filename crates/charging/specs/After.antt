@@ -5,10 +5,10 @@ use mathlib.Core.Bool.{false, cond}
 use lib.ListN.{getD}
 use lib.Dec.{eqb}
 use Rattle.caps.specs.Tree.{climb}
-use Rattle.tariff.specs.declared.Counts.{Counts}
-use Rattle.fare.specs.declared.Ride.{Ride}
-use Rattle.fare.specs.declared.Earlier.{Earlier}
-use Rattle.fare.specs.declared.Earlier.the-variants.{Nothing, Part}
+use Rattle.layout.specs.declared.Counts.{Counts}
+use Rattle.trip.specs.declared.Ride.{Ride}
+use Rattle.trip.specs.declared.Earlier.{Earlier}
+use Rattle.trip.specs.declared.Earlier.the-variants.{Nothing, Part}
 use Rattle.ledger.specs.declared.Window.{Window}
 use Rattle.ledger.specs.Words.{putWord, pairPlace, secondSum, allSum, firstChild}
 use Rattle.ledger.specs.Windows.{inWindow, opened}

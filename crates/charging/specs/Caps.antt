@@ -7,11 +7,11 @@ use Rattle.units.specs.declared.Cap.the-variants.{NoCap, UpTo}
 use Rattle.units.specs.Rounding.{raisedBy}
 use Rattle.caps.specs.declared.Caps.{Caps}
 use Rattle.caps.specs.Tree.{Tree}
-use Rattle.tariff.specs.declared.Area.{Area}
-use Rattle.tariff.specs.declared.Counts.{Counts}
-use Rattle.tariff.specs.Rules.{levelOf}
-use Rattle.tariff.specs.Areas.{areaAt, parentOf}
-use Rattle.fare.specs.Prices.{step4}
+use Rattle.layout.specs.declared.Area.{Area}
+use Rattle.layout.specs.declared.Counts.{Counts}
+use Rattle.layout.specs.Rules.{levelOf}
+use Rattle.areas.specs.Areas.{areaAt, parentOf}
+use Rattle.prices.specs.Prices.{step4}
 
 -- an area's second-class cap is its day cap; for children reduced and rounded up as in step 4
 unfoldable pub secondCap : Area → Bool → Cap

@@ -5,11 +5,11 @@ use mathlib.Core.List.{List, [], _∷_, _++_}
 use mathlib.Core.Bool.{Bool, true, false, cond}
 use lib.Dec.{leb, ltb}
 use Rattle.caps.specs.Tree.{chargeIn}
-use Rattle.tariff.specs.declared.Counts.{Counts}
-use Rattle.tariff.specs.Areas.{areaAt}
+use Rattle.layout.specs.declared.Counts.{Counts}
+use Rattle.areas.specs.Areas.{areaAt}
 use Rattle.trip.specs.declared.Party.{Party}
-use Rattle.fare.specs.declared.Ride.{Ride}
-use Rattle.fare.specs.Prices.{priceOf}
+use Rattle.trip.specs.declared.Ride.{Ride}
+use Rattle.prices.specs.Prices.{priceOf}
 use Rattle.ledger.specs.Words.{secondSum, allSum, firstChild, coverWord, paidWord}
 use Rattle.cycles.specs.Bicycles.{bicycleCharge}
 use Rattle.charging.specs.Caps.{treeOf}

@@ -10,13 +10,14 @@ use Rattle.caps.specs.declared.Rest.{Rest}
 use Rattle.caps.specs.declared.Cut.{Cut}
 use Rattle.caps.specs.Contracts.{restHere, uncappedAt, nameOf}
 use Rattle.wire.specs.Number.{getLe}
-use Rattle.tariff.specs.declared.Counts.{Counts}
-use Rattle.tariff.specs.Areas.{Read, areaAt, parentOf, liesWithin}
+use Rattle.layout.specs.declared.Counts.{Counts}
+use Rattle.layout.specs.Scan.{Read}
+use Rattle.areas.specs.Areas.{areaAt, parentOf, liesWithin}
 use Rattle.trip.specs.declared.Party.{Party}
-use Rattle.fare.specs.declared.Ride.{Ride}
-use Rattle.fare.specs.declared.Earlier.{Earlier}
-use Rattle.fare.specs.declared.Earlier.the-variants.{Nothing, Part}
-use Rattle.fare.specs.Distance.{mostKm}
+use Rattle.trip.specs.declared.Ride.{Ride}
+use Rattle.trip.specs.declared.Earlier.{Earlier}
+use Rattle.trip.specs.declared.Earlier.the-variants.{Nothing, Part}
+use Rattle.units.specs.Plane.{mostKm}
 use Rattle.statement.specs.Record as said
 use Rattle.statement.specs.Record.{personSize, personsOf, recordSize, chargeBytes, recordOf}
 use Rattle.statement.specs.Contracts.{Wrote, StandsAt}

@@ -5,8 +5,8 @@ use mathlib.Core.List.{List}
 use mathlib.Core.Bool.{Bool}
 use Rattle.caps.specs.declared.Cut.{Cut}
 use Rattle.caps.specs.Named.{nameIn}
-use Rattle.tariff.specs.declared.Counts.{Counts}
-use Rattle.fare.specs.declared.Ride.{Ride}
+use Rattle.layout.specs.declared.Counts.{Counts}
+use Rattle.trip.specs.declared.Ride.{Ride}
 use Rattle.ledger.specs.Words.{secondSum, allSum}
 use Rattle.charging.specs.Caps.{treeOf}
 use Rattle.charging.specs.Charging.{priceFor, riderCharge, eachPerson}

@@ -7,8 +7,8 @@ use mathlib.Core.List.{List}
 use Rattle.caps.specs.declared.Cut.{Cut}
 use Rattle.caps.specs.declared.Name.{Name}
 use Rattle.caps.specs.Named.{noName, CapLeft, NamedCap}
-use Rattle.tariff.specs.declared.Counts.{Counts}
-use Rattle.fare.specs.declared.Ride.{Ride}
+use Rattle.layout.specs.declared.Counts.{Counts}
+use Rattle.trip.specs.declared.Ride.{Ride}
 use Rattle.ledger.specs.Words.{secondSum, allSum}
 use Rattle.charging.specs.Caps.{treeOf}
 use Rattle.charging.specs.Charging.{isChild, priceFor}

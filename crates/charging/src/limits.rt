@@ -1,16 +1,17 @@
 // An area's caps for a rider, and the chain of areas whose caps a ride has.
+use areas::lies_within;
+use areas::limits;
+use areas::parent;
 use caps::Caps;
-use fare::Earlier;
-use tariff::Counts;
-use tariff::areas::lies_within;
-use tariff::areas::limits;
-use tariff::areas::parent;
+use layout::Counts;
+use trip::Earlier;
 use units::Cap;
 use units::raised;
 use units::reduced;
 ghost use mathlib.Core.Path.{_≡_};
 ghost use Prim.Native.Nat.{_<_};
-ghost use Rattle.tariff.specs.Areas.{Read, areaAt};
+ghost use Rattle.layout.specs.Scan.{Read};
+ghost use Rattle.areas.specs.Areas.{areaAt};
 ghost use Rattle.cycles.specs.Contracts.{EarlierThere};
 ghost use Rattle.charging.specs.Caps.{capsHere};
 ghost use Rattle.charging.specs.Contracts.{pendingIn, linkWith, ChainOf};

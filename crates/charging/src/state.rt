@@ -9,6 +9,7 @@ use crate::alike::Last;
 use crate::alike::NO_RIDER;
 use crate::alike::charge_alike;
 use crate::limits::chain_of;
+use areas::area;
 use caps::Cut;
 use caps::NO_AREA;
 use caps::NO_CLASS;
@@ -16,27 +17,35 @@ use cycles::found::Found;
 use cycles::found::NEVER_FOUND;
 use cycles::found::charge_found;
 use cycles::terms::terms_of;
-use fare::Earlier;
-use fare::Ride;
-use fare::prices::price;
+use layout::Counts;
 use ledger::Window;
 use ledger::windows::get_in;
 use ledger::words::FIRST_CHILD;
 use ledger::words::cover;
 use ledger::words::payments;
+use prices::price;
 use statement::record_size;
 use statement::writing::write_charge;
 use statement::writing::write_person;
 use statement::writing::write_ride;
-use tariff::Counts;
-use tariff::areas::area;
+use trip::Earlier;
+use trip::Ride;
 use units::Cents;
 use wire::four_at;
 ghost use mathlib.Core.Path.{_≡_};
 ghost use Prim.Native.Nat.{_+_, _*_, _≤_};
 ghost use lib.ListN.{length};
 ghost use Rattle.statement.specs.Record.{chargeSize};
-ghost use Rattle.charging.specs.Contracts.{Ridden, Stateable, RideWritten, paidIn, PaidThere, RidersStateable, RidersWritten, BicyclesWritten};
+ghost use Rattle.charging.specs.Contracts.{
+  Ridden,
+  Stateable,
+  RideWritten,
+  paidIn,
+  PaidThere,
+  RidersStateable,
+  RidersWritten,
+  BicyclesWritten,
+};
 
 // What a rider paid for an earlier part: it stands as far before the rider's own charge as a record is long, since both parts have one party.
 fn paid_before(statement: &[u8], earlier: Earlier, place: usize, size: usize) -> Cents

@@ -7,11 +7,12 @@ use mathlib.Core.Path.{_≡_, refl, sym, _∙_}
 use mathlib.Core.Bool.{Bool, true, false, cond}
 use mathlib.Core.List.{List}
 use borrow.Author.Tests.{eq-eqb, ne-eqb}
-use Rattle.tariff.specs.declared.Counts.{Counts}
-use Rattle.tariff.specs.Rules.{mostMoney, flatOf}
-use Rattle.tariff.specs.Areas.{Read, Smallest, isAachen, bicyclePriceOf, FaultlessTariff}
-use Rattle.tariff.proofs.Faultless.{faultless}
-use Rattle.tariff.proofs.Within.{within-refl, area-flat, common-kind, flat-within, smallest-own, smallest}
+use Rattle.layout.specs.declared.Counts.{Counts}
+use Rattle.layout.specs.Rules.{mostMoney, flatOf}
+use Rattle.layout.specs.Scan.{Read}
+use Rattle.areas.specs.Areas.{Smallest, isAachen, bicyclePriceOf, FaultlessTariff}
+use Rattle.areas.proofs.Faultless.{faultless}
+use Rattle.areas.proofs.Within.{within-refl, area-flat, common-kind, flat-within, smallest-own, smallest}
 use Rattle.ledger.specs.Sound.{mostPaid}
 use Rattle.cycles.specs.declared.terms.Terms.{Terms}
 use Rattle.cycles.specs.Bicycles.{newCover, payment, flatBefore, bicycleCharge, paidWith}

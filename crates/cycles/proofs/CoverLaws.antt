@@ -6,8 +6,8 @@ use native.Mathlib.Decide.{ℕ-discrete}
 use mathlib.Core.Path.{_≡_, refl, ap, _∙_}
 use mathlib.Core.List.{List}
 use lib.ListN.{length}
-use Rattle.tariff.specs.declared.Counts.{Counts}
-use Rattle.tariff.specs.Areas.{FaultlessTariff}
+use Rattle.layout.specs.declared.Counts.{Counts}
+use Rattle.areas.specs.Areas.{FaultlessTariff}
 use Rattle.ledger.specs.Words.{bookSize, word, putWord, coverPlace, coverWord, paidPlace, paidWord}
 use Rattle.ledger.specs.Sound.{mostPaid}
 use Rattle.ledger.proofs.WordLaws.{word-put-same, word-put-other, size-put}

@@ -7,10 +7,10 @@ use mathlib.Core.Path.{_≡_, sym, subst, _∙_}
 use mathlib.Core.Bool.{true, false}
 use mathlib.Core.List.{List}
 use borrow.Author.Tests.{eq-eqb, ne-eqb}
-use Rattle.tariff.specs.declared.Counts.{Counts}
-use Rattle.tariff.specs.Rules.{flatOf}
-use Rattle.tariff.specs.Areas.{liesWithin, smallestOf, isAachen, bicyclePriceOf, FaultlessTariff}
-use Rattle.tariff.proofs.Within.{within-antisym, within-refl, common-kind, flat-within, smallest}
+use Rattle.layout.specs.declared.Counts.{Counts}
+use Rattle.layout.specs.Rules.{flatOf}
+use Rattle.areas.specs.Areas.{liesWithin, smallestOf, isAachen, bicyclePriceOf, FaultlessTariff}
+use Rattle.areas.proofs.Within.{within-antisym, within-refl, common-kind, flat-within, smallest}
 use Rattle.cycles.specs.Bicycles.{newCover, payment, bicycleCharge}
 use Rattle.cycles.specs.InWords.{CoverSays, PerTrip, BicycleSays}
 use Rattle.cycles.proofs.BicycleLaws.{before-none, before-paid, before-flat}

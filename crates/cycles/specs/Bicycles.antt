@@ -3,9 +3,9 @@ use Prim.Native.Nat.{ℕ, zero, suc, _+_, _-_, min}
 use mathlib.Core.List.{List}
 use mathlib.Core.Bool.{cond}
 use lib.Dec.{eqb}
-use Rattle.tariff.specs.declared.Counts.{Counts}
-use Rattle.tariff.specs.Rules.{flatOf}
-use Rattle.tariff.specs.Areas.{smallestOf, isAachen, bicyclePriceOf}
+use Rattle.layout.specs.declared.Counts.{Counts}
+use Rattle.layout.specs.Rules.{flatOf}
+use Rattle.areas.specs.Areas.{smallestOf, isAachen, bicyclePriceOf}
 use Rattle.ledger.specs.Words.{coverWord, paidWord, putWord, coverPlace, paidPlace}
 
 -- a bicycle's new covering area: the smallest containing the trip's area and its old covering area, if any

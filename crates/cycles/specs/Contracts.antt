@@ -3,11 +3,11 @@ use Prim.Native.Nat.{ℕ, _+_, _-_, _≤_, _<_, min}
 use mathlib.Core.Path.{_≡_}
 use mathlib.Core.List.{List}
 use mathlib.Core.Bool.{true, cond}
-use Rattle.tariff.specs.declared.Counts.{Counts}
-use Rattle.tariff.specs.Rules.{mostMoney, flatOf}
-use Rattle.tariff.specs.Areas.{isAachen, bicyclePriceOf}
-use Rattle.fare.specs.declared.Earlier.{Earlier}
-use Rattle.fare.specs.declared.Earlier.the-variants.{Nothing, Part}
+use Rattle.layout.specs.declared.Counts.{Counts}
+use Rattle.layout.specs.Rules.{mostMoney, flatOf}
+use Rattle.areas.specs.Areas.{isAachen, bicyclePriceOf}
+use Rattle.trip.specs.declared.Earlier.{Earlier}
+use Rattle.trip.specs.declared.Earlier.the-variants.{Nothing, Part}
 use Rattle.ledger.specs.Sound.{mostPaid}
 use Rattle.cycles.specs.declared.bicycles.Words.{Words}
 use Rattle.cycles.specs.declared.found.Found.{Found}

@@ -4,9 +4,9 @@ use Prim.Native.Nat.{ℕ, _+_, _≤_, _<_}
 use mathlib.Core.Path.{_≡_}
 use mathlib.Core.List.{List}
 use mathlib.Core.Bool.{true, false}
-use Rattle.tariff.specs.declared.Counts.{Counts}
-use Rattle.tariff.specs.Rules.{flatOf}
-use Rattle.tariff.specs.Areas.{liesWithin, isAachen, bicyclePriceOf}
+use Rattle.layout.specs.declared.Counts.{Counts}
+use Rattle.layout.specs.Rules.{flatOf}
+use Rattle.areas.specs.Areas.{liesWithin, isAachen, bicyclePriceOf}
 
 -- an area contains another and the old covering area, if any
 pub record ContainsBoth (tariff : List ℕ) (counts : Counts) (area old outer : ℕ) : Type 0 where

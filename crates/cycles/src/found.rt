@@ -2,11 +2,11 @@
 use crate::bicycles::charge_bicycle;
 use crate::bicycles::words_after;
 use crate::terms::Terms;
-use fare::Earlier;
-use tariff::Counts;
+use layout::Counts;
+use trip::Earlier;
 use units::Cents;
 ghost use Prim.Native.Nat.{_≤_, _<_};
-ghost use Rattle.tariff.specs.Areas.{Read};
+ghost use Rattle.layout.specs.Scan.{Read};
 ghost use Rattle.ledger.specs.Sound.{mostPaid};
 ghost use Rattle.cycles.specs.Contracts.{EarlierThere, TermsOf, FoundRight, FoundAs};
 

@@ -1,12 +1,12 @@
 // What an area asks of bicycles. Most bicycles are covered by the ride's own area before and after it, so its terms are read once for all of
 // them, and those of another area only where it covers one. Nothing else hangs on which of the two ways it is: the terms are the same.
-use tariff::Counts;
-use tariff::areas::bicycle_price;
-use tariff::areas::flat;
-use tariff::areas::is_aachen;
+use areas::bicycle_price;
+use areas::flat;
+use areas::is_aachen;
+use layout::Counts;
 use units::Cents;
 ghost use Prim.Native.Nat.{_<_};
-ghost use Rattle.tariff.specs.Areas.{Read};
+ghost use Rattle.layout.specs.Scan.{Read};
 ghost use Rattle.cycles.specs.Contracts.{TermsOf};
 
 // Whether the area is of kind 8; its flat, or in kind 8 the cap in a window; and in kind 8 its price per trip.

@@ -7,11 +7,10 @@ use mathlib.Core.Bool.{Bool, true, false}
 use mathlib.Core.List.{List}
 use borrow.Author.Tests.{ltb-false, not-false}
 use lib.ListN.{length}
-use Rattle.tariff.specs.declared.Counts.{Counts}
-use Rattle.tariff.specs.declared.Reading.{Reading}
-use Rattle.tariff.specs.declared.Reading.the-variants.{Fault, Faultless}
-use Rattle.tariff.specs.Scan.{readTariff}
-use Rattle.tariff.specs.Areas.{Read}
+use Rattle.layout.specs.declared.Counts.{Counts}
+use Rattle.layout.specs.declared.Reading.{Reading}
+use Rattle.layout.specs.declared.Reading.the-variants.{Fault, Faultless}
+use Rattle.layout.specs.Scan.{readTariff, Read}
 use Rattle.trip.specs.declared.Trip.{Trip}
 use Rattle.trip.specs.Record.{countAt}
 use Rattle.trip.specs.Moments.{checkinOf, checkoutOf}

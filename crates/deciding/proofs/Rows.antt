@@ -10,11 +10,27 @@ use mathlib.Core.List.{List, [], _∷_, _++_}
 use borrow.Author.Tests.{eq-eqb, ne-eqb, eqb-true, leb-true, not-true}
 use lib.Dec.{eqb, leb}
 use lib.ListN.{take}
-use Rattle.tariff.specs.declared.Counts.{Counts}
+use Rattle.layout.specs.declared.Counts.{Counts}
 use Rattle.wire.proofs.Tests.{both-left, both-right, one-of}
 use Rattle.deciding.specs.declared.refusals.Refusal.{Refusal}
 use Rattle.deciding.specs.declared.refusals.Refusal.the-variants.{Mistap, NoRoom}
-use Rattle.deciding.specs.Refusals.{refusal, lastRefusal, Numbered, Row, row, rowsTo, rows, nothing, found, firstOf, rowOf, testOf, First, here, later}
+use Rattle.deciding.specs.Refusals.{
+  refusal,
+  lastRefusal,
+  Numbered,
+  Row,
+  row,
+  rowsTo,
+  rows,
+  nothing,
+  found,
+  firstOf,
+  rowOf,
+  testOf,
+  First,
+  here,
+  later,
+}
 
 -- ---- Any table.
 

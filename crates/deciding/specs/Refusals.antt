@@ -9,11 +9,11 @@ use mathlib.Core.List.{List, [], _∷_, _++_}
 use mathlib.Core.Bool.{Bool, false, cond, not}
 use lib.ListN.{length}
 use lib.Dec.{eqb, ltb}
-use Rattle.tariff.specs.declared.Counts.{Counts}
+use Rattle.layout.specs.declared.Counts.{Counts}
 use Rattle.trip.specs.Record.{classAt, levelAt, partyAt, countAt}
 use Rattle.trip.specs.Moments.{checkinOf, checkoutOf}
 use Rattle.trip.specs.Trips.{isTrip, partyRight, stopsKnown, stampsRight, inOrder, isMistap, tripOf}
-use Rattle.fare.specs.declared.Ride.{Ride}
+use Rattle.trip.specs.declared.Ride.{Ride}
 use Rattle.fare.specs.Parts.{ridesOf}
 use Rattle.fare.specs.Towns.{townRefuses}
 use Rattle.ledger.specs.Sound.{sound}

@@ -1,10 +1,10 @@
 // What does not depend on the trip: whether the tariff has a fault, and whether the book is sound under it.
 use crate::refusals::Refusal;
 use crate::refusals::number;
+use layout::Counts;
+use layout::Reading;
 use ledger::sound::is_sound;
-use tariff::Counts;
-use tariff::Reading;
-use tariff::scan::read_tariff;
+use scan::read_tariff;
 ghost use mathlib.Core.Path.{_≡_};
 ghost use Rattle.deciding.specs.Deciding.{readinessOf};
 

@@ -10,19 +10,31 @@ use mathlib.Core.List.{List}
 use borrow.Author.Tests.{ltb-true, ltb-false, lt-ltb, le-ltb, eqb-true, eq-eqb}
 use lib.Dec.{ltb, eqb}
 use Rattle.wire.proofs.Tests.{both-left, both-right, one-of}
-use Rattle.tariff.specs.declared.Counts.{Counts}
-use Rattle.tariff.specs.declared.Stop.{Stop}
-use Rattle.tariff.specs.Rules.{levelOf}
-use Rattle.tariff.specs.Areas.{parentOf, liesWithin, FaultlessTariff}
-use Rattle.tariff.specs.Factors.{isCity, factorOf}
-use Rattle.tariff.proofs.Faultless.{faultless}
-use Rattle.tariff.proofs.FactorLaws.{factor-of}
-use Rattle.tariff.proofs.Within.{within-cases, above-of, parent-there}
+use Rattle.layout.specs.declared.Counts.{Counts}
+use Rattle.layout.specs.declared.Stop.{Stop}
+use Rattle.layout.specs.Rules.{levelOf}
+use Rattle.areas.specs.Areas.{parentOf, liesWithin, FaultlessTariff}
+use Rattle.areas.specs.Factors.{isCity, factorOf}
+use Rattle.areas.proofs.Faultless.{faultless}
+use Rattle.areas.proofs.FactorLaws.{factor-of}
+use Rattle.areas.proofs.Within.{within-cases, above-of, parent-there}
 use Rattle.fare.specs.declared.Breaking.{Breaking}
 use Rattle.fare.specs.declared.Breaking.the-variants.{Unbroken, At}
 use Rattle.fare.specs.Distance.{square, apart}
 use Rattle.fare.specs.Rides.{stopOf, areaOfStops, AreaOfStops}
-use Rattle.fare.specs.Parts.{farthest, FarthestChange, keptWhole, comesBack, comesBackFrom, breakOf, InMarkedCity, ComesBack, same-point, nearer, BrokenAt}
+use Rattle.fare.specs.Parts.{
+  farthest,
+  FarthestChange,
+  keptWhole,
+  comesBack,
+  comesBackFrom,
+  breakOf,
+  InMarkedCity,
+  ComesBack,
+  same-point,
+  nearer,
+  BrokenAt,
+}
 use Rattle.fare.specs.Contracts.{Riding, BreakOf}
 use Rattle.fare.proofs.Stops.{area-of-stops}
 use Rattle.fare.proofs.Changes.{farthest-unique, farthest-change, farthest-is}

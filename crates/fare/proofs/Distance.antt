@@ -2,15 +2,29 @@
 -- least is the one where the count stops. So a search may go another way.
 -- Assumes nothing.
 use Prim.Native.Nat.{ℕ, zero, suc, _+_, _*_, _/_, _≤_, _<_, max, min}
-use native.Mathlib.Nat.{mul-le-mul, mul-le-mul-left, add-mul, suc-mul, div-lt-iff-lt-mul, le-antisymm, add-zero, add-comm, max-eq-left, max-eq-right, min-eq-left, min-eq-right}
+use native.Mathlib.Nat.{
+  mul-le-mul,
+  mul-le-mul-left,
+  add-mul,
+  suc-mul,
+  div-lt-iff-lt-mul,
+  le-antisymm,
+  add-zero,
+  add-comm,
+  max-eq-left,
+  max-eq-right,
+  min-eq-left,
+  min-eq-right,
+}
 use native.Mathlib.Omega.{arith}
 use native.Mathlib.Decide.{decLt}
 use mathlib.Core.Path.{_≡_, refl, sym}
 use mathlib.Core.Bool.{Bool, true, false}
 use borrow.Author.Tests.{leb-true, leb-false}
 use lib.Dec.{leb}
-use Rattle.tariff.specs.Rules.{mostMetres}
-use Rattle.fare.specs.Distance.{mostKm, square, kmFrom, kmOf, LeastKm}
+use Rattle.layout.specs.Rules.{mostMetres}
+use Rattle.units.specs.Plane.{mostKm}
+use Rattle.fare.specs.Distance.{square, kmFrom, kmOf, LeastKm}
 use Rattle.fare.specs.Contracts.{mostGuess}
 
 -- a number that does not reach lies below every number that does

@@ -8,10 +8,10 @@ use mathlib.Core.Bool.{true}
 use mathlib.Core.List.{List}
 use borrow.Author.Tests.{le-leb}
 use Rattle.units.specs.declared.Cents.{Cents}
-use Rattle.tariff.specs.declared.Counts.{Counts}
-use Rattle.tariff.specs.Areas.{Read}
-use Rattle.tariff.specs.Levels.{levelCap}
-use Rattle.tariff.proofs.LevelCaps.{answered, answered-levels}
+use Rattle.layout.specs.declared.Counts.{Counts}
+use Rattle.layout.specs.Scan.{Read}
+use Rattle.units.specs.Levels.{levelCap}
+use Rattle.units.proofs.LevelCaps.{answered, answered-levels}
 use Rattle.trip.specs.Record.{countAt}
 use Rattle.trip.specs.Trips.{tripOf}
 use Rattle.trip.specs.Contracts.{GoodTrip}

@@ -1,5 +1,4 @@
 pub mod Distance
-pub mod Steps
 pub mod Stops
 pub mod Changes
 pub mod Breaks

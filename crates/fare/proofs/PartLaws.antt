@@ -8,12 +8,12 @@ use mathlib.Core.Path.{_≡_, refl, sym}
 use mathlib.Core.Bool.{true}
 use mathlib.Core.List.{List, [], _∷_}
 use lib.ListN.{length}
-use Rattle.tariff.specs.declared.Counts.{Counts}
-use Rattle.tariff.specs.Areas.{smallestOf, FaultlessTariff}
-use Rattle.tariff.proofs.Faultless.{faultless}
-use Rattle.tariff.proofs.Within.{within-trans, smallest-unique}
+use Rattle.layout.specs.declared.Counts.{Counts}
+use Rattle.areas.specs.Areas.{smallestOf, FaultlessTariff}
+use Rattle.areas.proofs.Faultless.{faultless}
+use Rattle.areas.proofs.Within.{within-trans, smallest-unique}
 use Rattle.trip.specs.declared.Trip.{Trip}
-use Rattle.fare.specs.declared.Ride.{Ride}
+use Rattle.trip.specs.declared.Ride.{Ride}
 use Rattle.fare.specs.declared.Breaking.{Breaking}
 use Rattle.fare.specs.declared.Breaking.the-variants.{Unbroken, At}
 use Rattle.fare.specs.Rides.{areaOfStops, AreaOfStops, rideBetween, rideOf}

@@ -11,15 +11,16 @@ use borrow.Author.Tests.{leb-true, ltb-true}
 use lib.Dec.{leb, ltb}
 use Rattle.units.specs.Day.{dayMinutes}
 use Rattle.wire.proofs.Each.{each-at}
-use Rattle.tariff.specs.declared.Counts.{Counts}
-use Rattle.tariff.specs.declared.Stop.{Stop}
-use Rattle.tariff.specs.Areas.{liesWithin, Smallest, StopRanges, FaultlessTariff}
-use Rattle.tariff.proofs.Faultless.{faultless}
-use Rattle.tariff.proofs.Within.{within-refl, within-trans, within-there, within-antisym, smallest}
+use Rattle.layout.specs.declared.Counts.{Counts}
+use Rattle.layout.specs.declared.Stop.{Stop}
+use Rattle.areas.specs.Areas.{liesWithin, Smallest, StopRanges, FaultlessTariff}
+use Rattle.areas.proofs.Faultless.{faultless}
+use Rattle.areas.proofs.Within.{within-refl, within-trans, within-there, within-antisym, smallest}
 use Rattle.trip.specs.declared.Trip.{Trip}
 use Rattle.trip.specs.Record.{stopNumber}
 use Rattle.trip.specs.Trips.{stopsKnown}
-use Rattle.fare.specs.Distance.{square, gap, apart, mostKm, kmOf, LeastKm}
+use Rattle.fare.specs.Distance.{square, gap, apart, kmOf, LeastKm}
+use Rattle.units.specs.Plane.{mostKm}
 use Rattle.fare.specs.Rides.{stopOf, areaOfStops, AreaOfStops, rideBetween}
 use Rattle.fare.specs.Contracts.{Riding, InOrder, StopOf, RideIs, rideOn}
 use Rattle.fare.proofs.Distance.{across, km-holds, km-least, km-range}

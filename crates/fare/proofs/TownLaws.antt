@@ -8,19 +8,18 @@ use mathlib.Core.Bool.{Bool, true, false, _||_, or-true, or-false, false≢true}
 use borrow.Author.Tests.{eqb-true, eq-eqb, ne-eqb}
 use lib.Dec.{eqb}
 use Rattle.wire.proofs.Tests.{both-left, both-right, one-of}
-use Rattle.tariff.specs.declared.Counts.{Counts}
-use Rattle.tariff.specs.declared.Town.{Town}
-use Rattle.tariff.specs.declared.Town.the-variants.{Unmarked, BaseDropped, KmDropped}
-use Rattle.tariff.specs.declared.Kind.{Kind}
-use Rattle.tariff.specs.declared.Kind.the-variants.{Common, Aachen}
-use Rattle.tariff.specs.Areas.{areaAt, isAachen, townAt}
-use Rattle.tariff.proofs.Within.{area-common, area-aachen}
+use Rattle.layout.specs.declared.Counts.{Counts}
+use Rattle.layout.specs.declared.Town.{Town}
+use Rattle.layout.specs.declared.Town.the-variants.{Unmarked, BaseDropped, KmDropped}
+use Rattle.layout.specs.declared.Kind.{Kind}
+use Rattle.layout.specs.declared.Kind.the-variants.{Common, Aachen}
+use Rattle.areas.specs.Areas.{areaAt, isAachen, townAt, isMarked, inMarkedTown}
+use Rattle.areas.proofs.Within.{area-common, area-aachen}
 use Rattle.trip.specs.declared.Trip.{Trip}
-use Rattle.fare.specs.declared.Ride.{Ride}
+use Rattle.trip.specs.declared.Ride.{Ride}
 use Rattle.fare.specs.declared.Breaking.the-variants.{Unbroken, At}
 use Rattle.fare.specs.Rides.{rideBetween, lastOf, rideOf}
 use Rattle.fare.specs.Parts.{breakOf, firstPart, secondPart, ridesOf}
-use Rattle.fare.specs.Prices.{isMarked, inMarkedTown}
 use Rattle.fare.specs.Towns.{someInTown, townRefuses, MarkedTown, base-dropped, km-dropped, SomeRide, this-ride, later-ride, FirstClassInTown}
 use Rattle.fare.specs.Contracts.{betweenInTown, TownRefuses}
 use Rattle.fare.proofs.PartLaws.{one-ride, two-rides}

@@ -1,25 +1,25 @@
--- What serves contracts alone: what finding a ride and its price asks, and each answer with its range.
+-- What serves contracts alone: what finding a ride asks, and each answer with its range.
 use Prim.Native.Nat.{ℕ, _+_, _-_, _*_, _≤_, _<_}
 use mathlib.Core.Path.{_≡_}
 use mathlib.Core.List.{List, [], _∷_}
 use mathlib.Core.Bool.{Bool, true}
 use lib.ListN.{length}
 use Rattle.units.specs.Day.{dayMinutes}
-use Rattle.tariff.specs.declared.Area.{Area}
-use Rattle.tariff.specs.declared.Counts.{Counts}
-use Rattle.tariff.specs.declared.Stop.{Stop}
-use Rattle.tariff.specs.Rules.{mostMetres}
-use Rattle.tariff.specs.Areas.{Read, AreaRanges, StopRanges}
+use Rattle.units.specs.Plane.{mostKm}
+use Rattle.layout.specs.declared.Counts.{Counts}
+use Rattle.layout.specs.declared.Stop.{Stop}
+use Rattle.layout.specs.Rules.{mostMetres}
+use Rattle.layout.specs.Scan.{Read}
+use Rattle.areas.specs.Areas.{StopRanges, inMarkedTown}
 use Rattle.trip.specs.declared.Trip.{Trip}
 use Rattle.trip.specs.Record.{tripSize}
 use Rattle.trip.specs.Trips.{stopsKnown, inOrder}
-use Rattle.fare.specs.declared.Ride.{Ride}
+use Rattle.trip.specs.declared.Ride.{Ride}
 use Rattle.fare.specs.declared.Breaking.{Breaking}
 use Rattle.fare.specs.declared.Breaking.the-variants.{At}
-use Rattle.fare.specs.Distance.{square, apart, mostKm}
+use Rattle.fare.specs.Distance.{square, apart}
 use Rattle.fare.specs.Rides.{stopOf, areaOfStops, durationOf, rideOf}
 use Rattle.fare.specs.Parts.{breakOf}
-use Rattle.fare.specs.Prices.{inMarkedTown}
 use Rattle.fare.specs.Towns.{townRefuses}
 
 -- a trip's bytes with n stops, each of which the faultless tariff has
@@ -101,17 +101,6 @@ pub record OfTrip (trip : Trip) (ride : Ride) : Type 0 where
   pub class : ride .class ≡ trip .class
   pub level : ride .level ≡ trip .level
   pub party : ride .party ≡ trip .party
-
--- an amount by its definition, and no more than so much
-pub record Amount (most expected r : ℕ) : Type 0 where
-  pub value : r ≡ expected
-  pub range : r ≤ most
-
--- an area of a faultless tariff, and a ride of at most a day across the plane
-pub record Priceable (area : Area) (ride : Ride) : Type 0 where
-  pub ranges : AreaRanges area
-  pub minutes : ride .minutes .0 ≤ dayMinutes
-  pub km : ride .km .0 ≤ mostKm
 
 -- the area of a trip's stops `first` to `last` is a marked town
 abbrev pub betweenInTown : List ℕ → Counts → List ℕ → ℕ → ℕ → Bool

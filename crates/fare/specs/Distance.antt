@@ -3,7 +3,8 @@ use Prim.Native.Nat.{ℕ, zero, suc, _+_, _-_, _*_, _≤_}
 use mathlib.Core.Path.{_≡_}
 use mathlib.Core.Bool.{true, false}
 use lib.Dec.{leb}
-use Rattle.tariff.specs.declared.Stop.{Stop}
+use Rattle.units.specs.Plane.{mostKm}
+use Rattle.layout.specs.declared.Stop.{Stop}
 
 abbrev pub square : ℕ → ℕ
 square n = n * n
@@ -20,10 +21,6 @@ apart p q = square (gap (p .x .0) (q .x .0)) + square (gap (p .y .0) (q .y .0))
 unfoldable pub kmFrom : ℕ → ℕ → ℕ → ℕ
 kmFrom zero k d = k
 kmFrom (suc more) k d = elim (leb d (square (1000 * k))) [ true ↦ k | false ↦ kmFrom more (k + 1) d ]
-
--- 1,415 kilometres reach across the whole plane
-abbrev pub mostKm : ℕ
-mostKm = 1415
 
 -- the least k
 unfoldable pub kmOf : ℕ → ℕ

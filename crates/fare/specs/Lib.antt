@@ -1,6 +1,5 @@
 pub mod Distance
 pub mod Rides
 pub mod Parts
-pub mod Prices
 pub mod Towns
 pub mod Contracts

@@ -4,12 +4,12 @@ use Prim.Native.Nat.{ℕ, zero, suc, _+_, _-_, _≤_, _<_}
 use mathlib.Core.Path.{_≡_}
 use mathlib.Core.List.{List}
 use mathlib.Core.Bool.{true}
-use Rattle.tariff.specs.declared.Counts.{Counts}
-use Rattle.tariff.specs.declared.Stop.{Stop}
-use Rattle.tariff.specs.Areas.{stopAt, liesWithin, smallestOf}
+use Rattle.layout.specs.declared.Counts.{Counts}
+use Rattle.layout.specs.declared.Stop.{Stop}
+use Rattle.areas.specs.Areas.{stopAt, liesWithin, smallestOf}
 use Rattle.trip.specs.declared.Trip.{Trip}
 use Rattle.trip.specs.Record.{stopNumber}
-use Rattle.fare.specs.declared.Ride.{Ride}
+use Rattle.trip.specs.declared.Ride.{Ride}
 use Rattle.fare.specs.Distance.{apart, kmOf}
 
 -- the trip's stop i, counted from 0

@@ -4,13 +4,12 @@ use mathlib.Core.Path.{_≡_}
 use mathlib.Core.List.{List, [], _∷_}
 use mathlib.Core.Bool.{Bool, false, _&&_, _||_}
 use lib.Dec.{eqb}
-use Rattle.tariff.specs.declared.Town.the-variants.{BaseDropped, KmDropped}
-use Rattle.tariff.specs.declared.Counts.{Counts}
-use Rattle.tariff.specs.Areas.{townAt}
+use Rattle.layout.specs.declared.Town.the-variants.{BaseDropped, KmDropped}
+use Rattle.layout.specs.declared.Counts.{Counts}
+use Rattle.areas.specs.Areas.{townAt, inMarkedTown}
 use Rattle.trip.specs.declared.Trip.{Trip}
-use Rattle.fare.specs.declared.Ride.{Ride}
+use Rattle.trip.specs.declared.Ride.{Ride}
 use Rattle.fare.specs.Parts.{ridesOf}
-use Rattle.fare.specs.Prices.{inMarkedTown}
 
 -- the area of one of some rides is a marked town
 unfoldable pub someInTown : List ℕ → Counts → List Ride → Bool

@@ -3,7 +3,7 @@
 // a good one only saves turns.
 ghost use mathlib.Core.Path.{_≡_};
 ghost use Prim.Native.Nat.{_+_, _≤_, _<_};
-ghost use Rattle.tariff.specs.Rules.{mostMetres};
+ghost use Rattle.layout.specs.Rules.{mostMetres};
 ghost use Rattle.fare.specs.Distance.{square, LeastKm};
 ghost use Rattle.fare.specs.Contracts.{mostGuess, farthest, Short};
 

@@ -1,22 +1,22 @@
 // Out and back: where a trip that comes back is broken, and the rides that its two parts are.
 use crate::Breaking;
-use crate::Ride;
 use crate::rides::area_of_stops;
 use crate::rides::duration;
 use crate::rides::ride_between;
 use crate::rides::squared_between;
 use crate::rides::stop_of;
-use tariff::Counts;
-use tariff::Stop;
-use tariff::factors::factor_of;
-use tariff::factors::is_city;
+use areas::factors::factor_of;
+use areas::factors::is_city;
+use layout::Counts;
+use layout::Stop;
+use trip::Ride;
 use trip::Trip;
 use units::Minutes;
 ghost use mathlib.Core.Path.{_≡_};
-ghost use Prim.Native.Nat.{_+_, _-_, _≤_, _<_};
-ghost use Rattle.tariff.specs.Rules.{mostFactor};
-ghost use Rattle.tariff.specs.Areas.{Read};
-ghost use Rattle.tariff.specs.Factors.{factorOf};
+ghost use Prim.Native.Nat.{_-_, _≤_, _<_};
+ghost use Rattle.layout.specs.Rules.{mostFactor};
+ghost use Rattle.layout.specs.Scan.{Read};
+ghost use Rattle.areas.specs.Factors.{factorOf};
 ghost use Rattle.fare.specs.Parts.{FarthestChange, keptWhole, comesBack, comesBackFrom, firstPart, secondPart};
 ghost use Rattle.fare.specs.Contracts.{Riding, InOrder, OnPlane, BreakOf, RideIs};
 

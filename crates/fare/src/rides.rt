@@ -1,20 +1,20 @@
 // The ride from one stop of a trip to another: its area contains the stops from the one to the other, its kilometres lie between these two.
 // The ride that a whole trip is goes from its first stop to its last.
-use crate::Ride;
 use crate::kilometres::least_km;
-use tariff::Counts;
-use tariff::Stop;
-use tariff::areas::smallest_containing;
-use tariff::areas::stop;
+use areas::smallest_containing;
+use areas::stop;
+use layout::Counts;
+use layout::Stop;
+use trip::Ride;
 use trip::Trip;
 use trip::stop_number;
 use units::Km;
 use units::Metres;
 use units::Minutes;
 ghost use mathlib.Core.Path.{_≡_};
-ghost use Prim.Native.Nat.{_+_, _≤_, _<_, max, min};
-ghost use Rattle.fare.specs.Distance.{gap, apart, LeastKm};
+ghost use Prim.Native.Nat.{_≤_, _<_, max, min};
 ghost use Rattle.units.specs.Day.{dayMinutes};
+ghost use Rattle.fare.specs.Distance.{gap, apart, LeastKm};
 ghost use Rattle.fare.specs.Rides.{stopOf, AreaOfStops, rideBetween};
 ghost use Rattle.fare.specs.Contracts.{Riding, InOrder, OnPlane, SquaredBetween, StopOf, DurationOf, rideOn, RideIs, RideOf};
 
@@ -101,7 +101,8 @@ pub fn km_between(
     last: usize,
 ) -> Km
     requires { ⌜ Riding (now tariff) counts (now trip) stops × ((first < stops) × (last < stops)) ⌝ }
-    ensures { λ r. ⌜ LeastKm (apart (stopOf (now (tariff .entry)) counts (now (trip .entry)) first) (stopOf (now (tariff .entry)) counts (now (trip .entry)) last)) (r .0) ⌝ }
+    ensures { λ r. ⌜ LeastKm (apart (stopOf (now (tariff .entry)) counts (now (trip .entry)) first)
+        (stopOf (now (tariff .entry)) counts (now (trip .entry)) last)) (r .0) ⌝ }
 {
     let from = stop_of(tariff, counts, trip, stops, first);
     let to = stop_of(tariff, counts, trip, stops, last);

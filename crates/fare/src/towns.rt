@@ -1,8 +1,8 @@
 // First class in a marked town: the second row of 6. It goes by a trip's stops and class, and is tested before its stamps are read.
 use crate::Breaking;
-use crate::prices::in_marked_town;
 use crate::rides::area_of_stops;
-use tariff::Counts;
+use areas::in_marked_town;
+use layout::Counts;
 ghost use mathlib.Core.Path.{_≡_};
 ghost use Prim.Native.Nat.{_≤_, _<_};
 ghost use Rattle.fare.specs.Contracts.{Riding, BreakOf, betweenInTown, TownRefuses};

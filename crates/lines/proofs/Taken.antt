@@ -8,7 +8,7 @@ use mathlib.Core.List.{List, _++_}
 use borrow.Author.Tests.{eqb-false}
 use lib.ListN.{length, take}
 use lib.Dec.{eqb}
-use Rattle.tariff.specs.declared.Counts.{Counts}
+use Rattle.layout.specs.declared.Counts.{Counts}
 use Rattle.roll.specs.declared.Line.{Line}
 use Rattle.roll.specs.declared.Line.the-variants.{Charged, Both, Refused}
 use Rattle.roll.specs.declared.Step.{Step}
@@ -24,7 +24,21 @@ use Rattle.lines.specs.Text.{lineText}
 use Rattle.roll.specs.Lines.{mostRecords}
 use Rattle.lines.specs.Turns.{records, counted, tailOf, Effect, asks, puts, ends, lineEffect, effectOf}
 use Rattle.text.specs.Contracts.{Behind}
-use Rattle.lines.specs.Contracts.{mostLine, mostRecord, mostTurn, CentsFit, Counting, Counted, Did, asked, put, ended, LineTaken, Range, Turned}
+use Rattle.lines.specs.Contracts.{
+  mostLine,
+  mostRecord,
+  mostTurn,
+  CentsFit,
+  Counting,
+  Counted,
+  Did,
+  asked,
+  put,
+  ended,
+  LineTaken,
+  Range,
+  Turned,
+}
 use Rattle.text.proofs.Puts.{behind-join, behind-same}
 
 -- A run that goes on has not come to its last record.

@@ -6,7 +6,7 @@ use mathlib.Core.List.{List, [], _∷_, _++_}
 use lib.ListN.{length, take}
 use Rattle.text.specs.Words.{bytes, decimal}
 use Rattle.text.specs.Contracts.{Behind}
-use Rattle.tariff.specs.declared.Counts.{Counts}
+use Rattle.layout.specs.declared.Counts.{Counts}
 use Rattle.roll.specs.declared.Line.{Line}
 use Rattle.statement.specs.Record.{mostParts}
 use Rattle.deciding.specs.Contracts.{Ready}

@@ -2,11 +2,11 @@
 use crate::texts::put_line;
 use crate::texts::put_refused;
 use crate::texts::put_tail;
+use layout::Counts;
 use roll::Line;
 use roll::MOST_RECORDS;
 use roll::Step;
 use roll::next;
-use tariff::Counts;
 ghost use Prim.Native.Nat.{_+_, _≤_};
 ghost use mathlib.Core.Bool.{true, false};
 ghost use lib.ListN.{length};
@@ -115,7 +115,8 @@ pub fn take_turn(
     tally: Tally,
 ) -> Turn
     requires { ⌜ Ready (now tariff) counts (now book) × ((place + mostTurn ≤ length (now out)) × (Counting tally × Room (now statement))) ⌝ }
-    ensures { λ r. ⌜ Turned (now (tariff .entry)) counts (now (book .entry)) (now (piece .entry)) more tally (now (out .entry)) place (now (book .exit)) (now (out .exit)) r ⌝ }
+    ensures { λ r. ⌜ Turned (now (tariff .entry)) counts (now (book .entry)) (now (piece .entry)) more tally
+        (now (out .entry)) place (now (book .exit)) (now (out .exit)) r ⌝ }
 {
     match next(tariff, counts, book, piece, more, statement) {
         Step::More => Turn::More,

@@ -12,7 +12,8 @@ use Rattle.settle.specs.declared.Answer.the-variants.{Refused, Written}
 use Rattle.settle.specs.Outcome.{Quote, unquoted, priced, Outcome, refused, accepted, answerOf, quoteAnswer, Settled, Quoted}
 use Rattle.settle.specs.Posting.{Posting, unposted, renewed, postingAnswer, Posted}
 use Rattle.settle.specs.Contracts.{toldBy, Told, toldQuote, QuoteTold, toldPosting, PostingTold}
-use Rattle.accounts.specs.Pages.{Change, unchanged, changed, changeAnswer, Changed}
+use Rattle.page.specs.Pages.{Change, unchanged, changed}
+use Rattle.accounts.specs.Members.{changeAnswer, Changed}
 use Rattle.accounts.specs.Contracts.{toldChange, ChangeTold}
 use Rattle.milecopper.specs.Contracts.{encodedAs, fillingAnswer, ReadTo}
 

@@ -5,12 +5,11 @@ use native.Mathlib.Omega.{arith}
 use mathlib.Core.Path.{_≡_, refl, sym, ap, _∙_}
 use mathlib.Core.List.{List}
 use lib.ListN.{length}
-use Rattle.tariff.specs.declared.Counts.{Counts}
-use Rattle.tariff.specs.declared.Reading.the-variants.{Fault}
-use Rattle.tariff.specs.Scan.{readTariff}
-use Rattle.tariff.specs.Areas.{Read}
-use Rattle.tariff.proofs.Faultless.{faultless}
-use Rattle.tariff.proofs.Faults.{fault-most}
+use Rattle.layout.specs.declared.Counts.{Counts}
+use Rattle.layout.specs.declared.Reading.the-variants.{Fault}
+use Rattle.layout.specs.Scan.{readTariff, Read}
+use Rattle.areas.proofs.Faultless.{faultless}
+use Rattle.scan.proofs.Faults.{fault-most}
 use Rattle.settle.specs.declared.Answer.the-variants.{Refused, Written}
 use Rattle.settle.specs.Outcome.{settled, answerOf}
 use Rattle.settle.proofs.Ways.{fault-way}

@@ -1,12 +1,12 @@
 // What C is offered: each exported function takes plain byte strings, has the library do the work, and answers one number.
+use layout::Reading;
 use reader::fields::Filled;
 use reader::fields::read_into;
+use scan::read_tariff;
 use settle::Answer;
 use settle::quotes::post_quote;
 use settle::quotes::quote;
 use settle::settle;
-use tariff::Reading;
-use tariff::scan::read_tariff;
 ghost use mathlib.Core.Path.{_≡_};
 ghost use lib.ListN.{length};
 ghost use Rattle.settle.specs.Outcome.{quoted, settled, Settled, Quoted};
@@ -49,7 +49,8 @@ pub extern "C" fn milecopper_settle(
     trip: &[u8],
     statement: &mut [u8],
 ) -> u64
-    ensures { λ r. ⌜ Settled (settled (now (tariff .entry)) (now (book .entry)) (now (trip .entry)) (length (now (statement .entry)))) (now (book .entry)) (now (book .exit)) (now (statement .entry)) (now (statement .exit)) r ⌝ }
+    ensures { λ r. ⌜ Settled (settled (now (tariff .entry)) (now (book .entry)) (now (trip .entry))
+        (length (now (statement .entry)))) (now (book .entry)) (now (book .exit)) (now (statement .entry)) (now (statement .exit)) r ⌝ }
 {
     encoded(settle(tariff, book, trip, statement))
 }
@@ -63,7 +64,8 @@ pub extern "C" fn milecopper_quote(
     trip: &[u8],
     statement: &mut [u8],
 ) -> u64
-    ensures { λ r. ⌜ Quoted (quoted (now (tariff .entry)) (now (book .entry)) (now (trip .entry)) (length (now (statement .entry)))) (now (statement .entry)) (now (statement .exit)) r ⌝ }
+    ensures { λ r. ⌜ Quoted (quoted (now (tariff .entry)) (now (book .entry)) (now (trip .entry))
+        (length (now (statement .entry)))) (now (statement .entry)) (now (statement .exit)) r ⌝ }
 {
     encoded(quote(tariff, book, trip, statement))
 }
@@ -78,7 +80,8 @@ pub extern "C" fn milecopper_post(
     trip: &[u8],
     offered: &[u8],
 ) -> u64
-    ensures { λ r. ⌜ Posted (postingOf (now (tariff .entry)) (now (book .entry)) (now (trip .entry)) (now (offered .entry))) (now (book .entry)) (now (book .exit)) r ⌝ }
+    ensures { λ r. ⌜ Posted (postingOf (now (tariff .entry)) (now (book .entry)) (now (trip .entry)) (now (offered .entry)))
+        (now (book .entry)) (now (book .exit)) r ⌝ }
 {
     encoded(post_quote(tariff, book, trip, offered))
 }

@@ -5,7 +5,7 @@ use accounts::associations::close_for;
 use accounts::associations::settle_for;
 ghost use lib.ListN.{length};
 ghost use Rattle.settle.specs.Outcome.{Settled};
-ghost use Rattle.accounts.specs.Pages.{Changed};
+ghost use Rattle.accounts.specs.Members.{Changed};
 ghost use Rattle.accounts.specs.Associations.{addedFor, closedFor, settledFor};
 
 // Adds a member of an association: the number and a fresh book go to the lowest free place of the association.
@@ -39,7 +39,8 @@ pub extern "C" fn milecopper_settle_member(
     trip: &[u8],
     statement: &mut [u8],
 ) -> u64
-    ensures { λ r. ⌜ Settled (settledFor (now (tariff .entry)) association (now (page .entry)) member (now (trip .entry)) (length (now (statement .entry)))) (now (page .entry)) (now (page .exit)) (now (statement .entry)) (now (statement .exit)) r ⌝ }
+    ensures { λ r. ⌜ Settled (settledFor (now (tariff .entry)) association (now (page .entry)) member (now (trip .entry))
+        (length (now (statement .entry)))) (now (page .entry)) (now (page .exit)) (now (statement .entry)) (now (statement .exit)) r ⌝ }
 {
     encoded(settle_for(tariff, page, association, member, trip, statement))
 }

@@ -6,9 +6,9 @@ use native.Mathlib.Omega.{arith}
 use mathlib.Core.Path.{_≡_, sym}
 use mathlib.Core.Bool.{true}
 use mathlib.Core.List.{List}
-use Rattle.tariff.specs.declared.Counts.{Counts}
-use Rattle.fare.specs.declared.Ride.{Ride}
-use Rattle.fare.specs.declared.Earlier.the-variants.{Part}
+use Rattle.layout.specs.declared.Counts.{Counts}
+use Rattle.trip.specs.declared.Ride.{Ride}
+use Rattle.trip.specs.declared.Earlier.the-variants.{Part}
 use Rattle.ledger.specs.declared.Window.{Window}
 use Rattle.ledger.specs.Words.{tripsOf}
 use Rattle.ledger.specs.Contracts.{WindowRight}

@@ -11,13 +11,13 @@ use mathlib.Core.List.{List}
 use borrow.Author.Tests.{eqb-true}
 use lib.ListN.{getD}
 use lib.Dec.{eqb}
-use Rattle.tariff.specs.declared.Counts.{Counts}
-use Rattle.tariff.specs.Layout.{aachenKind}
-use Rattle.tariff.specs.Rules.{flatOf, kindOf}
-use Rattle.tariff.specs.Areas.{isAachen, FaultlessTariff}
-use Rattle.tariff.proofs.Faultless.{faultless}
-use Rattle.tariff.proofs.Within.{state-common, kind-within, flat-within}
-use Rattle.fare.specs.declared.Ride.{Ride}
+use Rattle.layout.specs.declared.Counts.{Counts}
+use Rattle.layout.specs.Layout.{aachenKind}
+use Rattle.layout.specs.Rules.{flatOf, kindOf}
+use Rattle.areas.specs.Areas.{isAachen, FaultlessTariff}
+use Rattle.areas.proofs.Faultless.{faultless}
+use Rattle.areas.proofs.Within.{state-common, kind-within, flat-within}
+use Rattle.trip.specs.declared.Ride.{Ride}
 use Rattle.ledger.specs.declared.Window.{Window}
 use Rattle.ledger.specs.Words.{freshBook, tripsOf, coverWord, paidPlace, paidWord}
 use Rattle.ledger.specs.Windows.{inWindow}

@@ -11,9 +11,9 @@ use mathlib.Core.List.{List}
 use lib.ListN.{length, getD}
 use Rattle.units.specs.Price.{mostPrice}
 use Rattle.wire.specs.Number.{getLe}
-use Rattle.tariff.specs.declared.Counts.{Counts}
-use Rattle.tariff.specs.Areas.{FaultlessTariff}
-use Rattle.tariff.proofs.Faultless.{faultless}
+use Rattle.layout.specs.declared.Counts.{Counts}
+use Rattle.areas.specs.Areas.{FaultlessTariff}
+use Rattle.areas.proofs.Faultless.{faultless}
 use Rattle.statement.specs.Record.{Part, headSize, chargeSize, personSize, personsOf}
 use Rattle.statement.specs.Reading.{areaIn, adultsIn, childrenIn, bicyclesIn, sizeIn}
 use Rattle.statement.specs.Contracts.{RecordAt}

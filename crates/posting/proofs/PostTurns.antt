@@ -8,23 +8,35 @@ use native.Mathlib.Decide.{ℕ-discrete}
 use mathlib.Core.Path.{_≡_, refl, sym, ap, _∙_}
 use mathlib.Core.Logic.{inr}
 use mathlib.Core.Bool.{Bool, true, false, cond, not, _&&_}
-use mathlib.Core.List.{List, _++_, append-nil}
+use mathlib.Core.List.{List}
 use borrow.Author.Tests.{eq-eqb, ne-eqb, eqb-true, not-true, not-false}
-use lib.ListN.{length, getD, drop, replicate}
-use lib.Seq.{drop-length}
+use lib.ListN.{length, getD}
 use lib.Dec.{eqb}
 use Rattle.units.specs.Price.{mostPrice}
 use Rattle.caps.specs.Tree.{IsTree}
 use Rattle.caps.proofs.Climb.{climb-top, climb-up}
 use Rattle.wire.specs.Number.{getLe}
 use Rattle.wire.proofs.Tests.{both-left}
-use Rattle.tariff.specs.declared.Counts.{Counts}
-use Rattle.tariff.specs.Rules.{levelOf}
-use Rattle.tariff.specs.Areas.{parentOf, FaultlessTariff}
-use Rattle.tariff.proofs.Within.{parent-there, parent-top}
+use Rattle.layout.specs.declared.Counts.{Counts}
+use Rattle.layout.specs.Rules.{levelOf}
+use Rattle.areas.specs.Areas.{parentOf, FaultlessTariff}
+use Rattle.areas.proofs.Within.{parent-there, parent-top}
 use Rattle.statement.specs.Record.{personSize}
 use Rattle.ledger.specs.declared.Window.{Window}
-use Rattle.ledger.specs.Words.{bookSize, freshBook, word, putWord, tripsOf, pairPlace, secondSum, allSum, coverPlace, coverWord, paidPlace, paidWord}
+use Rattle.ledger.specs.Words.{
+  bookSize,
+  freshBook,
+  word,
+  putWord,
+  tripsOf,
+  pairPlace,
+  secondSum,
+  allSum,
+  coverPlace,
+  coverWord,
+  paidPlace,
+  paidWord,
+}
 use Rattle.ledger.specs.Sound.{mostPaid}
 use Rattle.ledger.specs.Windows.{inWindow, opened}
 use Rattle.ledger.proofs.WordLaws.{fresh-size, size-put, word-put-other}
@@ -35,13 +47,6 @@ use Rattle.charging.proofs.Trees.{is-tree}
 use Rattle.charging.proofs.SumLaws.{here-other, up-size, up-other}
 use Rattle.posting.specs.declared.Way.{Way}
 use Rattle.posting.specs.Contracts.{FreshOrUsed, RoomHere, Room, wayOf, Apart, WayOf, addAlong, chargesFrom, RidersPosted}
-
--- A list filled to its end is nothing but the filling.
-pub filled :
-    (n i v : ℕ) (d : List ℕ) {b : List ℕ} → b ≡ replicate i v ++ drop i d → i ≡ n → length d ≡ n → b ≡ replicate n v
-filled n i v d e end size =
-    e ∙ ap (λ (k : ℕ). replicate k v ++ drop k d) (end ∙ sym size)
-    ∙ rw (drop-length d, append-nil) (ap (λ (k : ℕ). replicate k v) size)
 
 -- Where a window has been seen to: a new one is cleared, unless the book is fresh already.
 pub record WindowReady (current : Bool) (b b′ : List ℕ) : Type 0 where

@@ -5,9 +5,9 @@ use mathlib.Core.Path.{_≡_, refl, sym, ap}
 use mathlib.Core.List.{List}
 use Rattle.wire.specs.Number.{Bytes}
 use Rattle.wire.proofs.Number.{bytes-stay}
-use Rattle.tariff.specs.declared.Counts.{Counts}
-use Rattle.tariff.specs.Areas.{FaultlessTariff}
-use Rattle.fare.specs.declared.Ride.{Ride}
+use Rattle.layout.specs.declared.Counts.{Counts}
+use Rattle.areas.specs.Areas.{FaultlessTariff}
+use Rattle.trip.specs.declared.Ride.{Ride}
 use Rattle.ledger.specs.declared.Window.{Window}
 use Rattle.ledger.specs.Words.{word, putWord}
 use Rattle.ledger.specs.Windows.{inWindow, opened}

@@ -13,8 +13,8 @@ use Rattle.units.specs.Day.{dayMinutes}
 use Rattle.units.specs.Price.{mostPrice}
 use Rattle.caps.specs.Tree.{within}
 use Rattle.calendar.specs.Stamps.{lastMinute}
-use Rattle.tariff.specs.declared.Counts.{Counts}
-use Rattle.fare.specs.declared.Ride.{Ride}
+use Rattle.layout.specs.declared.Counts.{Counts}
+use Rattle.trip.specs.declared.Ride.{Ride}
 use Rattle.ledger.specs.declared.Window.{Window}
 use Rattle.ledger.specs.Sound.{sound}
 use Rattle.ledger.specs.Windows.{tooEarly, windowOf}

@@ -8,9 +8,10 @@ use lib.Dec.{eqb}
 use Rattle.units.specs.declared.Minutes.{Minutes}
 use Rattle.units.specs.Price.{mostPrice}
 use Rattle.wire.specs.Number.{getLe}
-use Rattle.tariff.specs.declared.Counts.{Counts}
-use Rattle.tariff.specs.Rules.{levelOf}
-use Rattle.tariff.specs.Areas.{Read, parentOf}
+use Rattle.layout.specs.declared.Counts.{Counts}
+use Rattle.layout.specs.Rules.{levelOf}
+use Rattle.layout.specs.Scan.{Read}
+use Rattle.areas.specs.Areas.{parentOf}
 use Rattle.statement.specs.Record.{Part, personSize, Recordable}
 use Rattle.statement.specs.Reading.{sizeIn}
 use Rattle.statement.specs.Contracts.{StandsAt}

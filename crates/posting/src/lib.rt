@@ -1,7 +1,10 @@
 // The window opened, the charges added to the sums, the bicycles' covering areas and payments: all that is ever written to a book. Of a ride
 // this reads what its record says.
+use areas::level;
+use areas::parent;
 use cycles::bicycles::words_with;
 use cycles::terms::terms_of;
+use layout::Counts;
 use ledger::Window;
 use ledger::words::FIRST_CHILD;
 use ledger::words::LAST_OUT;
@@ -20,21 +23,29 @@ use statement::reading::adults_at;
 use statement::reading::area_at;
 use statement::reading::bicycles_at;
 use statement::reading::children_at;
-use tariff::Counts;
-use tariff::areas::level;
-use tariff::areas::parent;
 use units::Cents;
 use units::Minutes;
 use wire::four_at;
 ghost use mathlib.Core.Path.{_≡_};
 ghost use Prim.Native.Nat.{_≤_, _<_};
 ghost use lib.ListN.{length};
-ghost use Rattle.tariff.specs.Areas.{Read};
+ghost use Rattle.layout.specs.Scan.{Read};
 ghost use Rattle.ledger.specs.Words.{bookSize, freshBook};
 ghost use Rattle.ledger.specs.Windows.{inWindow, opened};
 ghost use Rattle.cycles.specs.Bicycles.{coverBicycles};
 ghost use Rattle.charging.specs.After.{addHere};
-ghost use Rattle.posting.specs.Contracts.{FreshOrUsed, AddingHere, WayOf, AddingUp, addAlong, Adding, RidersPosted, Covering, PostableAt, PostedAt};
+ghost use Rattle.posting.specs.Contracts.{
+  FreshOrUsed,
+  AddingHere,
+  WayOf,
+  AddingUp,
+  addAlong,
+  Adding,
+  RidersPosted,
+  Covering,
+  PostableAt,
+  PostedAt,
+};
 
 // All sums and bicycles back to none.
 fn clear(book: &mut [u8])

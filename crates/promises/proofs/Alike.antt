@@ -9,9 +9,9 @@ use mathlib.Core.List.{List}
 use mathlib.Core.Bool.{Bool, true, false}
 use lib.ListN.{length}
 use Rattle.wire.proofs.Number.{put-reads}
-use Rattle.tariff.specs.declared.Counts.{Counts}
-use Rattle.tariff.specs.Areas.{FaultlessTariff}
-use Rattle.fare.specs.declared.Ride.{Ride}
+use Rattle.layout.specs.declared.Counts.{Counts}
+use Rattle.areas.specs.Areas.{FaultlessTariff}
+use Rattle.trip.specs.declared.Ride.{Ride}
 use Rattle.ledger.specs.declared.Window.{Window}
 use Rattle.ledger.specs.Words.{freshBook, word, putWord}
 use Rattle.ledger.specs.Windows.{inWindow, opened}
@@ -19,7 +19,13 @@ use Rattle.charging.specs.Charging.{chargesOf}
 use Rattle.charging.specs.Cuts.{cutsOf}
 use Rattle.charging.specs.After.{posted}
 use Rattle.ledger.proofs.WordLaws.{size-put, word-put-other}
-use Rattle.charging.proofs.AlikeBooks.{Alike, Touches, charges-alike as charges-by-words, cuts-alike as cuts-by-words, posted-alike as posted-by-words}
+use Rattle.charging.proofs.AlikeBooks.{
+  Alike,
+  Touches,
+  charges-alike as charges-by-words,
+  cuts-alike as cuts-by-words,
+  posted-alike as posted-by-words,
+}
 use Rattle.promises.specs.Moved.{SameWords}
 
 -- a word put in two books of one length leaves the words the same that were

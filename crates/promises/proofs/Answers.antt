@@ -10,19 +10,19 @@ use mathlib.Core.List.{List, [], _∷_, append-nil}
 use lib.ListN.{length, getD}
 use Rattle.caps.specs.Named.{CapHere, all-classes, second-class}
 use Rattle.caps.proofs.Climb.{within-there}
-use Rattle.tariff.specs.declared.Counts.{Counts}
-use Rattle.tariff.specs.Layout.{longestTariff}
-use Rattle.tariff.specs.Areas.{FaultlessTariff}
-use Rattle.tariff.specs.Scan.{Passed, FaultSays}
-use Rattle.tariff.specs.Scan as scan
-use Rattle.tariff.proofs.Faultless.{faultless}
-use Rattle.tariff.proofs.Faults.{fault-exactly, fault-number, fault-most}
+use Rattle.layout.specs.declared.Counts.{Counts}
+use Rattle.layout.specs.Layout.{longestTariff}
+use Rattle.areas.specs.Areas.{FaultlessTariff}
+use Rattle.layout.specs.Scan.{Passed, FaultSays}
+use Rattle.layout.specs.Scan as scan
+use Rattle.areas.proofs.Faultless.{faultless}
+use Rattle.scan.proofs.Faults.{fault-exactly, fault-number, fault-most}
 use Rattle.trip.specs.Record.{classAt, levelAt, partyAt, countAt}
 use Rattle.trip.specs.Moments.{checkoutOf}
 use Rattle.trip.specs.Trips.{tripOf}
 use Rattle.trip.proofs.Ranges.{PartyRanges}
 use Rattle.trip.proofs.Clear.{good-fields}
-use Rattle.fare.specs.declared.Ride.{Ride}
+use Rattle.trip.specs.declared.Ride.{Ride}
 use Rattle.fare.specs.declared.Breaking.{Breaking}
 use Rattle.fare.specs.declared.Breaking.the-variants.{Unbroken, At}
 use Rattle.fare.specs.Rides.{areaOfStops, AreaOfStops, rideBetween, rideOf}

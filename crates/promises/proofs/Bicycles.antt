@@ -7,11 +7,12 @@ use native.Mathlib.Decide.{decLt}
 use mathlib.Core.Path.{_≡_, refl, sym, ap, _∙_}
 use mathlib.Core.List.{List, [], _∷_}
 use lib.ListN.{length}
-use Rattle.tariff.specs.declared.Counts.{Counts}
-use Rattle.tariff.specs.Areas.{isAachen, Read}
-use Rattle.tariff.proofs.Faultless.{faultless, read-one}
+use Rattle.layout.specs.declared.Counts.{Counts}
+use Rattle.areas.specs.Areas.{isAachen}
+use Rattle.layout.specs.Scan.{Read}
+use Rattle.areas.proofs.Faultless.{faultless, read-one}
 use Rattle.trip.specs.Moments.{checkoutOf}
-use Rattle.fare.specs.declared.Ride.{Ride}
+use Rattle.trip.specs.declared.Ride.{Ride}
 use Rattle.fare.specs.Contracts.{EachRide}
 use Rattle.fare.specs.Contracts as each
 use Rattle.ledger.specs.declared.Window.{Window}

@@ -14,12 +14,12 @@ use lib.Dec.{eqb}
 use Rattle.wire.specs.Number.{Bytes}
 use Rattle.wire.proofs.Tests.{both-left, both-right}
 use Rattle.caps.specs.Tree.{within}
-use Rattle.tariff.specs.declared.Counts.{Counts}
-use Rattle.tariff.specs.Areas.{liesWithin, isAachen, FaultlessTariff}
-use Rattle.tariff.proofs.Faultless.{faultless}
+use Rattle.layout.specs.declared.Counts.{Counts}
+use Rattle.areas.specs.Areas.{liesWithin, isAachen, FaultlessTariff}
+use Rattle.areas.proofs.Faultless.{faultless}
 use Rattle.trip.specs.Record.{countAt}
 use Rattle.trip.specs.Moments.{checkoutOf}
-use Rattle.fare.specs.declared.Ride.{Ride}
+use Rattle.trip.specs.declared.Ride.{Ride}
 use Rattle.fare.specs.Parts.{BrokenAt, firstPart}
 use Rattle.fare.specs.Contracts.{EachRide}
 use Rattle.fare.specs.Contracts as each

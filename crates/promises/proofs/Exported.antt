@@ -10,13 +10,12 @@ use mathlib.Core.List.{List, [], _∷_}
 use borrow.Author.Tests.{le-ltb, lt-ltb, eq-eqb, ne-eqb}
 use lib.ListN.{length}
 use lib.Seq.{take-append-seam}
-use Rattle.tariff.specs.declared.Counts.{Counts}
-use Rattle.tariff.specs.declared.Reading.{Reading}
-use Rattle.tariff.specs.declared.Reading.the-variants.{Fault, Faultless}
-use Rattle.tariff.specs.Scan.{readTariff}
-use Rattle.tariff.specs.Areas.{Read}
-use Rattle.tariff.specs.Layout.{longestTariff}
-use Rattle.tariff.proofs.Faults.{first-fault, fault-number, fault-most}
+use Rattle.layout.specs.declared.Counts.{Counts}
+use Rattle.layout.specs.declared.Reading.{Reading}
+use Rattle.layout.specs.declared.Reading.the-variants.{Fault, Faultless}
+use Rattle.layout.specs.Scan.{readTariff, Read}
+use Rattle.layout.specs.Layout.{longestTariff}
+use Rattle.scan.proofs.Faults.{first-fault, fault-number, fault-most}
 use Rattle.ledger.specs.Words.{bookSize}
 use Rattle.statement.specs.Record.{Part, countOf, recordOf, statementOf}
 use Rattle.reader.specs.Fields.{fieldsOf}
@@ -24,17 +23,29 @@ use Rattle.reader.specs.Filling.{fieldSize, filled, fillingFrom}
 use Rattle.settle.specs.Outcome.{Quote, unquoted, priced, Outcome, refused, accepted, quoted, settledUnder, settled, partsIn, Settled, Quoted}
 use Rattle.settle.specs.Posting.{Posting, unposted, renewed, postingOf, Posted}
 use Rattle.settle.proofs.Ways.{faultless-way}
-use Rattle.accounts.specs.Pages.{numberSize, startOf, bookAt, replaced, onPage, memberSettled}
+use Rattle.page.specs.Pages.{numberSize, startOf, bookAt, replaced}
+use Rattle.accounts.specs.Members.{onPage, memberSettled}
 use Rattle.accounts.specs.Associations.{ownPlaces, firstPlace, isAssociation, AgreeFor, settledFor}
 use Rattle.accounts.specs.Associations as refusals
-use Rattle.accounts.specs.Words as words
-use Rattle.accounts.specs.Words.{settle-faulty, settle-eighteen, settle-nineteen, settle-table}
+use Rattle.accounts.specs.InWords as words
+use Rattle.accounts.specs.InWords.{settle-faulty, settle-eighteen, settle-nineteen, settle-table}
 use Rattle.accounts.specs.Lent.{pagePosted}
 use Rattle.accounts.specs.Calls.{Call}
 use Rattle.accounts.specs.Sharing.{Asked, pageWithFor, pageShared, callsOf, Reply, replyTo, repliesTo}
-use Rattle.accounts.proofs.Placing.{put-back}
+use Rattle.page.proofs.Replacing.{put-back}
 use Rattle.accounts.proofs.Effects.{at-fault, settle-wrong-page, settle-absent, settle-at, settling, Settling}
-use Rattle.accounts.proofs.Halves.{Which, is-one, is-none, which, one-is, settled-none-under, for-fault, for-read, settled-for, settling-refused-for}
+use Rattle.accounts.proofs.Halves.{
+  Which,
+  is-one,
+  is-none,
+  which,
+  one-is,
+  settled-none-under,
+  for-fault,
+  for-read,
+  settled-for,
+  settling-refused-for,
+}
 use Rattle.accounts.proofs.Lending.{posted-there, posted-for}
 use Rattle.accounts.proofs.Sharing.{runs-alike}
 use Rattle.milecopper.specs.Contracts.{ReadTo}

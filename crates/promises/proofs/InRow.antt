@@ -11,8 +11,8 @@ use borrow.Author.Tests.{leb-false}
 use lib.Dec.{leb}
 use Rattle.units.specs.Day.{dayMinutes}
 use Rattle.caps.specs.Rides.{ChargedRide}
-use Rattle.tariff.specs.declared.Counts.{Counts}
-use Rattle.tariff.specs.Areas.{Read}
+use Rattle.layout.specs.declared.Counts.{Counts}
+use Rattle.layout.specs.Scan.{Read}
 use Rattle.trip.specs.Moments.{checkinOf, checkoutOf}
 use Rattle.trip.proofs.Clear.{good-fields}
 use Rattle.ledger.specs.Words.{tripsOf, lastOutOf}
@@ -22,7 +22,20 @@ use Rattle.settle.specs.Outcome.{Outcome, refused, accepted, bookAfter}
 use Rattle.settle.specs.Steps.{Step, offerOf, stepOutcome, eachFrom, bookAfterEach, under, stepsFrom, bookAfterSteps}
 use Rattle.settle.proofs.Steps.{step-settles}
 use Rattle.promises.specs.Conditions.{conditionWith, AcceptedBy}
-use Rattle.promises.specs.Runs.{Span, spanOf, RiderWindow, opensAt, withTrip, windowsWith, windowsAfter, windowsOver, OpenFirst, none-open, one-open, windowsOf}
+use Rattle.promises.specs.Runs.{
+  Span,
+  spanOf,
+  RiderWindow,
+  opensAt,
+  withTrip,
+  windowsWith,
+  windowsAfter,
+  windowsOver,
+  OpenFirst,
+  none-open,
+  one-open,
+  windowsOf,
+}
 use Rattle.promises.specs.InRow.{Opener, Before, InRow, no-window, first-window, next-window}
 use Rattle.promises.proofs.Answers.{accepted-is, clear}
 use Rattle.promises.proofs.Books.{book-head}

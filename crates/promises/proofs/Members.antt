@@ -16,8 +16,8 @@ use Rattle.caps.specs.Limits.{Full}
 use Rattle.caps.specs.Named.{nameIn, NamedCap, capNamed, sumNamed}
 use Rattle.caps.specs.Tree.{Tree}
 use Rattle.caps.specs.Rides.{ChargedRide, allTotal, secondTotal, charges, oneClass, Reordered, PromiseThree}
-use Rattle.tariff.specs.declared.Counts.{Counts}
-use Rattle.tariff.specs.Areas.{Read}
+use Rattle.layout.specs.declared.Counts.{Counts}
+use Rattle.layout.specs.Scan.{Read}
 use Rattle.trip.specs.Moments.{checkoutOf}
 use Rattle.ledger.specs.Words.{freshBook, secondSum, allSum, coverWord, paidWord}
 use Rattle.ledger.specs.Sound.{sound}
@@ -30,7 +30,8 @@ use Rattle.settle.specs.Outcome.{Outcome, refused, accepted, settledUnder, book
 use Rattle.settle.specs.Runs.{Settlement}
 use Rattle.settle.specs.Steps.{Step, offerOf, stepOutcome, StepUnder, eachFrom, bookAfterEach, under, stepsFrom}
 use Rattle.settle.proofs.Ways.{faultless-way}
-use Rattle.accounts.specs.Pages.{bookAt, Change, Changed}
+use Rattle.page.specs.Pages.{bookAt, Change}
+use Rattle.accounts.specs.Members.{Changed}
 use Rattle.accounts.specs.Calls.{stepsOf}
 use Rattle.accounts.specs.Associations.{Association}
 use Rattle.accounts.specs.Sharing.{Asked, pageShared, callsOf, settlementsFor}
@@ -84,7 +85,7 @@ member-determined one other = (
   one .statement-is ∙ sym (other .statement-is),
 )
 
--- What is refused behind 19, on the book of the member's place (accounts/specs/Words.antt: SettlingRefused), says what a refusal of settling says:
+-- What is refused behind 19, on the book of the member's place (page/specs/InWords.antt: SettlingRefused), says what a refusal of settling says:
 -- 4 to 12, by the first row of the table that holds.
 pub on-its-book :
     (tariff : List ℕ) (counts : Counts) → Read tariff counts → (book trip : List ℕ) (room n at : ℕ)

@@ -12,11 +12,10 @@ use borrow.Author.Tests.{leb-true, leb-false, le-leb, eq-eqb, ne-eqb, eqb-true, 
 use lib.Dec.{leb, eqb}
 use Rattle.units.specs.Day.{dayMinutes}
 use Rattle.calendar.specs.Stamps.{lastMinute}
-use Rattle.tariff.specs.declared.Counts.{Counts}
-use Rattle.tariff.specs.declared.Reading.{Reading}
-use Rattle.tariff.specs.declared.Reading.the-variants.{Fault, Faultless}
-use Rattle.tariff.specs.Scan.{readTariff}
-use Rattle.tariff.specs.Areas.{Read}
+use Rattle.layout.specs.declared.Counts.{Counts}
+use Rattle.layout.specs.declared.Reading.{Reading}
+use Rattle.layout.specs.declared.Reading.the-variants.{Fault, Faultless}
+use Rattle.layout.specs.Scan.{readTariff, Read}
 use Rattle.ledger.specs.Words.{freshBook, tripsOf, openingOf, lastOutOf}
 use Rattle.ledger.specs.Windows.{belongs, windowOf}
 use Rattle.ledger.proofs.WordLaws.{word-fresh}
@@ -25,9 +24,8 @@ use Rattle.deciding.specs.declared.refusals.Refusal.the-variants.{OtherRecord}
 use Rattle.deciding.specs.Refusals.{refusal, rows, Verdict, nothing, found, firstOf}
 use Rattle.settle.specs.Outcome.{priced, Outcome, refused, accepted, acceptedTrip, quoted, settled, partsPriced, bookAfter}
 use Rattle.settle.specs.Posting.{sameBytes, unposted, renewed, postingOf}
-use Rattle.deciding.proofs.Decisions.{clear-first}
+use Rattle.deciding.proofs.Decisions.{clear-first, refused-first}
 use Rattle.settle.proofs.Ways.{fault-way, refused-way, accepted-way}
-use Rattle.deciding.proofs.Decisions.{refused-first}
 use Rattle.settle.proofs.Postings.{same-exactly}
 use Rattle.settle.specs.Runs.{Offer}
 use Rattle.settle.specs.Steps.{Step, postedIn, stepOutcome, bookAfterEach, under, bookAfterSteps}

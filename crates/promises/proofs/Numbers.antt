@@ -9,10 +9,10 @@ use mathlib.Core.Logic.{⊎-elim}
 use mathlib.Core.List.{List}
 use lib.ListN.{length}
 use lib.Dec.{ltb}
-use Rattle.tariff.specs.declared.Reading.{Reading}
-use Rattle.tariff.specs.declared.Reading.the-variants.{Fault, Faultless}
-use Rattle.tariff.specs.Scan.{readTariff}
-use Rattle.tariff.proofs.Faults.{first-fault, fault-number}
+use Rattle.layout.specs.declared.Reading.{Reading}
+use Rattle.layout.specs.declared.Reading.the-variants.{Fault, Faultless}
+use Rattle.layout.specs.Scan.{readTariff}
+use Rattle.scan.proofs.Faults.{first-fault, fault-number}
 use Rattle.reader.specs.Conditions.{RefusedBy, broken-frame, other-record, out-of-range}
 use Rattle.reader.specs.Fields.{whoseIn, chargesOf}
 use Rattle.reader.specs.Reading as reading
@@ -25,8 +25,9 @@ use Rattle.settle.specs.declared.Answer.the-variants.{Refused, Written}
 use Rattle.settle.specs.Outcome.{Quote, unquoted, priced, Outcome, refused, accepted, quoted, settled, Settled, Quoted}
 use Rattle.settle.specs.Posting.{Posting, unposted, renewed, postingOf, Posted}
 use Rattle.settle.specs.Contracts.{toldBy, toldQuote, toldPosting}
-use Rattle.accounts.specs.Pages.{Change, unchanged, changed, Changed}
-use Rattle.accounts.specs.Words.{AddingRefused, add-eighteen, add-nineteen, add-twenty, ClosingRefused, close-eighteen, close-nineteen}
+use Rattle.page.specs.Pages.{Change, unchanged, changed}
+use Rattle.accounts.specs.Members.{Changed}
+use Rattle.page.specs.InWords.{AddingRefused, add-eighteen, add-nineteen, add-twenty, ClosingRefused, close-eighteen, close-nineteen}
 use Rattle.accounts.specs.Associations.{addedFor, closedFor, settledFor, Behind, twenty-one, other-refusal}
 use Rattle.accounts.specs.Contracts.{toldChange}
 use Rattle.accounts.proofs.Halves.{adding-refused-for, closing-refused-for}

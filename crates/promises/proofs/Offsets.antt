@@ -10,17 +10,15 @@ use Rattle.calendar.proofs.Order.{moved}
 use Rattle.trip.specs.Record.{checkinPlace, checkoutPlace}
 use Rattle.trip.specs.Moments.{stampAt, checkinOf, checkoutOf}
 use Rattle.trip.proofs.Stamps.{stamps}
-use Rattle.tariff.specs.declared.Counts.{Counts}
-use Rattle.tariff.specs.declared.Reading.{Reading}
-use Rattle.tariff.specs.declared.Reading.the-variants.{Fault, Faultless}
-use Rattle.tariff.specs.Scan.{readTariff}
-use Rattle.tariff.specs.Areas.{Read}
+use Rattle.layout.specs.declared.Counts.{Counts}
+use Rattle.layout.specs.declared.Reading.{Reading}
+use Rattle.layout.specs.declared.Reading.the-variants.{Fault, Faultless}
+use Rattle.layout.specs.Scan.{readTariff, Read}
 use Rattle.deciding.specs.Refusals.{rows, Verdict, nothing, found, firstOf}
 use Rattle.settle.specs.Outcome.{acceptedTrip, settled}
 use Rattle.settle.specs.Steps.{Step, stepOutcome}
-use Rattle.deciding.proofs.Decisions.{clear-first}
+use Rattle.deciding.proofs.Decisions.{clear-first, refused-first}
 use Rattle.settle.proofs.Ways.{fault-way, refused-way, accepted-way}
-use Rattle.deciding.proofs.Decisions.{refused-first}
 use Rattle.promises.specs.Runs.{bookOf}
 use Rattle.promises.specs.Moved.{
   MovedTrip,

@@ -11,11 +11,12 @@ use lib.ListN.{length}
 use lib.Dec.{leb, ltb, eqb}
 use borrow.Author.Tests.{lt-ltb, le-ltb, eq-eqb, ne-eqb}
 use Rattle.units.specs.Day.{dayMinutes}
-use Rattle.tariff.specs.declared.Counts.{Counts}
-use Rattle.tariff.specs.Areas.{isAachen, Read}
-use Rattle.tariff.proofs.Faultless.{faultless, read-one}
+use Rattle.layout.specs.declared.Counts.{Counts}
+use Rattle.areas.specs.Areas.{isAachen}
+use Rattle.layout.specs.Scan.{Read}
+use Rattle.areas.proofs.Faultless.{faultless, read-one}
 use Rattle.trip.specs.Moments.{checkinOf, checkoutOf}
-use Rattle.fare.specs.declared.Ride.{Ride}
+use Rattle.trip.specs.declared.Ride.{Ride}
 use Rattle.fare.specs.Contracts.{EachRide}
 use Rattle.fare.specs.Contracts as each
 use Rattle.ledger.specs.declared.Window.{Window}

@@ -15,13 +15,26 @@ use lib.ListN.{length}
 use Rattle.caps.specs.Limits.{AtMost, Full}
 use Rattle.caps.specs.Named.{nameIn, NamedCap, capNamed, sumNamed}
 use Rattle.caps.specs.Tree.{Tree, IsTree}
-use Rattle.caps.specs.Rides.{ChargedRide, ChargedInTurn, allTotal, secondTotal, charges, CapFull, ownPrices, oneClass, totalsAlone, Reordered, PromiseThree}
+use Rattle.caps.specs.Rides.{
+  ChargedRide,
+  ChargedInTurn,
+  allTotal,
+  secondTotal,
+  charges,
+  CapFull,
+  ownPrices,
+  oneClass,
+  totalsAlone,
+  Reordered,
+  PromiseThree,
+}
 use Rattle.caps.proofs.Promise.{promise-three as of-charged}
 use Rattle.caps.proofs.Window.{earlier, cut-names-full, state-total}
 use Rattle.caps.proofs.OneClass.{order-free, reordered-same}
-use Rattle.tariff.specs.declared.Counts.{Counts}
-use Rattle.tariff.specs.Areas.{areaAt, Read}
-use Rattle.tariff.proofs.Faultless.{faultless}
+use Rattle.layout.specs.declared.Counts.{Counts}
+use Rattle.areas.specs.Areas.{areaAt}
+use Rattle.layout.specs.Scan.{Read}
+use Rattle.areas.proofs.Faultless.{faultless}
 use Rattle.trip.specs.Moments.{checkoutOf}
 use Rattle.ledger.specs.Words.{freshBook, tripsOf, secondSum, allSum}
 use Rattle.ledger.specs.Sound.{sound}

@@ -8,13 +8,12 @@ use mathlib.Core.Bool.{Bool, true, false, cond, false≢true}
 use mathlib.Core.List.{List}
 use lib.ListN.{length, take, drop, length-append, length-drop}
 use lib.Seq.{take-append-seam, drop-at}
-use Rattle.tariff.specs.declared.Counts.{Counts}
-use Rattle.tariff.specs.declared.Reading.{Reading}
-use Rattle.tariff.specs.declared.Reading.the-variants.{Fault, Faultless}
-use Rattle.tariff.specs.Scan.{readTariff}
-use Rattle.tariff.specs.Areas.{Read}
-use Rattle.tariff.specs.Layout.{longestTariff}
-use Rattle.tariff.proofs.Faults.{first-fault, fault-says, fault-exactly, fault-number, fault-most}
+use Rattle.layout.specs.declared.Counts.{Counts}
+use Rattle.layout.specs.declared.Reading.{Reading}
+use Rattle.layout.specs.declared.Reading.the-variants.{Fault, Faultless}
+use Rattle.layout.specs.Scan.{readTariff, Read}
+use Rattle.layout.specs.Layout.{longestTariff}
+use Rattle.scan.proofs.Faults.{first-fault, fault-says, fault-exactly, fault-number, fault-most}
 use Rattle.trip.specs.declared.Trip.{Trip}
 use Rattle.trip.specs.Record.{countAt}
 use Rattle.trip.specs.Trips.{tripOf}
@@ -29,15 +28,57 @@ use Rattle.deciding.specs.declared.decide.Decision.the-variants.{Refused, Clear
 use Rattle.deciding.specs.declared.refusals.Refusal.the-variants.{NoRoom, OtherRecord}
 use Rattle.deciding.specs.Refusals.{refusal, lastRefusal, Numbered, Verdict, nothing, found, firstOf}
 use Rattle.deciding.specs.Deciding.{decidedUnder}
-use Rattle.settle.specs.Outcome.{Quote, unquoted, priced, Outcome, refused, accepted, tripParts, tripPosted, bookWith, acceptedTrip, quotedUnder, quoted, settled, settledUnder, Settled, Quoted}
+use Rattle.settle.specs.Outcome.{
+  Quote,
+  unquoted,
+  priced,
+  Outcome,
+  refused,
+  accepted,
+  tripParts,
+  tripPosted,
+  bookWith,
+  acceptedTrip,
+  quotedUnder,
+  quoted,
+  settled,
+  settledUnder,
+  Settled,
+  Quoted,
+}
 use Rattle.settle.specs.Posting.{sameBytes, postingRows, unposted, renewed, postingOf, Posted}
 use Rattle.deciding.specs.Contracts.{AllClear}
 use Rattle.settle.specs.Contracts.{clearPosting}
 use Rattle.deciding.proofs.Rows.{has, first-range, first-has}
 use Rattle.deciding.proofs.Decisions.{refused-found, clear-first, clear-found, all-clear}
-use Rattle.settle.proofs.Ways.{unquoted-under, priced-under, fault-quote, faultless-quote, afterQuote, by-quote, fault-way, faultless-way, refused-under, accepted-under}
+use Rattle.settle.proofs.Ways.{
+  unquoted-under,
+  priced-under,
+  fault-quote,
+  faultless-quote,
+  afterQuote,
+  by-quote,
+  fault-way,
+  faultless-way,
+  refused-under,
+  accepted-under,
+}
 use Rattle.settle.proofs.Clear.{parts-right, size-most}
-use Rattle.settle.proofs.Postings.{posting-range, no-room-row, same-exactly, earlier-or-room, none-earlier, none-then, posting-found, posting-none, posting-earlier, posted-refused, posted-clear, fault-posting, faultless-posting}
+use Rattle.settle.proofs.Postings.{
+  posting-range,
+  no-room-row,
+  same-exactly,
+  earlier-or-room,
+  none-earlier,
+  none-then,
+  posting-found,
+  posting-none,
+  posting-earlier,
+  posted-refused,
+  posted-clear,
+  fault-posting,
+  faultless-posting,
+}
 use Rattle.promises.specs.Conditions.{tripWindow, RefusedBy, AcceptedBy}
 use Rattle.promises.specs.Quotes.{InTwoSteps, refuse-alike, accept-alike, PostsQuote, PostingRefusedBy, at-fault, at-row}
 use Rattle.promises.proofs.Refusing.{posting-first-exactly, none-exactly}

@@ -12,13 +12,13 @@ use borrow.Author.Tests.{le-ltb, lt-ltb}
 use lib.ListN.{length, drop, length-append, List·getD-eq-default}
 use Rattle.caps.specs.Named.{CapHere, all-classes, second-class}
 use Rattle.caps.proofs.Climb.{within-there}
-use Rattle.tariff.specs.declared.Counts.{Counts}
-use Rattle.tariff.specs.Areas.{areaAt, FaultlessTariff}
-use Rattle.tariff.proofs.Faultless.{faultless}
+use Rattle.layout.specs.declared.Counts.{Counts}
+use Rattle.areas.specs.Areas.{areaAt, FaultlessTariff}
+use Rattle.areas.proofs.Faultless.{faultless}
 use Rattle.trip.specs.Trips.{tripOf}
-use Rattle.fare.specs.declared.Ride.{Ride}
+use Rattle.trip.specs.declared.Ride.{Ride}
 use Rattle.fare.specs.Contracts.{EachRide, none, more}
-use Rattle.fare.proofs.Steps.{price-most}
+use Rattle.prices.proofs.Steps.{price-most}
 use Rattle.fare.proofs.PartLaws.{few-rides}
 use Rattle.ledger.specs.declared.Window.{Window}
 use Rattle.caps.specs.declared.Cut.{Cut}

@@ -22,10 +22,10 @@ use Rattle.caps.proofs.Charge.{charge-same}
 use Rattle.caps.proofs.Climb.{within-there}
 use Rattle.caps.proofs.Named.{name-class}
 use Rattle.caps.proofs.Window.{no-cap-passed, cut-names-full}
-use Rattle.tariff.specs.declared.Counts.{Counts}
-use Rattle.tariff.proofs.Faultless.{faultless}
+use Rattle.layout.specs.declared.Counts.{Counts}
+use Rattle.areas.proofs.Faultless.{faultless}
 use Rattle.trip.specs.declared.Party.{Party}
-use Rattle.fare.specs.declared.Ride.{Ride}
+use Rattle.trip.specs.declared.Ride.{Ride}
 use Rattle.fare.specs.Contracts.{EachRide}
 use Rattle.fare.specs.Contracts as each
 use Rattle.ledger.specs.declared.Window.{Window}

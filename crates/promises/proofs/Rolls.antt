@@ -8,8 +8,8 @@ use mathlib.Core.List.{List, [], _∷_, _++_, List·Memᴰ}
 use lib.ListN.{length, take}
 use lib.Seq.{take-append-le}
 use Rattle.caps.specs.Rides.{PromiseThree}
-use Rattle.tariff.specs.declared.Counts.{Counts}
-use Rattle.tariff.specs.Areas.{Read}
+use Rattle.layout.specs.declared.Counts.{Counts}
+use Rattle.layout.specs.Scan.{Read}
 use Rattle.ledger.specs.Words.{freshBook}
 use Rattle.charging.specs.Caps.{treeOf}
 use Rattle.charging.specs.Charging.{isChild}

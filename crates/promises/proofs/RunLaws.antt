@@ -14,9 +14,9 @@ use lib.Dec.{leb, eqb}
 use Rattle.units.specs.Day.{dayMinutes}
 use Rattle.caps.specs.Tree.{Tree}
 use Rattle.caps.specs.Rides.{ChargedRide, ChargedInTurn}
-use Rattle.tariff.specs.declared.Counts.{Counts}
-use Rattle.tariff.specs.Areas.{Read}
-use Rattle.tariff.proofs.Faultless.{read-one}
+use Rattle.layout.specs.declared.Counts.{Counts}
+use Rattle.layout.specs.Scan.{Read}
+use Rattle.areas.proofs.Faultless.{read-one}
 use Rattle.trip.specs.Moments.{checkinOf, checkoutOf}
 use Rattle.trip.proofs.Clear.{good-fields}
 use Rattle.ledger.specs.Words.{freshBook, tripsOf, openingOf, lastOutOf}

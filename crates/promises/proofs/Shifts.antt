@@ -14,14 +14,14 @@ use lib.Dec.{leb, ltb, eqb}
 use Rattle.wire.specs.Each.{each}
 use Rattle.units.specs.Day.{dayMinutes}
 use Rattle.calendar.specs.Stamps.{lastMinute}
-use Rattle.tariff.specs.declared.Counts.{Counts}
-use Rattle.tariff.specs.Areas.{FaultlessTariff}
-use Rattle.tariff.proofs.Faultless.{faultless, read-one}
+use Rattle.layout.specs.declared.Counts.{Counts}
+use Rattle.areas.specs.Areas.{FaultlessTariff}
+use Rattle.areas.proofs.Faultless.{faultless, read-one}
 use Rattle.trip.specs.Record.{countAt, stopNumber}
 use Rattle.trip.specs.Moments.{checkinOf, checkoutOf}
 use Rattle.trip.specs.Trips.{stopsKnown, stampsRight, inOrder, oneStop, isMistap, tripOf}
 use Rattle.trip.proofs.Shapes.{trip-same}
-use Rattle.fare.specs.declared.Ride.{Ride}
+use Rattle.trip.specs.declared.Ride.{Ride}
 use Rattle.units.specs.Price.{mostPrice}
 use Rattle.fare.specs.Towns.{townRefuses}
 use Rattle.fare.specs.Contracts.{EachRide}

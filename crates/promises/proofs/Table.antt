@@ -17,37 +17,35 @@ use Rattle.caps.specs.Limits.{leftOf, cappedHere}
 use Rattle.caps.specs.Named.{leaves, namedHere, nameIn}
 use Rattle.caps.specs.Rides.{ChargedRide}
 use Rattle.caps.specs.Tree.{foldUp, among, chargeIn}
-use Rattle.tariff.specs.declared.Counts.{Counts}
-use Rattle.tariff.specs.Layout.{longOf, areaPlace, longBits}
-use Rattle.tariff.specs.Fields.{areaFields, factorFields, stopFields}
-use Rattle.tariff.specs.Rules.{capsRight, placeRight, wideAmong}
-use Rattle.tariff.specs.Scan.{areaEntry, factorEntry, stopEntry, entryAt, readFrom, readTariff}
-use Rattle.tariff.specs.Levels.{levelCap}
-use Rattle.tariff.specs.Areas.{capOf, tripCapOf, kindWith, dayCapOf, areaOf, areaAt, stopAt, townAt, liesWithin, smallestOf, Read}
+use Rattle.layout.specs.declared.Counts.{Counts}
+use Rattle.layout.specs.Layout.{longOf, areaPlace, longBits}
+use Rattle.layout.specs.Fields.{areaFields, factorFields, stopFields}
+use Rattle.layout.specs.Rules.{capsRight, placeRight, wideAmong}
+use Rattle.layout.specs.Scan.{areaEntry, factorEntry, stopEntry, entryAt, readFrom, readTariff, Read}
+use Rattle.units.specs.Levels.{levelCap}
+use Rattle.areas.specs.Areas.{capOf, tripCapOf, kindWith, dayCapOf, areaOf, areaAt, stopAt, townAt, liesWithin, smallestOf, isMarked, inMarkedTown}
 use Rattle.trip.specs.Record.{shapeAt, partyAt, stopNumber}
 use Rattle.trip.specs.Moments.{checkinOf, checkoutOf}
 use Rattle.trip.specs.Trips.{isTrip, partyRight, stopsKnown, stampsRight, oneStop, tripOf}
 use Rattle.fare.specs.Distance.{apart, kmFrom, kmOf}
 use Rattle.fare.specs.Rides.{stopOf, areaOfStops, rideBetween, rideOf}
 use Rattle.fare.specs.Parts.{breakOf, ridesOf as tripRides}
-use Rattle.fare.specs.Prices.{basePart, kmPart, step1, step2, step3, step4, tripCap, commonPrice, isMarked, inMarkedTown, priceOf}
+use Rattle.prices.specs.Prices.{basePart, kmPart, step1, step2, step3, step4, tripCap, commonPrice, priceOf}
 use Rattle.fare.specs.Towns.{someInTown, townRefuses}
 use Rattle.ledger.specs.Words.{freshBook}
 use Rattle.ledger.specs.Sound.{sound}
 use Rattle.charging.specs.Caps.{secondCap, allCap}
 use Rattle.charging.specs.Charging.{riderCharge, inTurn, eachPerson, chargesOf}
 use Rattle.charging.specs.Cuts.{riderCut, cutsOf}
-use Rattle.ledger.specs.Windows.{belongs, tooEarly, windowOf}
+use Rattle.ledger.specs.Windows.{belongs, tooEarly, windowOf, opened}
 use Rattle.charging.specs.After.{addHere, addUp, addList, posted}
 use Rattle.cycles.specs.Bicycles.{coverBicycles}
-use Rattle.ledger.specs.Windows.{opened}
 use Rattle.statement.specs.Record.{statementSize}
 use Rattle.deciding.specs.Refusals.{refusal, rows, Verdict, nothing, found, firstOf}
 use Rattle.settle.specs.Outcome.{Outcome, refused, partOf, oneMore, partsOf, postedAll, acceptedTrip, settled, bookAfter}
 use Rattle.settle.specs.Runs.{Offer, Settlement, runFrom, bookFrom}
-use Rattle.deciding.proofs.Decisions.{clear-first}
+use Rattle.deciding.proofs.Decisions.{clear-first, refused-first}
 use Rattle.settle.proofs.Ways.{refused-way, accepted-way}
-use Rattle.deciding.proofs.Decisions.{refused-first}
 use Rattle.settle.specs.Steps.{settlings}
 use Rattle.settle.proofs.Steps.{settlings-run, settlings-book}
 use Rattle.promises.specs.Runs.{entryOf, cutOf, ridesWith, ridesAfter, ridesOver}

@@ -10,13 +10,13 @@ use mathlib.Core.Bool.{Bool, true, false, cond}
 use mathlib.Core.List.{List}
 use borrow.Author.Tests.{eq-eqb, ne-eqb}
 use lib.Dec.{eqb}
-use Rattle.tariff.specs.declared.Counts.{Counts}
-use Rattle.tariff.specs.declared.Factor.{Factor}
-use Rattle.tariff.specs.Rules.{levelOf, wideAreas}
-use Rattle.tariff.specs.Areas.{parentOf, factorAt, liesWithin, smallestOf, isAachen, townAt, FaultlessTariff}
-use Rattle.tariff.specs.Factors.{regionOf, factorOf}
-use Rattle.tariff.proofs.Faultless.{faultless}
-use Rattle.tariff.proofs.Within.{area-level, area-aachen, within-cases, within-parent, above-of, parent-there, within-most, within-trans, smallest}
+use Rattle.layout.specs.declared.Counts.{Counts}
+use Rattle.layout.specs.declared.Factor.{Factor}
+use Rattle.layout.specs.Rules.{levelOf, wideAreas}
+use Rattle.areas.specs.Areas.{parentOf, factorAt, liesWithin, smallestOf, isAachen, townAt, FaultlessTariff}
+use Rattle.areas.specs.Factors.{regionOf, factorOf}
+use Rattle.areas.proofs.Faultless.{faultless}
+use Rattle.areas.proofs.Within.{area-level, area-aachen, within-cases, within-parent, above-of, parent-there, within-most, within-trans, smallest}
 use Rattle.trip.specs.declared.Trip.{Trip}
 use Rattle.fare.specs.declared.Breaking.{Breaking}
 use Rattle.fare.specs.declared.Breaking.the-variants.{Unbroken, At}

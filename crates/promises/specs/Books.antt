@@ -5,9 +5,9 @@ use mathlib.Core.List.{List, [], _∷_}
 use mathlib.Core.Bool.{true}
 use lib.ListN.{length, getD}
 use Rattle.wire.specs.Number.{Bytes}
-use Rattle.tariff.specs.declared.Counts.{Counts}
-use Rattle.tariff.specs.Areas.{liesWithin, isAachen}
-use Rattle.fare.specs.declared.Ride.{Ride}
+use Rattle.layout.specs.declared.Counts.{Counts}
+use Rattle.areas.specs.Areas.{liesWithin, isAachen}
+use Rattle.trip.specs.declared.Ride.{Ride}
 use Rattle.ledger.specs.declared.Window.{Window}
 use Rattle.ledger.specs.Words.{bookSize, tripsOf, openingOf, lastOutOf, secondSum, allSum, coverWord, paidWord}
 use Rattle.ledger.specs.Windows.{inWindow}

@@ -7,10 +7,10 @@ use lib.ListN.{length}
 use Rattle.wire.specs.Number.{bytesOf}
 use Rattle.calendar.specs.declared.Stamp.{Stamp}
 use Rattle.caps.specs.Rides.{ChargedRide}
-use Rattle.tariff.specs.declared.Counts.{Counts}
-use Rattle.tariff.specs.declared.Factor.{Factor}
-use Rattle.tariff.specs.declared.fields.AreaFields.{AreaFields}
-use Rattle.tariff.specs.declared.fields.StopFields.{StopFields}
+use Rattle.layout.specs.declared.Counts.{Counts}
+use Rattle.layout.specs.declared.Factor.{Factor}
+use Rattle.layout.specs.declared.fields.AreaFields.{AreaFields}
+use Rattle.layout.specs.declared.fields.StopFields.{StopFields}
 use Rattle.trip.specs.declared.Party.{Party}
 use Rattle.caps.specs.declared.Cut.{Cut}
 use Rattle.ledger.specs.Words.{freshBook}

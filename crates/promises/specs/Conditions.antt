@@ -7,15 +7,14 @@ use mathlib.Core.Bool.{true, false}
 use lib.ListN.{length}
 use Rattle.caps.specs.declared.Name.{Name}
 use Rattle.caps.specs.Named.{capNamed, sumNamed, FullOrPassed}
-use Rattle.tariff.specs.declared.Counts.{Counts}
-use Rattle.tariff.specs.declared.Reading.the-variants.{Fault, Faultless}
-use Rattle.tariff.specs.Scan.{readTariff, Passed, FirstFault, BrokenFrame, OutOfPlace, WrongValue, FaultSays}
-use Rattle.tariff.specs.Areas.{Read}
+use Rattle.layout.specs.declared.Counts.{Counts}
+use Rattle.layout.specs.declared.Reading.the-variants.{Fault, Faultless}
+use Rattle.layout.specs.Scan.{readTariff, Passed, FirstFault, BrokenFrame, OutOfPlace, WrongValue, FaultSays, Read}
 use Rattle.trip.specs.Record.{countAt, classAt, levelAt, partyAt}
 use Rattle.trip.specs.Moments.{checkinOf, checkoutOf}
 use Rattle.trip.specs.Trips.{tripOf}
 use Rattle.trip.specs.Conditions.{NoTrip, WrongParty, LackingStop, WrongStamp, WrongOrder, Mistap}
-use Rattle.fare.specs.declared.Ride.{Ride}
+use Rattle.trip.specs.declared.Ride.{Ride}
 use Rattle.fare.specs.Distance.{apart, LeastKm}
 use Rattle.fare.specs.Rides.{stopOf, AreaOfStops, rideBetween}
 use Rattle.fare.specs.Parts.{BrokenAt, ridesOf}

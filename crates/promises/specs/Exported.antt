@@ -11,7 +11,8 @@ use Rattle.reader.specs.Fields.{fieldsOf}
 use Rattle.reader.specs.Filling.{fieldBytes, fieldSize, fillingOf}
 use Rattle.settle.specs.Outcome.{Settled}
 use Rattle.settle.specs.Posting.{postingOf, Posted}
-use Rattle.accounts.specs.Pages.{numberSize, startOf, bookAt, replaced, Changed}
+use Rattle.page.specs.Pages.{numberSize, startOf, bookAt, replaced}
+use Rattle.accounts.specs.Members.{Changed}
 use Rattle.accounts.specs.Associations.{ownPlaces, firstPlace, placesOf, Association, addedFor, closedFor, settledFor}
 use Rattle.accounts.specs.Lent.{lends}
 use Rattle.accounts.specs.Calls.{Call, adds, closes, settles, posts}

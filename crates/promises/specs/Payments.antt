@@ -5,8 +5,8 @@ use mathlib.Core.List.{List, [], _∷_}
 use mathlib.Core.Bool.{cond}
 use lib.Dec.{leb, ltb}
 use Rattle.units.specs.Day.{dayMinutes}
-use Rattle.tariff.specs.declared.Counts.{Counts}
-use Rattle.tariff.specs.Areas.{isAachen}
+use Rattle.layout.specs.declared.Counts.{Counts}
+use Rattle.areas.specs.Areas.{isAachen}
 use Rattle.trip.specs.Moments.{checkinOf, checkoutOf}
 use Rattle.ledger.specs.Words.{freshBook, coverWord, paidWord}
 use Rattle.cycles.specs.Bicycles.{newCover}

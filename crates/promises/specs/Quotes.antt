@@ -3,9 +3,8 @@ use Prim.Native.Nat.{ℕ}
 use mathlib.Core.Path.{_≡_}
 use mathlib.Core.Logic.{_⊎_}
 use mathlib.Core.List.{List}
-use Rattle.tariff.specs.declared.Counts.{Counts}
-use Rattle.tariff.specs.Scan.{FirstFault, FaultSays}
-use Rattle.tariff.specs.Areas.{Read}
+use Rattle.layout.specs.declared.Counts.{Counts}
+use Rattle.layout.specs.Scan.{FirstFault, FaultSays, Read}
 use Rattle.statement.specs.Record.{Part, largestStatement, statementOf}
 use Rattle.deciding.specs.declared.refusals.Refusal.{Refusal}
 use Rattle.deciding.specs.declared.refusals.Refusal.the-variants.{NoRoom}

@@ -11,8 +11,8 @@ use Rattle.caps.specs.Limits.{Full}
 use Rattle.caps.specs.Tree.{Tree}
 use Rattle.caps.specs.Named.{NamedCap, capNamed, sumNamed, Passed}
 use Rattle.caps.specs.Rides.{ChargedRide, allTotal, secondTotal}
-use Rattle.tariff.specs.declared.Counts.{Counts}
-use Rattle.tariff.specs.Areas.{isAachen}
+use Rattle.layout.specs.declared.Counts.{Counts}
+use Rattle.areas.specs.Areas.{isAachen}
 use Rattle.trip.specs.Moments.{checkinOf, checkoutOf}
 use Rattle.caps.specs.declared.Cut.{Cut}
 use Rattle.ledger.specs.Words.{freshBook, tripsOf, openingOf}

@@ -4,10 +4,10 @@ use Prim.Native.Nat.{ℕ, _-_, _<_}
 use mathlib.Core.Path.{_≡_}
 use mathlib.Core.List.{List}
 use mathlib.Core.Bool.{true}
-use Rattle.tariff.specs.declared.Counts.{Counts}
-use Rattle.tariff.specs.declared.Factor.{Factor}
-use Rattle.tariff.specs.Rules.{levelOf, wideAreas}
-use Rattle.tariff.specs.Areas.{factorAt, liesWithin}
+use Rattle.layout.specs.declared.Counts.{Counts}
+use Rattle.layout.specs.declared.Factor.{Factor}
+use Rattle.layout.specs.Rules.{levelOf, wideAreas}
+use Rattle.areas.specs.Areas.{factorAt, liesWithin}
 use Rattle.trip.specs.declared.Trip.{Trip}
 use Rattle.fare.specs.Rides.{lastOf, areaOfStops}
 use Rattle.fare.specs.Parts.{ridesOf}

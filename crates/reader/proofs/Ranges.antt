@@ -14,7 +14,7 @@ use Rattle.wire.proofs.Tests.{both-left, both-right, one-of, told}
 use Rattle.calendar.specs.Stamps.{lastMinute}
 use Rattle.caps.specs.declared.Cut.{Cut}
 use Rattle.caps.specs.Named.{noName}
-use Rattle.fare.specs.Distance.{mostKm}
+use Rattle.units.specs.Plane.{mostKm}
 use Rattle.units.specs.Price.{mostPrice}
 use Rattle.statement.specs.Record.{mostCarried}
 use Rattle.reader.specs.declared.Head.{Head}

@@ -71,7 +71,17 @@ use Rattle.reader.specs.Reading.{
   ranged,
   readAt,
 }
-use Rattle.reader.specs.Conditions.{OtherRecord, other-kind, no-charges, no-party, RefusedBy, broken-frame, other-record, out-of-range, StandsAt}
+use Rattle.reader.specs.Conditions.{
+  OtherRecord,
+  other-kind,
+  no-charges,
+  no-party,
+  RefusedBy,
+  broken-frame,
+  other-record,
+  out-of-range,
+  StandsAt,
+}
 use Rattle.reader.specs.declared.Read.{Read}
 use Rattle.reader.specs.declared.fields.Filled.{Filled}
 use Rattle.reader.specs.Contracts.{FittedAt, readAs}

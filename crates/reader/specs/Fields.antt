@@ -5,7 +5,7 @@ use mathlib.Core.List.{List, [], _++_}
 use lib.ListN.{length, getD}
 use Rattle.caps.specs.declared.Cut.{Cut}
 use Rattle.trip.specs.declared.Party.{Party}
-use Rattle.fare.specs.declared.Ride.{Ride}
+use Rattle.trip.specs.declared.Ride.{Ride}
 use Rattle.statement.specs.Record.{Part, longWith, mostCharges, personsOf, countOf, headBytes, chargeBytes, uncut}
 use Rattle.statement.specs.Kind4.{chargesLong, chargesHead}
 use Rattle.reader.specs.declared.Head.{Head}

@@ -7,7 +7,7 @@ use lib.Dec.{leb, eqb}
 use Rattle.units.specs.Day.{dayMinutes}
 use Rattle.wire.specs.Each.{each}
 use Rattle.calendar.specs.Stamps.{lastMinute}
-use Rattle.fare.specs.Distance.{mostKm}
+use Rattle.units.specs.Plane.{mostKm}
 use Rattle.units.specs.Price.{mostPrice}
 use Rattle.caps.specs.Named.{noName}
 use Rattle.caps.specs.declared.Cut.{Cut}

@@ -7,7 +7,7 @@ use mathlib.Core.Path.{_≡_, sym, ap, subst, _∙_}
 use mathlib.Core.List.{List, [], _∷_, _++_}
 use borrow.Author.Tests.{lt-ltb, le-ltb}
 use lib.ListN.{length}
-use Rattle.tariff.specs.declared.Counts.{Counts}
+use Rattle.layout.specs.declared.Counts.{Counts}
 use Rattle.statement.specs.Record.{Part, largestStatement, statementOf, Recordable}
 use Rattle.statement.specs.Reading.{sizeIn}
 use Rattle.statement.specs.Contracts.{StandsAt, Recordables, none, more}

@@ -11,8 +11,8 @@ use Rattle.wire.specs.Frame.{frameAt}
 use Rattle.wire.specs.declared.Frame.the-variants as frame
 use Rattle.wire.proofs.Number.{get-take}
 use Rattle.wire.proofs.Frames.{whole, whole-back}
-use Rattle.tariff.specs.declared.Counts.{Counts}
-use Rattle.tariff.specs.Areas.{Read}
+use Rattle.layout.specs.declared.Counts.{Counts}
+use Rattle.layout.specs.Scan.{Read}
 use Rattle.trip.specs.Record.{tripKind}
 use Rattle.trip.specs.Conditions.{other-kind, no-record}
 use Rattle.trip.proofs.Shapes.{five}

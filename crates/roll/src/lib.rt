@@ -1,5 +1,6 @@
 // A roll of trips, settled one record after another on one book, piece by piece: whoever reads the roll hands over what has come so far,
 // and is told what stands at its start and how many bytes that took.
+use layout::Counts;
 use ledger::words::SIZE;
 use settle::Answer;
 use settle::settle_next;
@@ -10,7 +11,6 @@ use statement::reading::km_at;
 use statement::reading::minutes_at;
 use statement::reading::opening_at;
 use statement::reading::size_at;
-use tariff::Counts;
 use wire::Frame;
 use wire::frame_at;
 use wire::two_at;

@@ -9,11 +9,10 @@ use mathlib.Core.Bool.{true, false}
 use mathlib.Core.List.{List, _++_}
 use lib.ListN.{length, take, drop}
 use lib.Seq.{sets-eq, take-append-seam}
-use Rattle.tariff.specs.declared.Counts.{Counts}
-use Rattle.tariff.specs.declared.Reading.the-variants.{Fault}
-use Rattle.tariff.specs.Scan.{readTariff}
-use Rattle.tariff.specs.Areas.{Read}
-use Rattle.tariff.proofs.Faults.{fault-most}
+use Rattle.layout.specs.declared.Counts.{Counts}
+use Rattle.layout.specs.declared.Reading.the-variants.{Fault}
+use Rattle.layout.specs.Scan.{readTariff, Read}
+use Rattle.scan.proofs.Faults.{fault-most}
 use Rattle.units.specs.declared.Minutes.{Minutes}
 use Rattle.trip.specs.declared.Trip.{Trip}
 use Rattle.fare.specs.declared.Breaking.{Breaking}

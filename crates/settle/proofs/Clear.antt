@@ -7,12 +7,12 @@ use mathlib.Core.Bool.{true}
 use mathlib.Core.List.{List, [], _∷_}
 use lib.ListN.{length, length-append}
 use Rattle.units.specs.declared.Minutes.{Minutes}
-use Rattle.tariff.specs.declared.Counts.{Counts}
+use Rattle.layout.specs.declared.Counts.{Counts}
 use Rattle.trip.specs.declared.Trip.{Trip}
 use Rattle.trip.proofs.Clear.{GoodFields, good-fields}
-use Rattle.fare.specs.declared.Ride.{Ride}
+use Rattle.trip.specs.declared.Ride.{Ride}
 use Rattle.fare.specs.declared.Breaking.{Breaking}
-use Rattle.fare.specs.declared.Earlier.the-variants.{Nothing}
+use Rattle.trip.specs.declared.Earlier.the-variants.{Nothing}
 use Rattle.fare.specs.Parts.{ridesOf}
 use Rattle.fare.specs.Contracts.{EachRide, none, more, OfTrip}
 use Rattle.fare.proofs.PartLaws.{few-rides, rides-of-trip}

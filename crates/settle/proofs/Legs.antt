@@ -7,13 +7,13 @@ use mathlib.Core.Path.{_≡_, refl, sym, ap, _∙_}
 use mathlib.Core.List.{List, [], _∷_, append-nil}
 use lib.ListN.{length}
 use Rattle.units.specs.Day.{dayMinutes}
-use Rattle.tariff.specs.declared.Counts.{Counts}
+use Rattle.layout.specs.declared.Counts.{Counts}
 use Rattle.trip.specs.declared.Trip.{Trip}
-use Rattle.fare.specs.declared.Ride.{Ride}
+use Rattle.trip.specs.declared.Ride.{Ride}
 use Rattle.fare.specs.declared.Breaking.{Breaking}
 use Rattle.fare.specs.declared.Breaking.the-variants.{Unbroken, At}
-use Rattle.fare.specs.declared.Earlier.{Earlier}
-use Rattle.fare.specs.declared.Earlier.the-variants.{Nothing, Part}
+use Rattle.trip.specs.declared.Earlier.{Earlier}
+use Rattle.trip.specs.declared.Earlier.the-variants.{Nothing, Part}
 use Rattle.fare.specs.Rides.{rideBetween, durationOf, lastOf, rideOf}
 use Rattle.fare.specs.Parts.{breakOf, firstPart, secondPart, ridesOf}
 use Rattle.fare.specs.Contracts.{Riding, InOrder, more}

@@ -14,14 +14,13 @@ use lib.Seq.{ext-getD}
 use lib.Dec.{eqb, ltb}
 use Rattle.wire.proofs.Each.{each-at, each-all}
 use Rattle.wire.proofs.Tests.{both-left, both-right}
-use Rattle.tariff.specs.declared.Counts.{Counts}
-use Rattle.tariff.specs.declared.Reading.the-variants.{Fault}
-use Rattle.tariff.specs.Scan.{readTariff}
-use Rattle.tariff.specs.Areas.{Read}
+use Rattle.layout.specs.declared.Counts.{Counts}
+use Rattle.layout.specs.declared.Reading.the-variants.{Fault}
+use Rattle.layout.specs.Scan.{readTariff, Read}
 use Rattle.trip.specs.declared.Trip.{Trip}
 use Rattle.trip.specs.Trips.{tripOf}
 use Rattle.trip.proofs.Clear.{good-fields}
-use Rattle.fare.specs.declared.Ride.{Ride}
+use Rattle.trip.specs.declared.Ride.{Ride}
 use Rattle.fare.specs.declared.Breaking.{Breaking}
 use Rattle.fare.specs.Parts.{ridesOf}
 use Rattle.ledger.specs.declared.Window.{Window}

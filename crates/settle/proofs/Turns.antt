@@ -7,8 +7,8 @@ use native.Mathlib.Omega.{arith}
 use mathlib.Core.Path.{_≡_, refl, sym, _∙_}
 use mathlib.Core.List.{List, [], _∷_}
 use Rattle.units.specs.declared.Minutes.{Minutes}
-use Rattle.tariff.specs.declared.Counts.{Counts}
-use Rattle.fare.specs.declared.Ride.{Ride}
+use Rattle.layout.specs.declared.Counts.{Counts}
+use Rattle.trip.specs.declared.Ride.{Ride}
 use Rattle.statement.specs.Record.{recordSize}
 use Rattle.statement.specs.Reading.{sizeIn}
 use Rattle.statement.proofs.Charges.{length-record}

@@ -4,10 +4,9 @@ use Prim.Native.Nat.{ℕ, _^_, _<_}
 use mathlib.Core.Path.{_≡_, refl, ap, _∙_}
 use mathlib.Core.Bool.{false}
 use mathlib.Core.List.{List}
-use Rattle.tariff.specs.declared.Counts.{Counts}
-use Rattle.tariff.specs.declared.Reading.the-variants.{Fault}
-use Rattle.tariff.specs.Scan.{readTariff}
-use Rattle.tariff.specs.Areas.{Read}
+use Rattle.layout.specs.declared.Counts.{Counts}
+use Rattle.layout.specs.declared.Reading.the-variants.{Fault}
+use Rattle.layout.specs.Scan.{readTariff, Read}
 use Rattle.trip.specs.declared.Trip.{Trip}
 use Rattle.fare.specs.declared.Breaking.{Breaking}
 use Rattle.ledger.specs.declared.Window.{Window}

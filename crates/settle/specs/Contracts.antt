@@ -5,9 +5,9 @@ use mathlib.Core.List.{List, [], _∷_}
 use mathlib.Core.Bool.{true, cond}
 use lib.ListN.{length}
 use Rattle.units.specs.declared.Minutes.{Minutes}
-use Rattle.tariff.specs.declared.Counts.{Counts}
+use Rattle.layout.specs.declared.Counts.{Counts}
 use Rattle.trip.specs.declared.Trip.{Trip}
-use Rattle.fare.specs.declared.Ride.{Ride}
+use Rattle.trip.specs.declared.Ride.{Ride}
 use Rattle.fare.specs.declared.Breaking.{Breaking}
 use Rattle.fare.specs.declared.Breaking.the-variants.{Unbroken, At}
 use Rattle.statement.specs.Record.{recordSize, statementOf}

@@ -7,9 +7,9 @@ use mathlib.Core.Bool.{Bool, not, _&&_}
 use lib.ListN.{length, getD}
 use lib.Dec.{eqb}
 use Rattle.wire.specs.Each.{each}
-use Rattle.tariff.specs.declared.Counts.{Counts}
-use Rattle.tariff.specs.declared.Reading.the-variants.{Fault, Faultless}
-use Rattle.tariff.specs.Scan.{readTariff}
+use Rattle.layout.specs.declared.Counts.{Counts}
+use Rattle.layout.specs.declared.Reading.the-variants.{Fault, Faultless}
+use Rattle.layout.specs.Scan.{readTariff}
 use Rattle.statement.specs.Record.{largestStatement}
 use Rattle.deciding.specs.declared.refusals.Refusal.the-variants.{OtherRecord}
 use Rattle.deciding.specs.Refusals.{Row, row, rowsTo, refusal, firstOf, nothing, found}

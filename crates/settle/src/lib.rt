@@ -10,12 +10,12 @@ use deciding::ready::Readiness;
 use deciding::ready::readiness_of;
 use deciding::refusals::Refusal;
 use deciding::refusals::number;
+use layout::Counts;
 use ledger::sound::is_sound;
 use records::post_records;
 use state::Stated;
 use state::state_trip;
-use tariff::Counts;
-ghost use Rattle.tariff.specs.Areas.{Read};
+ghost use Rattle.layout.specs.Scan.{Read};
 ghost use Rattle.deciding.specs.Contracts.{Ready};
 ghost use Rattle.settle.specs.Contracts.{NextSettled, UnderSettled, TripSettled};
 

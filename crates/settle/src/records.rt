@@ -1,7 +1,7 @@
 // The records of a trip posted to the book: the area, the party and the charges are taken off them.
+use layout::Counts;
 use ledger::Window;
 use posting::post;
-use tariff::Counts;
 use units::Minutes;
 ghost use mathlib.Core.Path.{_≡_};
 ghost use Prim.Native.Nat.{_≤_};

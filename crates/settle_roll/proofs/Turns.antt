@@ -13,7 +13,7 @@ use Rattle.streams.specs.Runs.{State, puts, ends, turnAt}
 use Rattle.streams.specs.Flows.{inputSize, outputSize, Inside, InRange, unused, CameMore, Made, left, Advanced, stops}
 use Rattle.streams.proofs.Steps.{onward, unused-length, more-room, fed-on, put-on, at-last, on-is, last-is}
 use Rattle.ledger.specs.Words.{freshBook}
-use Rattle.tariff.specs.declared.Counts.{Counts}
+use Rattle.layout.specs.declared.Counts.{Counts}
 use Rattle.roll.specs.Pieces.{stepOf}
 use Rattle.roll.proofs.Starts.{more-stays}
 use Rattle.text.specs.Contracts.{Behind}

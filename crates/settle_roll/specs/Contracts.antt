@@ -7,7 +7,7 @@ use Rattle.streams.specs.declared.flow.Flowed.the-variants as flowed
 use Rattle.streams.specs.Runs.{State}
 use Rattle.streams.specs.Flows.{Buffers, InRange, stateOf, Advanced}
 use Rattle.streams.specs.Flows as flow
-use Rattle.tariff.specs.declared.Counts.{Counts}
+use Rattle.layout.specs.declared.Counts.{Counts}
 use Rattle.deciding.specs.Contracts.{Ready}
 use Rattle.roll.specs.Lines.{mostRecords}
 use Rattle.lines.specs.declared.turns.Tally.{Tally}

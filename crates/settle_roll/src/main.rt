@@ -4,12 +4,12 @@
 // input.rt   the tariff's first bytes
 // run.rt     the roll, turn by turn
 use input::load_tariff;
+use layout::Reading;
+use layout::fields::DECIDING_BYTES;
 use lines::texts::put_fault;
 use run::settle_roll;
+use scan::read_tariff;
 use streams::output::write;
-use tariff::Reading;
-use tariff::fields::DECIDING_BYTES;
-use tariff::scan::read_tariff;
 
 mod input;
 mod run;

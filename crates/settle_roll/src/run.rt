@@ -1,4 +1,5 @@
 // The roll, turn by turn, on one book.
+use layout::Counts;
 use lines::texts::put_header;
 use lines::turns::ROOM;
 use lines::turns::Tally;
@@ -13,9 +14,8 @@ use streams::flow::OUTPUT;
 use streams::flow::make_room;
 use streams::flow::read_more;
 use streams::output::write;
-use tariff::Counts;
 ghost use mathlib.Core.Path.{_≡_};
-ghost use Rattle.tariff.specs.Areas.{Read};
+ghost use Rattle.layout.specs.Scan.{Read};
 ghost use Rattle.roll.specs.Contracts.{Room};
 ghost use Rattle.settle_roll.specs.Contracts.{Running, wentOn, StepTaken, Begun};
 
@@ -56,7 +56,8 @@ fn take_step(
     run: Run,
 ) -> Next
     requires { ⌜ Running (now tariff) counts (now book) (now input) (now out) run × Room (now statement) ⌝ }
-    ensures { λ r. ⌜ StepTaken (now (tariff .entry)) counts run (now (book .entry)) (now (input .entry)) (now (out .entry)) (now (book .exit)) (now (input .exit)) (now (out .exit)) r ⌝ }
+    ensures { λ r. ⌜ StepTaken (now (tariff .entry)) counts run (now (book .entry)) (now (input .entry)) (now (out .entry))
+        (now (book .exit)) (now (input .exit)) (now (out .exit)) r ⌝ }
 {
     let flow = run.flow;
     let from = flow.from;

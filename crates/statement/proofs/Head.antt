@@ -6,7 +6,7 @@ use mathlib.Core.List.{_++_}
 use lib.ListN.{length}
 use Rattle.wire.specs.Number.{bytesOf}
 use Rattle.caps.specs.declared.Cut.{Cut}
-use Rattle.fare.specs.declared.Ride.{Ride}
+use Rattle.trip.specs.declared.Ride.{Ride}
 use Rattle.statement.specs.Record.{headSize, cutSize, personSize, headBytes, headOf, cutBytes, personBytes}
 use Rattle.statement.specs.Contracts.{cutWith}
 

@@ -11,7 +11,7 @@ use lib.Seq.{sets, length-sets, sets-eq, take-set-le, drop-set-lt, drop-set-add,
 use Rattle.wire.specs.Number.{getLe, bytesOf}
 use Rattle.wire.proofs.Number.{get-take, get-drop, sets-more}
 use Rattle.caps.specs.declared.Cut.{Cut}
-use Rattle.fare.specs.declared.Ride.{Ride}
+use Rattle.trip.specs.declared.Ride.{Ride}
 use Rattle.statement.specs.Record.{Part, headOf, personBytes, chargeBytes, recordOf}
 use Rattle.statement.specs.Contracts.{Wrote, StandsAt}
 use Rattle.statement.proofs.Charges.{charges-join, bicycles-join}

@@ -9,7 +9,7 @@ use Rattle.wire.specs.Number.{bytesOf}
 use Rattle.caps.specs.Named.{noName}
 use Rattle.caps.specs.declared.Cut.{Cut}
 use Rattle.trip.specs.declared.Party.{Party}
-use Rattle.fare.specs.declared.Ride.{Ride}
+use Rattle.trip.specs.declared.Ride.{Ride}
 
 -- a part of a trip, which is what one charge record tells: the window's opening minute, a ride, the charge of each of its party, and what
 -- caps took off the price of each of its persons

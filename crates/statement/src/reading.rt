@@ -9,8 +9,20 @@ ghost use mathlib.Core.Path.{_≡_};
 ghost use Prim.Native.Nat.{_+_, _*_, _≤_, _<_, min};
 ghost use lib.ListN.{length};
 ghost use Rattle.statement.specs.Record.{headSize, mostCharges, largestSize, mostParts};
-ghost use Rattle.statement.specs.Reading.{openingIn, areaIn, kmIn, minutesIn, adultsIn, childrenIn, bicyclesIn};
-ghost use Rattle.statement.specs.Reading.{sizeIn, personsIn, countIn, capAreaIn, capClassIn};
+ghost use Rattle.statement.specs.Reading.{
+  openingIn,
+  areaIn,
+  kmIn,
+  minutesIn,
+  adultsIn,
+  childrenIn,
+  bicyclesIn,
+  sizeIn,
+  personsIn,
+  countIn,
+  capAreaIn,
+  capClassIn,
+};
 ghost use Rattle.statement.specs.Contracts.{RecordAt, PersonsIs, ChargeIs, ReductionIs, CentsUpTo, CentsOf, RecordsTo, CentsOver};
 
 // The window's opening minute.

@@ -2,7 +2,7 @@
 use crate::KIND;
 use crate::record_size;
 use caps::Cut;
-use fare::Ride;
+use trip::Ride;
 use units::Cents;
 use units::Minutes;
 use wire::writer::Writer;

@@ -11,7 +11,24 @@ use mathlib.Core.List.{List, [], _∷_, _++_, append-assoc}
 use borrow.Author.Tests.{lt-ltb}
 use lib.ListN.{length, drop}
 use lib.Dec.{ltb}
-use Rattle.streams.specs.Runs.{Effect, asks, puts, ends, Turns, State, turnAt, came, went, written, fed, holds, writes, Prints, goes-on, is-over}
+use Rattle.streams.specs.Runs.{
+  Effect,
+  asks,
+  puts,
+  ends,
+  Turns,
+  State,
+  turnAt,
+  came,
+  went,
+  written,
+  fed,
+  holds,
+  writes,
+  Prints,
+  goes-on,
+  is-over,
+}
 
 -- no byte comes once the input is at its end
 abbrev pub Still : Bool → List ℕ → Type 0

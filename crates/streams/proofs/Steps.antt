@@ -15,8 +15,23 @@ use Rattle.streams.specs.declared.flow.Flow.{Flow}
 use Rattle.streams.specs.declared.flow.Flowed.the-variants as flowed
 use Rattle.streams.specs.Contracts.{Came, Kept}
 use Rattle.streams.specs.Runs.{asks, puts, ends, Turns, State, turnAt, came, went, written, Goes, fed, holds, writes}
-use Rattle.streams.specs.Flows.{inputSize, outputSize, Inside, InRange, unused, stateOf, unfilled, CameMore, Made}
-use Rattle.streams.specs.Flows.{on, last, left, Advanced, goes, finished}
+use Rattle.streams.specs.Flows.{
+  inputSize,
+  outputSize,
+  Inside,
+  InRange,
+  unused,
+  stateOf,
+  unfilled,
+  CameMore,
+  Made,
+  on,
+  last,
+  left,
+  Advanced,
+  goes,
+  finished,
+}
 use Rattle.streams.proofs.Moves.{joined-up, used-up}
 
 -- ---- Bytes read: there is room for fewer, or the input is at its end.

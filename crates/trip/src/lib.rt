@@ -4,9 +4,10 @@ use calendar::Made;
 use calendar::Stamp;
 use one_date::is_one_date;
 use one_date::times_on_date;
-use tariff::levels::is_level;
 use units::DAY;
+use units::Km;
 use units::Minutes;
+use units::levels::is_level;
 use wire::Frame;
 use wire::frame_at;
 use wire::one_at;
@@ -59,6 +60,22 @@ pub struct Trip {
     pub level: u8,
     pub party: Party,
     pub stops: usize,
+}
+
+// What is priced: in which area, how far, how long, in which class, with which ticket level, and for whom.
+pub struct Ride {
+    pub area: usize,
+    pub km: Km,
+    pub minutes: Minutes,
+    pub class: u8,
+    pub level: u8,
+    pub party: Party,
+}
+
+// What goes before a ride in its trip without being in the book yet: nothing, or a part of the trip, of the same class and party.
+pub enum Earlier {
+    Nothing,
+    Part(Ride),
 }
 
 // A trip record, with its number of stops, or none.

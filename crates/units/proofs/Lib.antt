@@ -1,2 +1,3 @@
 pub mod Caps
 pub mod Rounding
+pub mod LevelCaps

@@ -1,7 +1,20 @@
 -- Rounding up, proved once: not below the exact value, and the least such. Every use cites these two laws.
 -- Assumes nothing.
 use Prim.Native.Nat.{ℕ, zero, suc, _+_, _-_, _*_, _/_, _%_, _≤_, _<_, max}
-use native.Mathlib.Nat.{div-add-mod', mod-lt, add-mul, one-mul, zero-mul, pos-of-ne-zero, mul-le-mul-left, le-of-mul-le-mul-right, lt-of-mul-lt-mul-right, max-le, max-eq-right, le-max-left}
+use native.Mathlib.Nat.{
+  div-add-mod',
+  mod-lt,
+  add-mul,
+  one-mul,
+  zero-mul,
+  pos-of-ne-zero,
+  mul-le-mul-left,
+  le-of-mul-le-mul-right,
+  lt-of-mul-lt-mul-right,
+  max-le,
+  max-eq-right,
+  le-max-left,
+}
 use native.Mathlib.Omega.{arith}
 use mathlib.Core.Path.{_≡_, refl, sym, ap, subst}
 use mathlib.Core.Bool.{Bool, true, false, cond}

@@ -2,3 +2,5 @@ pub mod Caps
 pub mod Day
 pub mod Price
 pub mod Rounding
+pub mod Levels
+pub mod Plane

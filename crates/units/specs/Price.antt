@@ -1,4 +1,4 @@
--- No price is above 37,900 euros. Rules, section 8, give what makes it up (fare/Steps: price-most).
+-- No price is above 37,900 euros. Rules, section 8, give what makes it up (prices/Steps: price-most).
 use Prim.Native.Nat.{ℕ}
 
 abbrev pub mostPrice : ℕ

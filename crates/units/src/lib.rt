@@ -1,9 +1,13 @@
 // The four units that the rules count in, caps on an amount, and the two roundings that a price is made with.
 // All money is whole cents. A count in one unit is never taken where another belongs.
+//
+// levels.rt  the ticket levels, and what each picks of five amounts
 ghost use mathlib.Core.Path.{_≡_};
 ghost use Prim.Native.Nat.{_≤_, _<_};
 ghost use Rattle.units.specs.Caps.{Capped};
 ghost use Rattle.units.specs.Rounding.{dividedUp, hundredthsOf, roundable, Raised, Reduced, Started};
+
+pub mod levels;
 
 pub struct Cents(pub u32);
 

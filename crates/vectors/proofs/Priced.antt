@@ -3,12 +3,14 @@
 use Prim.Native.Nat.{ℕ}
 use mathlib.Core.Path.{_≡_}
 use mathlib.Core.List.{List}
-use Rattle.tariff.specs.declared.Area.{Area}
-use Rattle.tariff.specs.declared.Counts.{Counts}
-use Rattle.tariff.specs.Areas.{Read, areaAt}
-use Rattle.tariff.proofs.Faultless.{faultless}
-use Rattle.fare.specs.declared.Ride.{Ride}
-use Rattle.fare.specs.Contracts.{RideIs, Priceable}
+use Rattle.layout.specs.declared.Area.{Area}
+use Rattle.layout.specs.declared.Counts.{Counts}
+use Rattle.layout.specs.Scan.{Read}
+use Rattle.areas.specs.Areas.{areaAt}
+use Rattle.areas.proofs.Faultless.{faultless}
+use Rattle.trip.specs.declared.Ride.{Ride}
+use Rattle.fare.specs.Contracts.{RideIs}
+use Rattle.prices.specs.Contracts.{Priceable}
 
 pub priceable :
     (tariff : List ℕ) (counts : Counts) (ride : Ride) (area : Area) → Read tariff counts → RideIs counts ride ride

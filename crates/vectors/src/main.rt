@@ -1,18 +1,21 @@
 // Runs outside vectors: each section of the input is a tariff, a trip to be priced, a trip to be settled, or a fresh book, and prints a
 // line or two. A section is a tag byte, a length in 4 bytes, and that many bytes. samples/vectors.txt is the readable source of input and
 // output.
+use areas::area;
 use deciding::decide::Decision;
 use deciding::decide::decide;
 use deciding::refusals::number;
 use fare::Breaking;
-use fare::Ride;
 use fare::parts::first_part;
 use fare::parts::second_part;
-use fare::prices::price;
 use fare::rides::ride_of;
+use layout::Counts;
+use layout::Reading;
 use ledger::words::SIZE;
 use libc::STDIN_FILENO;
 use libc::STDOUT_FILENO;
+use prices::price;
+use scan::read_tariff;
 use settle::Answer;
 use settle::settle;
 use statement::LARGEST_STATEMENT;
@@ -27,15 +30,12 @@ use statement::reading::opening_at;
 use statement::reading::persons_at;
 use statement::reading::reduction_at;
 use statement::reading::size_at;
-use tariff::Counts;
-use tariff::Reading;
-use tariff::areas::area;
-use tariff::scan::read_tariff;
+use trip::Ride;
 use trip::Trip;
 use wire::four_at;
 ghost use Prim.Native.Nat.{_<_};
 ghost use mathlib.Core.Path.{_≡_};
-ghost use Rattle.tariff.specs.Areas.{Read};
+ghost use Rattle.layout.specs.Scan.{Read};
 ghost use Rattle.fare.specs.Parts.{breakOf};
 ghost use Rattle.fare.specs.Contracts.{Riding, InOrder, RideIs};
 ghost use Rattle.statement.specs.Reading.{personsIn};
@@ -103,7 +103,8 @@ fn show_ride(tariff: &[u8], counts: Counts, ride: Ride)
 
 // Each part of a trip, in order: the whole ride, or the two that it is broken into.
 fn show_rides(tariff: &[u8], counts: Counts, bytes: &[u8], fields: Trip, breaking: Breaking)
-    requires { ⌜ Riding (now tariff) counts (now bytes) (fields .stops) × (InOrder fields × (breaking ≡ breakOf (now tariff) counts (now bytes) (fields .stops))) ⌝ }
+    requires { ⌜ Riding (now tariff) counts (now bytes) (fields .stops) × (InOrder fields ×
+        (breaking ≡ breakOf (now tariff) counts (now bytes) (fields .stops))) ⌝ }
 {
     match breaking {
         Breaking::Unbroken => {

@@ -20,7 +20,22 @@ use denote.Steps.{only}
 use denote.Struct.Laws as LL
 use denote.Signature.{Slot, plain, mutSlice, mutSliceOf, namedLft}
 use denote.Signature.Struct.{structAt}
-use denote.Triple.Walked.{Stay, Fields, stay-none, stay-slice, stay-dropped, stay-struct-at, stay-declared, Goes, FieldsGo, goes-none, goes-slice, goes-spent-slice, goes-struct-at, goes-declared}
+use denote.Triple.Walked.{
+  Stay,
+  Fields,
+  stay-none,
+  stay-slice,
+  stay-dropped,
+  stay-struct-at,
+  stay-declared,
+  Goes,
+  FieldsGo,
+  goes-none,
+  goes-slice,
+  goes-spent-slice,
+  goes-struct-at,
+  goes-declared,
+}
 use Rattle.wire.specs.declared.writer.Writer.{Writer}
 use Rattle.wire.proofs.writer.Writer as T
 use Rattle.wire.proofs.writer.Writer.Laws as T′

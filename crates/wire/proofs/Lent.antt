@@ -12,7 +12,31 @@ use base.Logic.{ent, sep, ex}
 use base.Fml.{Lft, GName, Share, Fml, fsep, flft, fdead, fobs, fauth, flent, fobor}
 use prog.Wp.{Heap}
 use ghost.Atoms.{Atoms, sem}
-use types.Kit.{Given, ‵, _⊛_, some, later, _$_, _∵_, !, qed, move, use1, use3, drop, split, pick, fsplit, fjoin, frame, await, updating, now as at-once, show, done}
+use types.Kit.{
+  Given,
+  ‵,
+  _⊛_,
+  some,
+  later,
+  _$_,
+  _∵_,
+  !,
+  qed,
+  move,
+  use1,
+  use3,
+  drop,
+  split,
+  pick,
+  fsplit,
+  fjoin,
+  frame,
+  await,
+  updating,
+  now as at-once,
+  show,
+  done,
+}
 use types.SemTy.{cells, Arr}
 use denote.Builtin.{u8}
 use denote.Shadow.{pureL, pureI}

@@ -9,3 +9,4 @@ pub mod Lent
 pub mod Walk
 pub mod Puts
 pub mod Written
+pub mod Filled

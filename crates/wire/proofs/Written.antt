@@ -19,7 +19,41 @@ use prog.Routine.{Routine}
 use prog.Wp.{Heap, Env, Calls, Loops}
 use ghost.Atoms.{Atoms, sem}
 use contract.Monad.{Fun, fact}
-use types.Kit.{Given, Item, ‵, raw, some, later, _⊛_, nth, put, Post, runs, lands, Step, step, _$_, _∵_, !, qed, move, use1, use2, split, join, pick, rewrite, regoal, fsplit, fjoin, feqL, drop, frame, await, done}
+use types.Kit.{
+  Given,
+  Item,
+  ‵,
+  raw,
+  some,
+  later,
+  _⊛_,
+  nth,
+  put,
+  Post,
+  runs,
+  lands,
+  Step,
+  step,
+  _$_,
+  _∵_,
+  !,
+  qed,
+  move,
+  use1,
+  use2,
+  split,
+  join,
+  pick,
+  rewrite,
+  regoal,
+  fsplit,
+  fjoin,
+  feqL,
+  drop,
+  frame,
+  await,
+  done,
+}
 use types.Run.{Opds, Finds, init, land}
 use sound.WpLaws.{FmC}
 use denote.Laws.{Is, shows}

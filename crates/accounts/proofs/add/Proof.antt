@@ -2,7 +2,7 @@
 -- Assumes nothing.
 use mathlib.Core.Path.{sym, _∙_}
 use borrow.Author.Needs.{needs}
-use Rattle.accounts.proofs.Conditions.{absent-looked, found-on-page}
+use Rattle.page.proofs.Conditions.{absent-looked, found-on-page}
 use Rattle.accounts.proofs.Effects.{adds-wrong-page, adds-present, adds-nowhere, adds-there}
 use Rattle.accounts.proofs.Placing.{refusal-told, written-told}
 use Rattle.accounts.proofs.add.Statement.{statement}

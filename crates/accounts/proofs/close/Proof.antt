@@ -2,7 +2,7 @@
 -- Assumes nothing.
 use mathlib.Core.Path.{sym, _∙_}
 use borrow.Author.Needs.{needs}
-use Rattle.accounts.proofs.Conditions.{present-there}
+use Rattle.page.proofs.Conditions.{present-there}
 use Rattle.accounts.proofs.Effects.{closes-wrong-page, closes-absent, closes-there}
 use Rattle.accounts.proofs.Placing.{refusal-told, written-told}
 use Rattle.accounts.proofs.close.Statement.{statement}

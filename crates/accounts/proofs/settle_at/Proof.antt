@@ -3,7 +3,7 @@
 use native.Mathlib.Omega.{arith}
 use Prim.Native.Nat.{_+_, _-_, _*_}
 use Rattle.ledger.specs.Words.{bookSize}
-use Rattle.accounts.specs.Pages.{numberSize, placeSize}
+use Rattle.page.specs.Pages.{numberSize, placeSize}
 use Rattle.accounts.proofs.Placing.{place-told}
 use borrow.Author.Needs.{needs}
 use Rattle.accounts.proofs.settle_at.Statement.{statement}

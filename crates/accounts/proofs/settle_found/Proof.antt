@@ -5,7 +5,7 @@ use mathlib.Core.Path.{sym, _∙_}
 use lib.ListN.{length}
 use borrow.Author.Needs.{needs}
 use Rattle.settle.proofs.Ways.{refusal-told}
-use Rattle.accounts.proofs.Conditions.{present-there}
+use Rattle.page.proofs.Conditions.{present-there}
 use Rattle.accounts.proofs.Effects.{under-wrong-page, under-absent, under-present}
 use Rattle.accounts.proofs.settle_found.Statement.{statement}
 use Rattle.accounts.proofs.settle_found.Tie as tie

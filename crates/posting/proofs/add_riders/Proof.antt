@@ -4,7 +4,7 @@ use Prim.Native.Nat.{_-_}
 use native.Mathlib.Omega.{arith}
 use mathlib.Core.Path.{sym, ap, _∙_}
 use Rattle.wire.specs.Number.{getLe}
-use Rattle.tariff.proofs.Faultless.{faultless}
+use Rattle.areas.proofs.Faultless.{faultless}
 use Rattle.posting.proofs.PostTurns.{RidersAdded, riders-start, riders-turn, riders-end, riders-none}
 use Rattle.posting.proofs.add_riders.Statement.{statement}
 use Rattle.posting.proofs.add_riders.Tie as tie

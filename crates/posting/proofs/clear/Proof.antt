@@ -7,7 +7,7 @@ use mathlib.Core.List.{List, _++_}
 use borrow.Author.Fill.{fill-none, fill-more}
 use lib.ListN.{length, set, drop, replicate, length-set}
 use Rattle.ledger.specs.Words.{bookSize}
-use Rattle.posting.proofs.PostTurns.{filled}
+use Rattle.wire.proofs.Filled.{filled}
 use Rattle.posting.proofs.clear.Statement.{statement}
 use Rattle.posting.proofs.clear.Tie as tie
 

@@ -4,7 +4,7 @@ use Prim.Native.Nat.{_-_}
 use native.Mathlib.Omega.{arith}
 use mathlib.Core.Path.{sym, ap, _∙_}
 use lib.ListN.{length}
-use Rattle.tariff.proofs.Faultless.{faultless}
+use Rattle.areas.proofs.Faultless.{faultless}
 use Rattle.ledger.specs.Words.{word}
 use Rattle.ledger.proofs.WordLaws.{size-put}
 use Rattle.posting.proofs.PostTurns.{BicyclesCovered, bicycles-start, bicycles-turn, bicycles-end, bicycles-none}

@@ -8,7 +8,19 @@ use borrow.Author.Needs.{needs}
 use Rattle.statement.specs.Record.{Part, headSize}
 use Rattle.ledger.proofs.SoundLaws.{sound-has, fresh-is}
 use Rattle.posting.specs.Contracts.{Postable}
-use Rattle.posting.proofs.PostSteps.{Groups, no-group, group-more, Said, said, head-inside, group-ready, groups-size, covers-ready, all-posted, record-ends}
+use Rattle.posting.proofs.PostSteps.{
+  Groups,
+  no-group,
+  group-more,
+  Said,
+  said,
+  head-inside,
+  group-ready,
+  groups-size,
+  covers-ready,
+  all-posted,
+  record-ends,
+}
 use Rattle.posting.proofs.post.Statement.{statement}
 use Rattle.posting.proofs.post.Tie as tie
 

@@ -2,7 +2,7 @@
 -- ones.
 -- Assumes nothing.
 use borrow.Author.Needs.{needs}
-use Rattle.tariff.proofs.Faultless.{faultless}
+use Rattle.areas.proofs.Faultless.{faultless}
 use Rattle.posting.proofs.PostTurns.{way-found}
 use Rattle.posting.proofs.way_of.Statement.{statement}
 use Rattle.posting.proofs.way_of.Tie as tie

@@ -3,7 +3,7 @@
 use native.Mathlib.Omega.{arith}
 use mathlib.Core.Path.{sym, _∙_}
 use lib.ListN.{length}
-use Rattle.tariff.proofs.Faults.{fault-most}
+use Rattle.scan.proofs.Faults.{fault-most}
 use Rattle.settle.proofs.Ways.{refusal-told}
 use Rattle.accounts.proofs.Halves.{for-fault, for-read}
 use borrow.Author.Needs.{needs}

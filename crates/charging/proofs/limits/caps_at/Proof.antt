@@ -5,9 +5,9 @@ use native.Mathlib.Omega.{arith}
 use mathlib.Core.Path.{_≡_, ap, sym, _∙_}
 use borrow.Author.Needs.{needs}
 use Rattle.units.specs.Rounding.{raisedBy, reducedBy}
-use Rattle.tariff.specs.declared.Area.{Area}
-use Rattle.tariff.specs.Areas.{areaAt, AreaRanges}
-use Rattle.tariff.proofs.Faultless.{faultless}
+use Rattle.layout.specs.declared.Area.{Area}
+use Rattle.areas.specs.Areas.{areaAt, AreaRanges}
+use Rattle.areas.proofs.Faultless.{faultless}
 use Rattle.charging.proofs.CapLaws.{day-most, caps-none, caps-adult, caps-child}
 use Rattle.charging.proofs.limits.caps_at.Statement.{statement}
 use Rattle.charging.proofs.limits.caps_at.Tie as tie

@@ -3,8 +3,8 @@
 -- Assumes nothing.
 use native.Mathlib.Omega.{arith}
 use borrow.Author.Needs.{needs}
-use Rattle.tariff.proofs.Faultless.{faultless}
-use Rattle.tariff.proofs.Within.{parent-top}
+use Rattle.areas.proofs.Faultless.{faultless}
+use Rattle.areas.proofs.Within.{parent-top}
 use Rattle.charging.proofs.limits.chain_of.Statement.{statement}
 use Rattle.charging.proofs.limits.chain_of.Tie as tie
 

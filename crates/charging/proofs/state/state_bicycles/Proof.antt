@@ -4,7 +4,7 @@
 use Prim.Native.Nat.{_-_, _≤_, _<_}
 use native.Mathlib.Omega.{arith}
 use mathlib.Core.Path.{_≡_, _∙_}
-use Rattle.tariff.proofs.Faultless.{faultless}
+use Rattle.areas.proofs.Faultless.{faultless}
 use Rattle.statement.proofs.Wrote.{nobody-wrote, length-wrote}
 use Rattle.ledger.specs.Words.{coverWord, paidWord}
 use Rattle.ledger.specs.Windows.{inWindow}

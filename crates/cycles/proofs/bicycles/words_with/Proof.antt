@@ -1,7 +1,7 @@
 -- `cycles::bicycles::words_with` meets its contract: the payments are those by the terms of the new covering area.
 -- Assumes nothing.
 use native.Mathlib.Omega.{arith}
-use Rattle.tariff.proofs.Faultless.{faultless}
+use Rattle.areas.proofs.Faultless.{faultless}
 use Rattle.cycles.proofs.BicycleLaws.{paid-terms}
 use Rattle.cycles.proofs.bicycles.words_with.Statement.{statement}
 use Rattle.cycles.proofs.bicycles.words_with.Tie as tie

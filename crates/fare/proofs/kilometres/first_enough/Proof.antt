@@ -3,7 +3,8 @@
 -- Assumes nothing.
 use Prim.Native.Nat.{_+_, _*_, _-_, _<_}
 use native.Mathlib.Omega.{arith}
-use Rattle.fare.specs.Distance.{mostKm, square}
+use Rattle.units.specs.Plane.{mostKm}
+use Rattle.fare.specs.Distance.{square}
 use Rattle.fare.proofs.Distance.{fits, short-range, first-reached}
 use Rattle.fare.proofs.kilometres.first_enough.Statement.{statement}
 use Rattle.fare.proofs.kilometres.first_enough.Tie as tie

@@ -3,7 +3,7 @@
 use native.Mathlib.Omega.{arith}
 use mathlib.Core.Path.{ap}
 use borrow.Author.Tests.{not-true}
-use Rattle.tariff.specs.declared.Factor.{Factor}
+use Rattle.layout.specs.declared.Factor.{Factor}
 use Rattle.fare.proofs.Breaks.{break-few, break-never, break-kept, break-at, break-nowhere}
 use Rattle.fare.proofs.parts.break_of.Statement.{statement}
 use Rattle.fare.proofs.parts.break_of.Tie as tie

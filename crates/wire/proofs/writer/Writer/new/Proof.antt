@@ -17,7 +17,27 @@ use ghost.Atoms.{Atoms}
 use contract.Monad.{Fun}
 use contract.Running.{givenOf, tables}
 use types.Kit.{Given, ‵, raw, _⊛_, _$_, _∵_, !, qed, by, fjoin, suffices, frame}
-use types.Run.{look, init, stop, hop, fld, from, load, addr, and-then, no-more, assigns, returns, enter, alloc1, alloc0, params1, pass1, pass0, free0}
+use types.Run.{
+  look,
+  init,
+  stop,
+  hop,
+  fld,
+  from,
+  load,
+  addr,
+  and-then,
+  no-more,
+  assigns,
+  returns,
+  enter,
+  alloc1,
+  alloc0,
+  params1,
+  pass1,
+  pass0,
+  free0,
+}
 use types.Part.{agg, whole, sub, look-in}
 use denote.RattleType.{owns}
 use denote.Plain.{uint-vals, uint-tells}

@@ -1,0 +1,4 @@
+pub mod Values
+pub mod Faultless
+pub mod Within
+pub mod FactorLaws

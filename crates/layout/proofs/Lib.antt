@@ -1,0 +1,7 @@
+pub mod Places
+pub mod PlaceLaws
+pub mod Wide
+pub mod WrongValues
+pub mod Entries
+pub mod Turns
+pub mod Passed

@@ -1,0 +1,81 @@
+-- `layout::fields::long_fields` meets its contract: each number is read at its place of the layout.
+-- Assumes nothing.
+use borrow.Author.Needs.{needs}
+use Rattle.layout.specs.Fields.{longFields}
+use Rattle.layout.proofs.fields.long_fields.Statement.{statement}
+use Rattle.layout.proofs.fields.long_fields.Tie as tie
+
+add-two-at : tie.Need-add-two-at
+add-two-at c = search needs
+
+two-at-requires : tie.Need-two-at-requires
+two-at-requires c κs = search needs
+
+add-two-at-2 : tie.Need-add-two-at-2
+add-two-at-2 c = search needs
+
+two-at-requires-2 : tie.Need-two-at-requires-2
+two-at-requires-2 c κs = search needs
+
+add-two-at-3 : tie.Need-add-two-at-3
+add-two-at-3 c = search needs
+
+two-at-requires-3 : tie.Need-two-at-requires-3
+two-at-requires-3 c κs = search needs
+
+add-two-at-4 : tie.Need-add-two-at-4
+add-two-at-4 c = search needs
+
+two-at-requires-4 : tie.Need-two-at-requires-4
+two-at-requires-4 c κs = search needs
+
+add-two-at-5 : tie.Need-add-two-at-5
+add-two-at-5 c = search needs
+
+two-at-requires-5 : tie.Need-two-at-requires-5
+two-at-requires-5 c κs = search needs
+
+add-two-at-6 : tie.Need-add-two-at-6
+add-two-at-6 c = search needs
+
+two-at-requires-6 : tie.Need-two-at-requires-6
+two-at-requires-6 c κs = search needs
+
+add-one-at : tie.Need-add-one-at
+add-one-at c = search needs
+
+one-at-requires : tie.Need-one-at-requires
+one-at-requires c κs = search needs
+
+returns : tie.Need-returns
+unfolding longFields
+returns c =
+    rw (
+      c .before .before .before .before .before .before .two-at .ensures .value,
+      c .before .before .before .before .before .two-at2 .ensures .value,
+      c .before .before .before .before .two-at3 .ensures .value,
+      c .before .before .before .two-at4 .ensures .value,
+      c .before .before .two-at5 .ensures .value,
+      c .before .two-at6 .ensures .value,
+      c .one-at .ensures .value,
+    )
+
+pub long-fields-spec : {M : Type 1} → statement M
+long-fields-spec =
+    tie.close
+    (tie.spec
+    add-two-at
+    two-at-requires
+    add-two-at-2
+    two-at-requires-2
+    add-two-at-3
+    two-at-requires-3
+    add-two-at-4
+    two-at-requires-4
+    add-two-at-5
+    two-at-requires-5
+    add-two-at-6
+    two-at-requires-6
+    add-one-at
+    one-at-requires
+    returns)

@@ -1,0 +1,4 @@
+pub mod Replacing
+pub mod Lowest
+pub mod Conditions
+pub mod Touching

@@ -1,0 +1,10 @@
+pub mod Faults
+pub mod Words
+pub mod Masks
+pub mod StopLaws
+pub mod BlockLaws
+pub mod PriceLaws
+pub mod CapLaws
+pub mod AreaRunLaws
+pub mod FactorRunLaws
+pub mod Prefix

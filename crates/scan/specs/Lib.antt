@@ -1,0 +1,4 @@
+pub mod Contracts
+pub mod Blocks
+pub mod AreaRuns
+pub mod FactorRuns
