@@ -214,21 +214,22 @@ impl Stamp {
     }
 
     // The minutes from 2000-01-01 00:00 to the start of the stamp's date, both local.
-    pub fn midnight(self) -> u32
+    pub fn midnight(self) -> Minutes
         requires { ⌜ isStamp self ≡ true ⌝ }
-        ensures { λ r. ⌜ r ≡ midnightOf self ⌝ }
+        ensures { λ r. ⌜ r .0 ≡ midnightOf self ⌝ }
     {
-        DAY * day_number(self.year, self.month, self.day)
+        Minutes(DAY * day_number(self.year, self.month, self.day))
     }
 
     // The minutes from 2000-01-01 00:00 UTC to the stamp's moment, from those to the start of its date.
-    pub fn minutes_from(self, midnight: u32) -> Minutes
-        requires { ⌜ (isStamp self ≡ true) × (midnight ≡ midnightOf self) ⌝ }
+    pub fn minutes_from(self, midnight: Minutes) -> Minutes
+        requires { ⌜ (isStamp self ≡ true) × (midnight .0 ≡ midnightOf self) ⌝ }
         ensures { λ r. ⌜ MinuteNumber self (r .0) ⌝ }
     {
-        Minutes(midnight + 60 * self.hour as u32 + self.minute as u32 - 60 * self.offset as u32)
+        Minutes(midnight.0 + 60 * self.hour as u32 + self.minute as u32 - 60 * self.offset as u32)
     }
 
+    // The minutes from 2000-01-01 00:00 UTC to the stamp's moment.
     pub fn minutes(self) -> Minutes
         requires { ⌜ isStamp self ≡ true ⌝ }
         ensures { λ r. ⌜ MinuteNumber self (r .0) ⌝ }

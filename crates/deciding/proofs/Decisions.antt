@@ -2,7 +2,7 @@
 -- Assumes nothing.
 use Prim.Native.Nat.{ℕ, _+_, _≤_}
 use native.Mathlib.Omega.{arith}
-use mathlib.Core.Path.{_≡_, refl, ap, _∙_}
+use mathlib.Core.Path.{_≡_, refl}
 use mathlib.Core.Bool.{Bool, true, false}
 use mathlib.Core.List.{List}
 use borrow.Author.Tests.{ltb-false, not-false}
@@ -32,7 +32,7 @@ use Rattle.deciding.specs.declared.refusals.Refusal.the-variants as why
 use Rattle.deciding.specs.Refusals.{refusal, lastRefusal, Numbered, rows, Verdict, nothing, found, firstOf, testOf}
 use Rattle.deciding.specs.Deciding.{fieldsOf, spanOf, tripWith, readinessOf, decidedUnder}
 use Rattle.deciding.specs.Contracts.{Ready, AllClear}
-use Rattle.deciding.proofs.Rows.{none-holds, first-range, rows-range}
+use Rattle.deciding.proofs.Rows.{comes-refused, comes-clear, told-refused, told-clear, none-holds, first-range, rows-range}
 
 -- ---- Tariff and book.
 
@@ -94,11 +94,11 @@ module _ (tariff : List ℕ) (counts : Counts) (book trip : List ℕ) (room : �
   -- the first row that holds is refused; where none does, the decision is clear
   pub refused-first : {why : Refusal} → found-first ≡ found why → decidedUnder tariff counts book trip room ≡ Refused why
   unfolding decidedUnder
-  refused-first e = rw (e, decidedUnder)
+  refused-first e = comes-refused Refused _ e
 
   pub clear-first : found-first ≡ nothing → decidedUnder tariff counts book trip room ≡ Clear (tripOf trip) window breaking
   unfolding decidedUnder
-  clear-first e = rw (e, decidedUnder)
+  clear-first e = comes-clear Refused _ e
 
   -- by what the groups of rows have found
   pub clear-with :
@@ -109,20 +109,15 @@ module _ (tariff : List ℕ) (counts : Counts) (book trip : List ℕ) (room : �
 
   -- and only then
   pub refused-found : {why : Refusal} → decidedUnder tariff counts book trip room ≡ Refused why → found-first ≡ found why
-  refused-found {why} e = go found-first refl
-    where
-      go : (f : Verdict) → found-first ≡ f → found-first ≡ found why
-      go nothing is = absurd (let z : _≡_ {A = ℕ} 0 1 = cc (clear-first is) in omega arith)
-      go (found other) is = let same : other ≡ why = cc (refused-first is) in is ∙ ap found same
+  unfolding decidedUnder
+  refused-found e = told-refused Refused _ _ (λ a b is. cc) (λ a is. let z : _≡_ {A = ℕ} 0 1 = cc in omega arith) e
 
   pub clear-found :
       {fields : Trip} {here : Window} {broken : Breaking} → decidedUnder tariff counts book trip room ≡ Clear fields here broken
       → (found-first ≡ nothing) × ((fields ≡ tripOf trip) × ((here ≡ window) × (broken ≡ breaking)))
-  clear-found {fields} {here} {broken} e = go found-first refl
-    where
-      go : (f : Verdict) → found-first ≡ f → (found-first ≡ nothing) × ((fields ≡ tripOf trip) × ((here ≡ window) × (broken ≡ breaking)))
-      go nothing is = (is, (cc (clear-first is), (cc (clear-first is), cc (clear-first is))))
-      go (found why) is = absurd (let z : _≡_ {A = ℕ} 0 1 = cc (refused-first is) in omega arith)
+  unfolding decidedUnder
+  clear-found e =
+      let (none, same) = told-clear Refused _ _ (λ why is. let z : _≡_ {A = ℕ} 0 1 = cc in omega arith) e in (none, (cc, (cc, cc)))
 
   -- What it says that no row holds.
   pub record NoneHolds : Type 0 where

@@ -22,9 +22,11 @@ use Rattle.deciding.specs.Refusals.{
   row,
   rowsTo,
   rows,
+  Verdict,
   nothing,
   found,
   firstOf,
+  comesTo,
   rowOf,
   testOf,
   First,
@@ -48,6 +50,32 @@ stop r rest e = rw e
 pub end : firstOf [] ≡ nothing
 unfolding firstOf
 end = refl
+
+-- ---- What comes of a verdict.
+
+module _ {A : Type 0} (refused : Refusal → A) (clear : A) where
+  pub comes-refused : {v : Verdict} {why : Refusal} → v ≡ found why → comesTo refused clear v ≡ refused why
+  unfolding comesTo
+  comes-refused e = rw e
+
+  pub comes-clear : {v : Verdict} → v ≡ nothing → comesTo refused clear v ≡ clear
+  unfolding comesTo
+  comes-clear e = rw e
+
+  -- It tells the verdict, where refusals come to different things, and none to what there is where no row holds.
+  pub told-refused :
+      (v : Verdict) {why : Refusal} → ((a b : Refusal) → refused a ≡ refused b → a ≡ b) → ((a : Refusal) → clear ≡ refused a → ⊥)
+      → comesTo refused clear v ≡ refused why → v ≡ found why
+  unfolding comesTo
+  told-refused nothing same apart e = absurd (apart _ e)
+  told-refused (found other) same apart e = ap found (same other _ e)
+
+  pub told-clear : (v : Verdict) {a : A} → ((why : Refusal) → refused why ≡ a → ⊥) → comesTo refused clear v ≡ a → (v ≡ nothing) × (clear ≡ a)
+  unfolding comesTo
+  told-clear nothing apart e = (refl, e)
+  told-clear (found why) apart e = absurd (apart why e)
+
+-- ---- Rows that hold, and that do not.
 
 -- where none holds, no refusal's row does
 pub none-holds : (table : List Row) → firstOf table ≡ nothing → (why : Refusal) → testOf why table ≡ false

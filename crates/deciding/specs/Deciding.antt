@@ -32,7 +32,7 @@ use Rattle.deciding.specs.declared.groups.Roomed.the-variants as roomed
 use Rattle.deciding.specs.declared.ready.Readiness.{Readiness}
 use Rattle.deciding.specs.declared.ready.Readiness.the-variants as readiness
 use Rattle.deciding.specs.declared.refusals.Refusal.the-variants.{UnsoundBook, FullWindow, NoRoom}
-use Rattle.deciding.specs.Refusals.{refusal, Row, row, tripRows, tariffRows, clockRows, rows, firstOf, nothing, found}
+use Rattle.deciding.specs.Refusals.{refusal, Row, row, tripRows, tariffRows, clockRows, rows, firstOf, comesTo}
 
 -- ---- Of tariff and book: 1 to 3, the tariff's first fault at its record's offset; 4; or that both are ready.
 
@@ -49,10 +49,8 @@ readinessOf tariff book =
 -- where it is broken
 unfoldable pub decidedUnder : List ℕ → Counts → List ℕ → List ℕ → ℕ → Decision
 decidedUnder tariff counts book trip room =
-    elim (firstOf (rows tariff counts book trip room)) [
-      | found why ↦ Refused why
-      | nothing ↦ Clear (tripOf trip) (windowOf book (checkinOf trip) (checkoutOf trip)) (breakOf tariff counts trip (countAt trip 0))
-    ]
+    comesTo Refused (Clear (tripOf trip) (windowOf book (checkinOf trip) (checkoutOf trip)) (breakOf tariff counts trip (countAt trip 0)))
+    (firstOf (rows tariff counts book trip room))
 
 -- ---- By each group: its first row that holds; or that none does, with what it has found.
 
@@ -76,25 +74,14 @@ tripWith fields span =
     }
 
 unfoldable pub formedBy : List ℕ → Formed
-formedBy trip =
-    elim (firstOf (tripRows trip)) [
-      | found why ↦ formed.Refused why
-      | nothing ↦ formed.As (fieldsOf trip)
-    ]
+formedBy trip = comesTo formed.Refused (formed.As (fieldsOf trip)) (firstOf (tripRows trip))
 
 unfoldable pub placedBy : List ℕ → Counts → List ℕ → Placed
 placedBy tariff counts trip =
-    elim (firstOf (tariffRows tariff counts trip)) [
-      | found why ↦ placed.Refused why
-      | nothing ↦ placed.Broken (breakOf tariff counts trip (countAt trip 0))
-    ]
+    comesTo placed.Refused (placed.Broken (breakOf tariff counts trip (countAt trip 0))) (firstOf (tariffRows tariff counts trip))
 
 unfoldable pub timedBy : List ℕ → List ℕ → Timed
-timedBy book trip =
-    elim (firstOf (clockRows book trip)) [
-      | found why ↦ timed.Refused why
-      | nothing ↦ timed.Over (spanOf trip)
-    ]
+timedBy book trip = comesTo timed.Refused (timed.Over (spanOf trip)) (firstOf (clockRows book trip))
 
 -- how many rides a trip is charged as, by where it is broken, and the bytes of their records: all have the trip's party
 abbrev pub ridesIn : Breaking → ℕ
@@ -113,7 +100,4 @@ roomRowsBy book span breaking party room =
 
 unfoldable pub roomedBy : List ℕ → Span → Breaking → Party → ℕ → Roomed
 roomedBy book span breaking party room =
-    elim (firstOf (roomRowsBy book span breaking party room)) [
-      | found why ↦ roomed.Refused why
-      | nothing ↦ roomed.In (windowOf book (span .checkin .0) (span .checkout .0))
-    ]
+    comesTo roomed.Refused (roomed.In (windowOf book (span .checkin .0) (span .checkout .0))) (firstOf (roomRowsBy book span breaking party room))

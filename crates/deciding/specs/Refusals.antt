@@ -127,6 +127,11 @@ unfoldable pub firstOf : List Row → Verdict
 firstOf [] = nothing
 firstOf (r ∷ rest) = cond (r .test) (found (r .why)) (firstOf rest)
 
+-- what comes of it: the refusal, or what there is where no row holds
+unfoldable pub comesTo : {A : Type 0} → (Refusal → A) → A → Verdict → A
+comesTo refused clear nothing = clear
+comesTo refused clear (found why) = refused why
+
 -- what tells one refusal's row from another's, which the number does not: a count of them in their order
 abbrev pub rowOf : Refusal → ℕ
 rowOf UnsoundBook = 0

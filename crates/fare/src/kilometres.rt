@@ -1,6 +1,7 @@
 // Started kilometres by a good first guess, with the search behind it. What is looked for is the last number of kilometres that is not enough:
 // from the guess on it goes down while what it has is enough, and then up while one more is not. So the answer is right whatever the guess was;
 // a good one only saves turns.
+use units::Km;
 ghost use mathlib.Core.Path.{_≡_};
 ghost use Prim.Native.Nat.{_+_, _≤_, _<_};
 ghost use Rattle.layout.specs.Rules.{mostMetres};
@@ -42,13 +43,13 @@ fn first_enough(d: u64, start: u64) -> u64
 }
 
 // The least k with longer² + shorter² ≤ (1,000 k)².
-pub fn least_km(longer: u64, shorter: u64) -> u32
+pub fn least_km(longer: u64, shorter: u64) -> Km
     requires { ⌜ (shorter ≤ longer) × (longer ≤ mostMetres) ⌝ }
-    ensures { λ r. ⌜ LeastKm (square longer + square shorter) r ⌝ }
+    ensures { λ r. ⌜ LeastKm (square longer + square shorter) (r .0) ⌝ }
 {
     if longer == 0 {
-        return 0;
+        return Km(0);
     }
     let d = longer * longer + shorter * shorter;
-    first_enough(d, not_enough(d, guess(longer, shorter, d))) as u32
+    Km(first_enough(d, not_enough(d, guess(longer, shorter, d))) as u32)
 }

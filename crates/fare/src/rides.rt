@@ -57,7 +57,7 @@ pub fn kilometres(a: Stop, b: Stop) -> Km
 {
     let east = gap_between(a.x, b.x);
     let north = gap_between(a.y, b.y);
-    Km(least_km(longer_of(east, north), shorter_of(east, north)))
+    least_km(longer_of(east, north), shorter_of(east, north))
 }
 
 // A stop of the trip, counted from 0, in the tariff.

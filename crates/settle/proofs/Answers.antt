@@ -15,9 +15,10 @@ use Rattle.layout.specs.Scan.{readTariff, Read}
 use Rattle.scan.proofs.Faults.{fault-most}
 use Rattle.units.specs.declared.Minutes.{Minutes}
 use Rattle.trip.specs.declared.Trip.{Trip}
+use Rattle.trip.specs.declared.Ride.{Ride}
 use Rattle.fare.specs.declared.Breaking.{Breaking}
 use Rattle.fare.specs.Parts.{ridesOf}
-use Rattle.statement.specs.Record.{largestStatement, statementOf}
+use Rattle.statement.specs.Record.{Part, largestStatement, statementOf}
 use Rattle.statement.proofs.Records.{stand-from}
 use Rattle.ledger.specs.declared.Window.{Window}
 use Rattle.ledger.specs.Sound.{sound}
@@ -34,10 +35,8 @@ use Rattle.settle.specs.declared.Answer.the-variants as answer
 use Rattle.settle.specs.declared.state.Stated.{Stated}
 use Rattle.settle.specs.declared.state.Stated.the-variants as stated
 use Rattle.settle.specs.Outcome.{
-  quoteAfter,
-  tripPosted,
-  acceptedTrip,
   tripParts,
+  postedAll,
   tripPosted,
   acceptedTrip,
   refused,
@@ -58,6 +57,7 @@ use Rattle.settle.specs.Contracts.{
   ToldSound,
   QuoteTold,
   PostingTold,
+  clearPosting,
 }
 use Rattle.settle.proofs.Clear.{parts-right, size-most, trip-postable}
 use Rattle.settle.proofs.Ways.{
@@ -189,126 +189,95 @@ module _ {tariff : List ℕ} {counts : Counts} {book trip statement statement′
       let e = refused-stated tariff counts book trip (length statement) (sym (ok .answer) ∙ is) in
       (e, ok .statement-is ∙ rw (unquoted-under tariff counts book trip (length statement) e))
 
+-- rides are postable under other names for the same
+named-alike :
+    {tariff : List ℕ} {counts : Counts} {book : List ℕ} {window : Window} {statement : List ℕ} {rides : List Ride} {size n place : ℕ} {checkout out : Minutes}
+    {class of : ℕ} → size ≡ n → checkout ≡ out → class ≡ of → RidesPostable tariff counts out of statement n book window place rides
+    → RidesPostable tariff counts checkout class statement size book window place rides
+named-alike size-is checkout-is class-is it = rw (size-is, checkout-is, class-is) it
+
 -- or the trip's records.
-module _ {tariff : List ℕ} {counts : Counts} {book : List ℕ} (trip statement : List ℕ) {statement′ : List ℕ} {fields : Trip} {window : Window} {breaking : Breaking}
-    (ready : Ready tariff counts book) (decided : decidedUnder tariff counts book trip (length statement) ≡ decision.Clear fields window breaking)
-    (left : statement′ ≡ quoteAfter (quotedUnder tariff counts book trip (length statement)) statement) where
-  clear : AllClear tariff counts book trip fields window breaking (length statement)
-  clear = all-clear tariff counts book trip fields window breaking (length statement) ready decided
-
-  statement-is : statement′ ≡ statementOf (tripParts tariff counts book trip fields window) ++ drop (length (statementOf (tripParts tariff counts book trip fields window))) statement
-  statement-is = left ∙ rw (priced-under tariff counts book trip (length statement) fields window decided)
-
-  starts : take (length (statementOf (tripParts tariff counts book trip fields window))) statement′ ≡ statementOf (tripParts tariff counts book trip fields window)
-  starts = rw statement-is (take-append-seam (statementOf (tripParts tariff counts book trip fields window)) _)
-
-  -- There was room.
-  near : (length (statementOf (tripParts tariff counts book trip fields window)) ≤ largestStatement) × (length (statementOf (tripParts tariff counts book trip fields window)) ≤ length statement)
-  near = size-most tariff counts book trip fields window (length statement) clear
-
-  -- It is the trip's quote.
-  is-quote : QuoteTold (quotedUnder tariff counts book trip (length statement)) statement statement′ (answer.Written (length (statementOf (tripParts tariff counts book trip fields window))))
-  is-quote =
-      rw (priced-under tariff counts book trip (length statement) fields window decided)
-      (record {
-        answer = refl;
-        fits = omega (arith, near .0);
-        recordable = parts-right tariff counts book trip fields window (length statement) clear .0;
-        statement-is = statement-is;
-      })
-
-  -- Its records can be posted,
-  postable :
-      RidesPostable tariff counts (fields .checkout) (fields .class) statement′ (length (statementOf (tripParts tariff counts book trip fields window))) book window 0 (ridesOf tariff counts trip fields)
-  postable =
-      trip-postable tariff counts book trip fields window (length statement) clear refl
-      (stand-from (tripParts tariff counts book trip fields window) statement′ (drop (length (statementOf (tripParts tariff counts book trip fields window))) statement) 0 statement-is)
-
-  module _ {book′ : List ℕ}
-      (posted-are : RecordsPosted tariff counts book window (fields .checkout) (fields .class) statement′ (length (statementOf (tripParts tariff counts book trip fields window))) book′) where
-    book-is : book′ ≡ tripPosted tariff counts book trip fields window
-    book-is = posted-are .book-is (ridesOf tariff counts trip fields) postable
-
-    -- and then it is the accepted outcome, and the book left behind is sound again.
-    is-settled :
-        ToldSound (settledUnder tariff counts book trip (length statement)) (counts .areas) book book′ statement statement′
-        (answer.Written (length (statementOf (tripParts tariff counts book trip fields window))))
-    unfolding acceptedTrip
-    is-settled =
-        let right = parts-right tariff counts book trip fields window (length statement) clear in
-        rw (accepted-under tariff counts book trip (length statement) fields window decided)
-        (record {
-          told =
-              record { answer = refl; fits = omega (arith, near .0); recordable = right .0; book-is = book-is; statement-is = statement-is };
-          sound-again = rw book-is (right .1);
-        })
-
-  -- Of a posting, which has room for the largest statement: another record than the quote's is refused; with the quote's the book has the trip.
-  module _ (offered : List ℕ) (room : length statement ≡ largestStatement) where
-    largest : AllClear tariff counts book trip fields window breaking largestStatement
-    largest = rw room at clear
-
-    is-other :
-        sameBytes (take (length (statementOf (tripParts tariff counts book trip fields window))) statement′) offered ≡ false
-        → PostingTold (postedUnder tariff counts book trip offered) book book (answer.Refused (refusal OtherRecord) 0)
-    is-other differs =
-        rw (posted-clear tariff counts book trip offered fields window (rw room at decided))
-        (other-told _ _ _ _ _ _ largest offered (rw starts at differs))
-
-    is-posted :
-        {book′ : List ℕ} → sameBytes (take (length (statementOf (tripParts tariff counts book trip fields window))) statement′) offered ≡ true
-        → RecordsPosted tariff counts book window (fields .checkout) (fields .class) statement′ (length (statementOf (tripParts tariff counts book trip fields window))) book′
-        → PostingTold (postedUnder tariff counts book trip offered) book book′ (answer.Written (length book′))
-    is-posted same posted-are =
-        rw (posted-clear tariff counts book trip offered fields window (rw room at decided))
-        (posted-told _ _ _ _ _ _ largest offered (rw starts at same) (book-is posted-are))
-
--- what is posted by other names for the same
-module _ {tariff : List ℕ} {counts : Counts} {book : List ℕ} {window : Window} {statement : List ℕ} {size n : ℕ} {checkout out : Minutes}
-    {class of : ℕ} (size-is : size ≡ n) (checkout-is : checkout ≡ out) (class-is : class ≡ of) where
-  so-postable :
-      RecordsPostable tariff counts book window out of statement n
-      → RecordsPostable tariff counts book window checkout class statement size
-  so-postable it = rw (size-is, checkout-is, class-is) it
-
-  so-posted :
-      {book′ : List ℕ} → RecordsPosted tariff counts book window checkout class statement size book′
-      → RecordsPosted tariff counts book window out of statement n book′
-  so-posted it = rw (size-is, checkout-is, class-is) at it
-
--- The same by what was answered.
 module _ {tariff : List ℕ} {counts : Counts} {book trip statement statement′ : List ℕ} {r : Stated} (ready : Ready tariff counts book)
     (ok : TripStated tariff counts book trip statement statement′ r) {size : ℕ} {window : Window} {checkout : Minutes} {class : ℕ}
     (is : r ≡ stated.Records size window checkout class) where
   told : StatedClear tariff counts book trip (length statement) size window checkout class
   told = clear-stated tariff counts book trip (length statement) (sym (ok .answer) ∙ is)
 
-  pub size-near : size ≤ length statement
-  size-near = omega (arith, told .size-is, near trip statement ready (told .decided) (ok .statement-is) .1)
+  clear : AllClear tariff counts book trip (told .fields) window (told .breaking) (length statement)
+  clear = all-clear tariff counts book trip (told .fields) window (told .breaking) (length statement) ready (told .decided)
 
+  abbrev parts : List Part
+  parts = tripParts tariff counts book trip (told .fields) window
+
+  statement-is : statement′ ≡ statementOf parts ++ drop (length (statementOf parts)) statement
+  statement-is = ok .statement-is ∙ rw (priced-under tariff counts book trip (length statement) (told .fields) window (told .decided))
+
+  pub size-near : (size ≤ largestStatement) × (size ≤ length statement)
+  size-near =
+      let most = size-most tariff counts book trip (told .fields) window (length statement) clear in
+      (omega (arith, told .size-is, most .0), omega (arith, told .size-is, most .1))
+
+  -- They are the trip's quote.
   pub quote-told : QuoteTold (quotedUnder tariff counts book trip (length statement)) statement statement′ (answer.Written size)
-  quote-told = rw (told .size-is) (is-quote trip statement ready (told .decided) (ok .statement-is))
+  quote-told =
+      rw (priced-under tariff counts book trip (length statement) (told .fields) window (told .decided))
+      (record {
+        answer = ap answer.Written (told .size-is);
+        fits = omega (arith, size-near .0);
+        recordable = parts-right tariff counts book trip (told .fields) window (length statement) clear .0;
+        statement-is = statement-is;
+      })
+
+  -- They can be posted,
+  postable : RidesPostable tariff counts checkout class statement′ size book window 0 (ridesOf tariff counts trip (told .fields))
+  postable =
+      named-alike (told .size-is) (told .checkout-is) (told .class-is)
+      (trip-postable tariff counts book trip (told .fields) window (length statement) clear refl
+      (stand-from parts statement′ (drop (length (statementOf parts)) statement) 0 statement-is))
 
   pub records-postable : RecordsPostable tariff counts book window checkout class statement′ size
-  records-postable =
-      so-postable (told .size-is) (told .checkout-is) (told .class-is)
-      (record { rides = ridesOf tariff counts trip (told .fields); postable = postable trip statement ready (told .decided) (ok .statement-is) })
+  records-postable = record { rides = ridesOf tariff counts trip (told .fields); postable = postable }
 
   module _ {book′ : List ℕ} (posted-are : RecordsPosted tariff counts book window checkout class statement′ size book′) where
-    posted-so :
-        RecordsPosted tariff counts book window (told .fields .checkout) (told .fields .class) statement′
-        (length (statementOf (tripParts tariff counts book trip (told .fields) window))) book′
-    posted-so = so-posted (told .size-is) (told .checkout-is) (told .class-is) posted-are
+    book-is : book′ ≡ tripPosted tariff counts book trip (told .fields) window
+    book-is =
+        posted-are .book-is (ridesOf tariff counts trip (told .fields)) postable
+        ∙ ap (λ (m : Minutes). postedAll tariff counts book window (m .0) (ridesOf tariff counts trip (told .fields))) (told .checkout-is)
 
+    -- and then it is the accepted outcome, and the book left behind is sound again.
     pub settled-told : ToldSound (settledUnder tariff counts book trip (length statement)) (counts .areas) book book′ statement statement′ (answer.Written size)
-    settled-told = rw (told .size-is) (is-settled trip statement ready (told .decided) (ok .statement-is) posted-so)
+    unfolding acceptedTrip
+    settled-told =
+        let right = parts-right tariff counts book trip (told .fields) window (length statement) clear in
+        rw (accepted-under tariff counts book trip (length statement) (told .fields) window (told .decided))
+        (record {
+          told =
+              record {
+                answer = ap answer.Written (told .size-is);
+                fits = omega (arith, size-near .0);
+                recordable = right .0;
+                book-is = book-is;
+                statement-is = statement-is;
+              };
+          sound-again = rw book-is (right .1);
+        })
+
+  -- Of a posting, which has room for the largest statement: another record than the quote's is refused; with the quote's the book has the trip.
+  module _ (offered : List ℕ) (room : length statement ≡ largestStatement) where
+    starts : take size statement′ ≡ statementOf parts
+    starts =
+        ap (λ (n : ℕ). take n statement′) (told .size-is) ∙ ap (take (length (statementOf parts))) statement-is ∙ take-append-seam (statementOf parts) _
+
+    comes-to : postedUnder tariff counts book trip offered ≡ clearPosting tariff counts book trip (told .fields) window offered
+    comes-to = posted-clear tariff counts book trip offered (told .fields) window (rw room at (told .decided))
+
+    pub other-refused :
+        sameBytes (take size statement′) offered ≡ false
+        → PostingTold (postedUnder tariff counts book trip offered) book book (answer.Refused (refusal OtherRecord) 0)
+    other-refused differs = rw comes-to (other-told _ _ _ _ _ _ (rw room at clear) offered (rw starts at differs))
 
     pub quote-posted :
-        (offered : List ℕ) → length statement ≡ largestStatement → sameBytes (take size statement′) offered ≡ true
+        sameBytes (take size statement′) offered ≡ true → {book′ : List ℕ}
+        → RecordsPosted tariff counts book window checkout class statement′ size book′
         → PostingTold (postedUnder tariff counts book trip offered) book book′ (answer.Written (length book′))
-    quote-posted offered room same = is-posted trip statement ready (told .decided) (ok .statement-is) offered room (rw (told .size-is) at same) posted-so
-
-  pub other-refused :
-      (offered : List ℕ) → length statement ≡ largestStatement → sameBytes (take size statement′) offered ≡ false
-      → PostingTold (postedUnder tariff counts book trip offered) book book (answer.Refused (refusal OtherRecord) 0)
-  other-refused offered room differs = is-other trip statement ready (told .decided) (ok .statement-is) offered room (rw (told .size-is) at differs)
+    quote-posted same posted-are = rw comes-to (posted-told _ _ _ _ _ _ (rw room at clear) offered (rw starts at same) (book-is posted-are))

@@ -146,40 +146,28 @@ module _ (tariff : List ℕ) (counts : Counts) (book bytes : List ℕ) (trip : T
         cut-behind (first-of (ok .rideable)) other area window (trip .checkout .0),
       )
 
-  -- The records of one ride, and of two.
-  of-one :
-      {s : List ℕ} {r : ℕ} (ride : Ride) → Wrote (recordOf (partAfter tariff counts book window Nothing ride)) statement 0 s r
-      → Wrote (statementOf (partsOf tariff counts book window (trip .checkout .0) (ride ∷ []))) statement 0 s r
+  -- The records of one ride, or of two, are the trip's.
+  one-wrote :
+      (ride : Ride) {s : List ℕ} {r : ℕ} → ride ∷ [] ≡ ridesOf tariff counts bytes trip
+      → Wrote (recordOf (partAfter tariff counts book window Nothing ride)) statement 0 s r
+      → Wrote (statementOf (tripParts tariff counts book bytes trip window)) statement 0 s r
   unfolding partsOf partOf statementOf
-  of-one ride wrote = rw (append-nil (recordOf (partOf tariff counts book window ride))) wrote
+  one-wrote ride is wrote = rw (← is, append-nil (recordOf (partOf tariff counts book window ride))) wrote
 
-  of-two :
-      {s between′ : List ℕ} {next r : ℕ} {one other : Ride}
-      → RidesFit tariff counts book window (trip .checkout .0) (one ∷ other ∷ []) (length statement)
-      → Wrote (recordOf (partAfter tariff counts book window Nothing one)) statement 0 between′ next
-      → Wrote (recordOf (partAfter tariff counts book window (Part one) other)) between′ next s r
-      → Wrote (statementOf (partsOf tariff counts book window (trip .checkout .0) (one ∷ other ∷ []))) statement 0 s r
+  two-wrote :
+      (one other : Ride) {s first-there : List ℕ} {next r : ℕ}
+      → RidesFit tariff counts book window (trip .checkout .0) (one ∷ other ∷ []) (length statement) → one ∷ other ∷ [] ≡ ridesOf tariff counts bytes trip
+      → Wrote (recordOf (partAfter tariff counts book window Nothing one)) statement 0 first-there next
+      → Wrote (recordOf (partAfter tariff counts book window (Part one) other)) first-there next s r
+      → Wrote (statementOf (tripParts tariff counts book bytes trip window)) statement 0 s r
   unfolding partsOf partOf statementOf
-  of-two {one = one} {other} ok first-wrote wrote =
+  two-wrote one other ok is first-wrote wrote =
       rw (
+        ← is,
         append-nil (recordOf (partOf tariff counts (posted tariff counts book window (trip .checkout .0) one) (oneMore window) other)),
         ← part-behind ok,
       )
       (behind-wrote first-wrote wrote)
-
-  -- are the trip's.
-  module _ {s : List ℕ} {r : ℕ} where
-    one-wrote :
-        {ride : Ride} → ride ∷ [] ≡ ridesOf tariff counts bytes trip → Wrote (recordOf (partAfter tariff counts book window Nothing ride)) statement 0 s r
-        → Wrote (statementOf (tripParts tariff counts book bytes trip window)) statement 0 s r
-    one-wrote {ride} is wrote = rw is at (of-one ride wrote)
-
-    two-wrote :
-        {one other : Ride} {between′ : List ℕ} {next : ℕ} → RidesFit tariff counts book window (trip .checkout .0) (one ∷ other ∷ []) (length statement)
-        → one ∷ other ∷ [] ≡ ridesOf tariff counts bytes trip → Wrote (recordOf (partAfter tariff counts book window Nothing one)) statement 0 between′ next
-        → Wrote (recordOf (partAfter tariff counts book window (Part one) other)) between′ next s r
-        → Wrote (statementOf (tripParts tariff counts book bytes trip window)) statement 0 s r
-    two-wrote ok is first-wrote wrote = rw is at (of-two ok first-wrote wrote)
 
   -- ---- Before the first turn.
 
@@ -215,12 +203,12 @@ module _ (tariff : List ℕ) (counts : Counts) (book bytes : List ℕ) (trip : T
           {s′ : List ℕ} {r : ℕ} → LegOn from to minutes earlier next s → Wrote (recordOf (partAfter tariff counts book window earlier ride)) s next s′ r
           → LegOn to last 0 (Part ride) r s′
       leg-next (whole unbroken from-is to-is minutes-are none next-is s-is) wrote =
-          done to-is (one-wrote (whole-trip unbroken) (rw (is, from-is, to-is, minutes-are, none, next-is, s-is) at wrote))
+          done to-is (one-wrote _ (whole-trip unbroken) (rw (is, from-is, to-is, minutes-are, none, next-is, s-is) at wrote))
       leg-next (both c broken from-is to-is minutes-are none next-is s-is) wrote =
           second c broken to-is refl refl (ap Part (is ∙ rw (from-is, to-is, minutes-are)))
           (rw (is, from-is, to-is, minutes-are, none, next-is, s-is) at wrote)
       leg-next (second c broken from-is to-is minutes-are part first-wrote) wrote =
-          done to-is (two-wrote (fit (two-parts c broken)) (two-parts c broken) first-wrote (rw (is, from-is, to-is, minutes-are, part) at wrote))
+          done to-is (two-wrote _ _ (fit (two-parts c broken)) (two-parts c broken) first-wrote (rw (is, from-is, to-is, minutes-are, part) at wrote))
       leg-next (done from-is all-wrote) wrote = absurd (omega arith)
 
   -- ---- Behind the last turn.

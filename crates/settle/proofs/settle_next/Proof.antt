@@ -19,10 +19,14 @@ number-requires c κs = search needs
 enum-known-size : tie.Need-enum-known-size
 enum-known-size c = search needs
 
+-- the way back to the start from where the trip was stated
+abbrev start : tie.After-size → tie.Start
+start c = c .before .before .before .before .before .before .before .before .before .before .before
+
 post-records-requires : tie.Need-post-records-requires
 post-records-requires c κs =
     let at = c .before .before .before in
-    records-postable (at .before .before .before .before .before .before .before .before .before .before .before .pre) (at .before .before .before .before .state-trip .ensures) (at .size .given .1)
+    records-postable (start at .pre) (at .before .before .before .before .state-trip .ensures) (at .size .given .1)
 
 same-length : tie.Need-same-length
 same-length c = search needs
@@ -48,7 +52,7 @@ same-length-4 c = search needs
 returns-2 : tie.Need-returns-2
 returns-2 c =
     let at = c .before .before .before .before .before .before in
-    settled-told (at .before .before .before .before .before .before .before .before .before .before .before .pre) (at .before .before .before .before .state-trip .ensures) (at .size .given .1) (c .before .before .post-records .ensures)
+    settled-told (start at .pre) (at .before .before .before .before .state-trip .ensures) (at .size .given .1) (c .before .before .post-records .ensures)
 
 pub settle-next-spec : {M : Type 1} → statement M
 settle-next-spec =

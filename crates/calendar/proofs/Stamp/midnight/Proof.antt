@@ -8,11 +8,11 @@ use Rattle.calendar.proofs.Stamp.midnight.Tie as tie
 day-number-requires : tie.Need-day-number-requires
 day-number-requires c κs = stamp-parts (c .args .self) (c .pre) .date
 
-mul-result : tie.Need-mul-result
-mul-result c = search needs
+mul-t3 : tie.Need-mul-t3
+mul-t3 c = search needs
 
 returns : tie.Need-returns
 returns c = search needs
 
 pub midnight-spec : {M : Type 1} → statement M
-midnight-spec = tie.close (tie.spec day-number-requires mul-result returns)
+midnight-spec = tie.close (tie.spec day-number-requires mul-t3 returns)

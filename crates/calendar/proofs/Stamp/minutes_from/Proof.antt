@@ -23,7 +23,7 @@ mul-t4 c = search needs
 
 add-t5 : tie.Need-add-t5
 add-t5 c =
-    let start = c .before in
+    let start = c .before .before in
     omega (arith, start .pre .1, most start)
 
 cast-t6 : tie.Need-cast-t6
@@ -31,7 +31,7 @@ cast-t6 c = search needs
 
 add-t7 : tie.Need-add-t7
 add-t7 c =
-    let start = c .before .before in
+    let start = c .before .before .before in
     omega (arith, start .pre .1, most start)
 
 cast-t8 : tie.Need-cast-t8
@@ -43,13 +43,13 @@ mul-t9 c = search needs
 sub-t10 : tie.Need-sub-t10
 unfolding localMinute
 sub-t10 c =
-    let start = c .before .before .before in
+    let start = c .before .before .before .before in
     omega (arith, start .pre .1, stamp-parts (start .args .self) (start .pre .0) .from-zero)
 
 returns : tie.Need-returns
 unfolding localMinute minuteNumber
 returns c =
-    let start = c .before .before .before in
+    let start = c .before .before .before .before in
     let end = within (start .args .self) (start .pre .0) in
     rw (start .pre .1) record { value = refl; range = omega arith }
 

@@ -17,9 +17,11 @@ use Rattle.trip.specs.declared.Times.the-variants.{Of}
 use Rattle.trip.proofs.Ranges.{in-order}
 use Rattle.trip.proofs.Stamps.{times-are, times-none, times-range}
 use Rattle.ledger.specs.Windows.{tooEarly}
+use Rattle.deciding.specs.declared.groups.Timed.the-variants.{Refused}
 use Rattle.deciding.specs.Refusals.{Row, clockRows, firstOf}
-use Rattle.deciding.proofs.Rows.{skip, stop, end}
-use Rattle.deciding.proofs.RowGroups.{filling, timed-refused, timed-over}
+use Rattle.deciding.specs.Deciding.{timedBy}
+use Rattle.deciding.proofs.Rows.{comes-refused, comes-clear, skip, stop, end}
+use Rattle.deciding.proofs.RowGroups.{filling}
 use Rattle.deciding.proofs.groups.clock_rows.Statement.{statement}
 use Rattle.deciding.proofs.groups.clock_rows.Tie as tie
 
@@ -42,8 +44,9 @@ enum-told : tie.Need-enum-told
 enum-told c = search needs
 
 returns : tie.Need-returns
+unfolding timedBy
 returns c =
-    sym (timed-refused _ _ (stop _ _ (ap not (times-none _ (sym (c .before .before .times-of .ensures) ∙ c .enum-told .given .1)))))
+    sym (comes-refused Refused _ (stop _ _ (ap not (times-none _ (sym (c .before .before .times-of .ensures) ∙ c .enum-told .given .1)))))
 
 abbrev start : tie.After-known-told → tie.Start
 start c = c .before .before .before .before .before .before
@@ -67,7 +70,8 @@ order :
 order c = let (right, (from, to)) = times-are _ _ _ (times (c .before)) in rw (from, to) (sym (c .in-order .ensures))
 
 returns-2 : tie.Need-returns-2
-returns-2 c = sym (timed-refused _ _ (past-8 (c .before .before) ∙ stop _ _ (ap not (order (c .before)) ∙ c .if1 .taken)))
+unfolding timedBy
+returns-2 c = sym (comes-refused Refused _ (past-8 (c .before .before) ∙ stop _ _ (ap not (order (c .before)) ∙ c .if1 .taken)))
 
 past-9 : (c : tie.Else1) → Past 2 (start (c .before .before))
 past-9 c = past-8 (c .before .before) ∙ skip _ _ (ap not (order (c .before)) ∙ c .if1 .left)
@@ -90,7 +94,8 @@ mistap c =
     rw (filling (start told .pre .1) .count, from, to) (sym (c .is-mistap .ensures))
 
 returns-3 : tie.Need-returns-3
-returns-3 c = sym (timed-refused _ _ (past-9 (c .before .before) ∙ stop _ _ (mistap (c .before) ∙ c .if2 .taken)))
+unfolding timedBy
+returns-3 c = sym (comes-refused Refused _ (past-9 (c .before .before) ∙ stop _ _ (mistap (c .before) ∙ c .if2 .taken)))
 
 past-17 : (c : tie.Else2) → Past 3 (start (c .before .before .before .before))
 past-17 c = past-9 (c .before .before) ∙ skip _ _ (mistap (c .before) ∙ c .if2 .left)
@@ -108,15 +113,17 @@ early c =
     let (right, (from, to)) = times-are _ _ _ (times (c .before .before .before .before .before)) in rw from (sym (c .too-early .ensures))
 
 returns-4 : tie.Need-returns-4
-returns-4 c = sym (timed-refused _ _ (past-17 (c .before .before) ∙ stop _ _ (early (c .before) ∙ c .if3 .taken)))
+unfolding timedBy
+returns-4 c = sym (comes-refused Refused _ (past-17 (c .before .before) ∙ stop _ _ (early (c .before) ∙ c .if3 .taken)))
 
 -- ---- None of them holds.
 
 returns-5 : tie.Need-returns-5
+unfolding timedBy
 returns-5 c =
     let clear = past-17 (c .before .before) ∙ skip _ _ (early (c .before) ∙ c .if3 .left) ∙ end in
     let (right, (from, to)) = times-are _ _ _ (times (c .before .before .before .before .before .before)) in
-    rw (timed-over _ _ clear, from, to)
+    rw (comes-clear Refused _ clear, from, to)
 
 pub clock-rows-spec : {M : Type 1} → statement M
 clock-rows-spec =

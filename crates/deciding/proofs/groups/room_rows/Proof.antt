@@ -7,10 +7,10 @@ use borrow.Author.Tests.{lt-ltb, le-ltb}
 use lib.ListN.{drop}
 use lib.Dec.{ltb}
 use Rattle.ledger.specs.Windows.{windowOf}
+use Rattle.deciding.specs.declared.groups.Roomed.the-variants.{Refused}
 use Rattle.deciding.specs.Refusals.{firstOf}
-use Rattle.deciding.specs.Deciding.{ridesIn, roomRowsBy}
-use Rattle.deciding.proofs.Rows.{skip, stop, end}
-use Rattle.deciding.proofs.RowGroups.{roomed-refused, roomed-in}
+use Rattle.deciding.specs.Deciding.{roomedBy, ridesIn, roomRowsBy}
+use Rattle.deciding.proofs.Rows.{comes-refused, comes-clear, skip, stop, end}
 use Rattle.deciding.proofs.groups.room_rows.Statement.{statement}
 use Rattle.deciding.proofs.groups.room_rows.Tie as tie
 
@@ -32,7 +32,8 @@ trips :
 trips c = rw (← c .before .window-of .ensures .0, c .rides-in .ensures .0)
 
 returns : tie.Need-returns
-returns c = sym (roomed-refused _ _ _ _ _ (stop _ _ (ap (ltb 256) (trips (c .before .before)) ∙ lt-ltb _ _ (c .if1 .taken))))
+unfolding roomedBy
+returns c = sym (comes-refused Refused _ (stop _ _ (ap (ltb 256) (trips (c .before .before)) ∙ lt-ltb _ _ (c .if1 .taken))))
 
 past-11 :
     (c : tie.Else1)
@@ -45,17 +46,19 @@ records-size-requires : tie.Need-records-size-requires
 records-size-requires c κs = search needs
 
 returns-2 : tie.Need-returns-2
+unfolding roomedBy
 returns-2 c =
     sym
-    (roomed-refused _ _ _ _ _
+    (comes-refused Refused _
     (past-11 (c .before .before) ∙ stop _ _ (ap (ltb _) (sym (c .before .records-size .ensures)) ∙ lt-ltb _ _ (c .if2 .taken))))
 
 returns-3 : tie.Need-returns-3
+unfolding roomedBy
 returns-3 c =
     let clear =
     past-11 (c .before .before) ∙ skip _ _ (ap (ltb _) (sym (c .before .records-size .ensures)) ∙ le-ltb _ _ (c .if2 .left)) ∙ end
     in
-    rw (roomed-in _ _ _ _ _ clear, ← c .before .before .before .before .before .window-of .ensures .0)
+    rw (comes-clear Refused _ clear, ← c .before .before .before .before .before .window-of .ensures .0)
 
 pub room-rows-spec : {M : Type 1} → statement M
 room-rows-spec =

@@ -12,9 +12,11 @@ use Rattle.trip.proofs.Ranges.{party-ranges}
 use Rattle.fare.specs.Towns.{townRefuses}
 use Rattle.fare.specs.Contracts.{Riding}
 use Rattle.deciding.specs.declared.groups.Fields.{Fields}
+use Rattle.deciding.specs.declared.groups.Placed.the-variants.{Refused}
 use Rattle.deciding.specs.Refusals.{tariffRows, firstOf}
-use Rattle.deciding.proofs.Rows.{skip, stop, end}
-use Rattle.deciding.proofs.RowGroups.{filling, placed-refused, placed-broken}
+use Rattle.deciding.specs.Deciding.{placedBy}
+use Rattle.deciding.proofs.Rows.{comes-refused, comes-clear, skip, stop, end}
+use Rattle.deciding.proofs.RowGroups.{filling}
 use Rattle.deciding.proofs.groups.tariff_rows.Statement.{statement}
 use Rattle.deciding.proofs.groups.tariff_rows.Tie as tie
 
@@ -34,7 +36,8 @@ stops :
 stops c = rw (filling (start c .pre .1) .count) (sym (c .stops-known .ensures))
 
 returns : tie.Need-returns
-returns c = sym (placed-refused _ _ _ (stop _ _ (ap not (stops (c .before)) ∙ c .if1 .taken)))
+unfolding placedBy
+returns c = sym (comes-refused Refused _ (stop _ _ (ap not (stops (c .before)) ∙ c .if1 .taken)))
 
 riding :
     (c : tie.Else1)
@@ -70,12 +73,14 @@ past-7 :
 past-7 c = skip _ _ (ap not (stops (c .before)) ∙ c .if1 .left)
 
 returns-2 : tie.Need-returns-2
-returns-2 c = sym (placed-refused _ _ _ (past-7 (c .before .before .before) ∙ stop _ _ (town (c .before) ∙ c .if2 .taken)))
+unfolding placedBy
+returns-2 c = sym (comes-refused Refused _ (past-7 (c .before .before .before) ∙ stop _ _ (town (c .before) ∙ c .if2 .taken)))
 
 returns-3 : tie.Need-returns-3
+unfolding placedBy
 returns-3 c =
     let clear = past-7 (c .before .before .before) ∙ skip _ _ (town (c .before) ∙ c .if2 .left) ∙ end in
-    rw (placed-broken _ _ _ clear, filling (start (c .before .before .before .before) .pre .1) .count, ← c .before .before .break-of .ensures .value)
+    rw (comes-clear Refused _ clear, filling (start (c .before .before .before .before) .pre .1) .count, ← c .before .before .break-of .ensures .value)
 
 pub tariff-rows-spec : {M : Type 1} → statement M
 tariff-rows-spec =

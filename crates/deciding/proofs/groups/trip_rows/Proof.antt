@@ -8,9 +8,10 @@ use lib.ListN.{drop}
 use Rattle.trip.specs.Record.{classAt, levelAt, partyAt, countAt}
 use Rattle.trip.specs.Trips.{partyRight}
 use Rattle.trip.proofs.Shapes.{Filling, whole-fills, whole-none}
+use Rattle.deciding.specs.declared.groups.Formed.the-variants.{Refused}
 use Rattle.deciding.specs.Refusals.{tripRows, firstOf}
-use Rattle.deciding.proofs.Rows.{skip, stop, end}
-use Rattle.deciding.proofs.RowGroups.{formed-refused, formed-as}
+use Rattle.deciding.specs.Deciding.{formedBy}
+use Rattle.deciding.proofs.Rows.{comes-refused, comes-clear, skip, stop, end}
 use Rattle.deciding.proofs.groups.trip_rows.Statement.{statement}
 use Rattle.deciding.proofs.groups.trip_rows.Tie as tie
 
@@ -24,8 +25,9 @@ enum-told : tie.Need-enum-told
 enum-told c = search needs
 
 returns : tie.Need-returns
+unfolding formedBy
 returns c =
-    sym (formed-refused _ (stop _ _ (ap not (whole-none _ (sym (c .before .before .whole-trip .ensures) ∙ c .enum-told .given .1)))))
+    sym (comes-refused Refused _ (stop _ _ (ap not (whole-none _ (sym (c .before .before .whole-trip .ensures) ∙ c .enum-told .given .1)))))
 
 abbrev start : tie.After-known-told → tie.Start
 start c = c .before .before .before .before .before
@@ -60,13 +62,15 @@ past-5 : (c : tie.After-known-told) → let table = tripRows (start c .args .tri
 past-5 c = skip _ _ (ap not (fills c .is))
 
 returns-2 : tie.Need-returns-2
-returns-2 c = sym (formed-refused _ (past-5 (told (c .before)) ∙ stop _ _ (ap not (party (c .before)) ∙ c .if1 .taken)))
+unfolding formedBy
+returns-2 c = sym (comes-refused Refused _ (past-5 (told (c .before)) ∙ stop _ _ (ap not (party (c .before)) ∙ c .if1 .taken)))
 
 returns-3 : tie.Need-returns-3
+unfolding formedBy
 returns-3 c =
     let clear = past-5 (told (c .before)) ∙ skip _ _ (ap not (party (c .before)) ∙ c .if1 .left) ∙ end in
     rw (
-      formed-as _ clear,
+      comes-clear Refused _ clear,
       fills (told (c .before)) .count,
       ← c .before .before .before .before .class-at .ensures,
       ← c .before .before .before .level-at .ensures,

@@ -38,8 +38,8 @@ first-enough-requires c κs =
     let a = c .before .before .before .args in
     (across (a .longer) (a .shorter) (omega arith) (omega arith), c .not-enough .ensures)
 
-cast-result : tie.Need-cast-result
-cast-result c = search needs
+cast-t8 : tie.Need-cast-t8
+cast-t8 c = search needs
 
 returns-2 : tie.Need-returns-2
 returns-2 c = search needs
@@ -55,5 +55,5 @@ least-km-spec =
     guess-requires
     not-enough-requires
     first-enough-requires
-    cast-result
+    cast-t8
     returns-2)

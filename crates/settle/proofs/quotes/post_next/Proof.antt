@@ -26,15 +26,19 @@ number-requires c κs = search needs
 enum-known-size : tie.Need-enum-known-size
 enum-known-size c = search needs
 
+-- the way back to the start from where the trip was stated
+abbrev start : tie.After-size → tie.Start
+start c = c .before .before .before .before .before .before .before .before .before .before
+
 array-share-prefix-quote : tie.Need-array-share-prefix-quote
 array-share-prefix-quote c =
     let at = c .before in
-    omega (arith, size-near (at .before .before .before .before .before .before .before .before .before .before .pre) (at .before .before .before .state-trip .ensures) (at .size .given .1))
+    omega (arith, size-near (start at .pre) (at .before .before .before .state-trip .ensures) (at .size .given .1) .1)
 
 slice-aggregate-same-bytes : tie.Need-slice-aggregate-same-bytes
 slice-aggregate-same-bytes c =
     let at = c .before .before in
-    sym (length-take-le _ _ (omega (arith, size-near (at .before .before .before .before .before .before .before .before .before .before .pre) (at .before .before .before .state-trip .ensures) (at .size .given .1))))
+    sym (length-take-le _ _ (omega (arith, size-near (start at .pre) (at .before .before .before .state-trip .ensures) (at .size .given .1) .1)))
 
 same-bytes-requires : tie.Need-same-bytes-requires
 same-bytes-requires c κs = search needs
@@ -49,7 +53,7 @@ returns : tie.Need-returns
 returns c =
     let at = c .before .before .before .before .before in
     rw (c .number2 .ensures)
-    (other-refused (at .before .before .before .before .before .before .before .before .before .before .pre) (at .before .before .before .state-trip .ensures) (at .size .given .1) _ refl
+    (other-refused (start at .pre) (at .before .before .before .state-trip .ensures) (at .size .given .1) _ refl
     (sym (c .before .before .same-bytes .ensures) ∙ not-true _ (c .before .if1 .taken)))
 
 slice-aggregate-post-records : tie.Need-slice-aggregate-post-records
@@ -58,7 +62,7 @@ slice-aggregate-post-records c = search needs
 post-records-requires : tie.Need-post-records-requires
 post-records-requires c κs =
     let at = c .before .before .before .before .before .before in
-    records-postable (at .before .before .before .before .before .before .before .before .before .before .pre) (at .before .before .before .state-trip .ensures) (at .size .given .1)
+    records-postable (start at .pre) (at .before .before .before .state-trip .ensures) (at .size .given .1)
 
 same-length-2 : tie.Need-same-length-2
 same-length-2 c = search needs
@@ -75,8 +79,9 @@ same-length-3 c = search needs
 returns-3 : tie.Need-returns-3
 returns-3 c =
     let at = c .before .before .before .before .before .before .before .before .before in
-    quote-posted (at .before .before .before .before .before .before .before .before .before .before .pre) (at .before .before .before .state-trip .ensures) (at .size .given .1) (c .before .before .post-records .ensures) _ refl
+    quote-posted (start at .pre) (at .before .before .before .state-trip .ensures) (at .size .given .1) _ refl
     (sym (c .before .before .before .before .before .before .same-bytes .ensures) ∙ not-false _ (c .before .before .before .before .before .if1 .left))
+    (c .before .before .post-records .ensures)
 
 pub post-next-spec : {M : Type 1} → statement M
 post-next-spec =
