@@ -1,25 +1,26 @@
 -- The one number that each exported function answers is taken apart in one way: a refusal with its number and place, or the bytes written. Told
 -- by the contracts alone.
 -- Assumes nothing.
-use Prim.Native.Nat.{ℕ, _≤_}
+use Prim.Native.Nat.{ℕ, _^_, _≤_, _<_}
 use native.Mathlib.Omega.{arith}
-use mathlib.Core.Path.{_≡_, refl, ap, _∙_}
+use mathlib.Core.Path.{_≡_, refl, sym, ap, subst, _∙_}
 use mathlib.Core.Bool.{Bool, true, false, cond}
 use mathlib.Core.Logic.{⊎-elim}
 use mathlib.Core.List.{List}
-use lib.ListN.{length}
+use lib.ListN.{length, drop}
 use lib.Dec.{ltb}
 use Rattle.layout.specs.declared.Reading.{Reading}
 use Rattle.layout.specs.declared.Reading.the-variants.{Fault, Faultless}
 use Rattle.layout.specs.Scan.{readTariff}
 use Rattle.scan.proofs.Faults.{first-fault, fault-number}
 use Rattle.reader.specs.Conditions.{RefusedBy, broken-frame, other-record, out-of-range}
-use Rattle.reader.specs.Fields.{whoseIn, chargesOf}
+use Rattle.reader.specs.Fields.{Fields, whoseIn, chargesOf}
 use Rattle.reader.specs.Reading as reading
 use Rattle.reader.specs.Reading.{readAt}
-use Rattle.reader.specs.Filling.{fieldSize, Filling, unfilled, filled, fillingFrom, fillingOf, filledAs}
+use Rattle.reader.specs.Filling.{fieldBytes, fieldSize, Filling, unfilled, filled, fillingFrom, fillingOf, filledAs, FieldsFound}
 use Rattle.reader.proofs.ReadBack.{read-refused-exactly}
 use Rattle.reader.proofs.Filled.{filled-size}
+use Rattle.reader.proofs.Found.{filled-found}
 use Rattle.settle.specs.declared.Answer.{Answer}
 use Rattle.settle.specs.declared.Answer.the-variants.{Refused, Written}
 use Rattle.settle.specs.Outcome.{Quote, unquoted, priced, Outcome, refused, accepted, quoted, settled, Settled, Quoted}
@@ -162,6 +163,20 @@ read-apart statement at fields {fields′} {r} to = go (fillingOf statement at (
     go : (f : Filling) → fillingOf statement at (length fields) ≡ f → ReadTo f fields fields′ r → Apart r (toldFilling f)
     go (unfilled n) is to′ = apart-from (Refused n 0) (to′ .answer) (by-reading (readAt statement at) refl is, omega arith)
     go (filled f size) is to′ = apart-from (Written size) (to′ .answer) (omega (arith, filled-size statement at (length fields) (ap filledAs is)))
+
+-- Where it is no refusal, every field of the record that was read is found in the slice, at its place, and the answer is the record's bytes.
+pub read-finds :
+    (statement : List ℕ) (at : ℕ) (before : List ℕ) {after : List ℕ} {r : ℕ} → ReadTo (fillingOf statement at (length before)) before after r
+    → r < 2 ^ 32 → (fields : Fields) × ((readAt statement at ≡ reading.told fields r) × FieldsFound fields after)
+read-finds statement at before {after} {r} to near = go (fillingOf statement at (length before)) refl to (read-apart statement at before to)
+  where
+    go :
+        (f : Filling) → fillingOf statement at (length before) ≡ f → ReadTo f before after r → Apart r (toldFilling f)
+        → (fields : Fields) × ((readAt statement at ≡ reading.told fields r) × FieldsFound fields after)
+    go (unfilled n) is to′ (a-refusal far number none) = absurd (omega arith)
+    go (filled fields size) is to′ apart =
+        let (read, found) = filled-found statement at (length before) is (drop (length (fieldBytes fields)) before) in
+        (fields, (read ∙ ap (reading.told fields) (sym (to′ .answer)), subst (FieldsFound fields) (sym (to′ .fields-are)) found))
 
 pub check-apart : (tariff : List ℕ) {r : ℕ} → r ≡ tariffAnswer tariff → Apart r (toldTariff tariff (readTariff tariff))
 check-apart tariff {r} e = go (readTariff tariff) refl

@@ -5,3 +5,4 @@ pub mod Accepted
 pub mod Filled
 pub mod Peeled
 pub mod ReadBack
+pub mod Found

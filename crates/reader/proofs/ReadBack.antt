@@ -133,7 +133,7 @@ small-charge charges each i =
     elim (decLt i (length charges)) [ yes h ↦ each i h | no h ↦ rw (List·getD-eq-default charges 0 {n = i} (omega arith)) (omega arith) ]
 
 -- a cut in range fits its fields
-cut-fits : (cut : Cut) → CutInRange cut → cut .reduction .0 ≤ 3790000 → CutFits cut
+pub cut-fits : (cut : Cut) → CutInRange cut → cut .reduction .0 ≤ 3790000 → CutFits cut
 cut-fits cut ok most = go (decLt 0 (cut .reduction .0))
   where
     go : Dec (0 < cut .reduction .0) → CutFits cut

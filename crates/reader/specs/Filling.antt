@@ -1,19 +1,20 @@
 -- docs/FORMAT.md: a record's fields as plain bytes, the same for both kinds, so that a caller needs no struct. Kind 1, number of charges 1,
 -- adults 1, children 1, bicycles 1 (0 each where the record does not tell them), area 1, km 2, minutes 2, opening minute 4; then for each
 -- charge its cents 4, what caps took off 4, the named cap's area 1 and class 1.
-use Prim.Native.Nat.{ℕ, zero, suc, _+_, _*_}
+use Prim.Native.Nat.{ℕ, zero, suc, _+_, _*_, _<_}
 use mathlib.Core.Path.{_≡_}
 use mathlib.Core.List.{List, [], _++_}
 use mathlib.Core.Bool.{cond}
 use lib.ListN.{length, drop}
 use lib.Dec.{ltb}
-use Rattle.wire.specs.Number.{bytesOf}
+use Rattle.wire.specs.Number.{getLe, bytesOf}
 use Rattle.trip.specs.declared.Party.{Party}
 use Rattle.statement.specs.Record.{personSize, chargeKind, personBytes}
 use Rattle.statement.specs.Kind4.{chargesKind}
 use Rattle.reader.specs.declared.Head.{Head}
 use Rattle.reader.specs.declared.Whose.{Whose}
 use Rattle.reader.specs.declared.Whose.the-variants.{Unsaid, Of}
+use Rattle.reader.specs.declared.Amount.{Amount}
 use Rattle.reader.specs.declared.fields.Filled.{Filled}
 use Rattle.reader.specs.declared.fields.Filled.the-variants.{Refused, Record}
 use Rattle.reader.specs.Fields.{Fields, headIn, whoseIn, chargesOf, amountOf}
@@ -79,3 +80,25 @@ fieldsAfter (filled fields size) before = fieldBytes fields ++ drop (length (fie
 pub record FilledIn (filling : Filling) (before after : List ℕ) (r : Filled) : Type 0 where
   pub answer : r ≡ filledAs filling
   pub fields-are : after ≡ fieldsAfter filling before
+
+-- ---- What a caller finds in the slice, by the places that docs/FORMAT.md gives.
+
+-- a charge, in the ten bytes from a place on
+pub record AmountFound (amount : Amount) (bytes : List ℕ) (place : ℕ) : Type 0 where
+  pub charge : getLe 4 bytes place ≡ amount .charge .0
+  pub reduction : getLe 4 bytes (place + 4) ≡ amount .cut .reduction .0
+  pub cap-area : getLe 1 bytes (place + 8) ≡ amount .cut .area
+  pub cap-class : getLe 1 bytes (place + 9) ≡ amount .cut .class
+
+-- every field, and every charge
+pub record FieldsFound (fields : Fields) (bytes : List ℕ) : Type 0 where
+  pub kind : getLe 1 bytes 0 ≡ kindOf (whoseIn fields)
+  pub charges : getLe 1 bytes 1 ≡ chargesOf (whoseIn fields)
+  pub adults : getLe 1 bytes 2 ≡ partyOf (whoseIn fields) .adults
+  pub children : getLe 1 bytes 3 ≡ partyOf (whoseIn fields) .children
+  pub bicycles : getLe 1 bytes 4 ≡ partyOf (whoseIn fields) .bicycles
+  pub area : getLe 1 bytes 5 ≡ headIn fields .area
+  pub km : getLe 2 bytes 6 ≡ headIn fields .km .0
+  pub minutes : getLe 2 bytes 8 ≡ headIn fields .minutes .0
+  pub opening : getLe 4 bytes 10 ≡ headIn fields .opening .0
+  pub amounts : (i : ℕ) → i < chargesOf (whoseIn fields) → AmountFound (amountOf fields i) bytes (14 + personSize * i)
