@@ -33,7 +33,7 @@ use Rattle.ledger.specs.Words.{
   paidPlace,
   paidWord,
 }
-use Rattle.ledger.specs.Sound.{allZero, headSound, pairsSound, coversSound, mostPaid, paymentsSound, sound}
+use Rattle.ledger.specs.Sound.{allZero, headSound, pairsSound, coversSound, mostPaid, paymentsSound, soundAlone, sound}
 use Rattle.ledger.specs.Contracts.{HeadRight}
 use Rattle.ledger.proofs.WordLaws.{word-fresh, fresh-size, zeros-fresh}
 
@@ -41,6 +41,16 @@ use Rattle.ledger.proofs.WordLaws.{word-fresh, fresh-size, zeros-fresh}
 abbrev pub PairSound : List ℕ → ℕ → ℕ → ℕ → Type 0
 PairSound b most rider area = (secondSum b rider area ≤ allSum b rider area) × (allSum b rider area ≤ most)
 
+-- what a book that is sound by itself has
+pub record AloneBook (b : List ℕ) : Type 0 where
+  pub size : length b ≡ bookSize
+  pub trips : tripsOf b ≤ 256
+  pub pairs : (rider area : ℕ) → rider < 21 → area < 32 → PairSound b (tripsOf b * mostPrice) rider area
+  pub payments : (k : ℕ) → k < 10 → paidWord b k ≤ mostPaid
+  pub opened : 0 < tripsOf b → HeadRight (tripsOf b) (openingOf b) (lastOutOf b)
+  pub fresh : tripsOf b ≡ 0 → (i : ℕ) → i < bookWords → word b i ≡ 0
+
+-- and what a sound book has under a tariff
 pub record SoundBook (b : List ℕ) (areas : ℕ) : Type 0 where
   pub size : length b ≡ bookSize
   pub trips : tripsOf b ≤ 256
@@ -144,13 +154,13 @@ unfolding allZero
 zeros-back b zero = each-all bookWords (zeroRight b) (λ i h. eq-eqb (word b i) 0 (zero i h))
 
 -- What a book's words, as read one after another, leave open: a book of another length; an unused one; one in use, by its head.
-pub told-unsized : (b : List ℕ) (areas : ℕ) → (length b ≡ bookSize → ⊥) → sound b areas ≡ false
-unfolding sound
-told-unsized b areas other = rw (ne-eqb (length b) bookSize other)
+pub told-unsized : (b : List ℕ) → (length b ≡ bookSize → ⊥) → soundAlone b ≡ false
+unfolding soundAlone
+told-unsized b other = rw (ne-eqb (length b) bookSize other)
 
-pub told-unused : (b : List ℕ) (areas : ℕ) → length b ≡ bookSize → tripsOf b ≡ 0 → sound b areas ≡ allZero b
-unfolding sound
-told-unused b areas size none = rw (eq-eqb (length b) bookSize size, eq-eqb (tripsOf b) 0 none)
+pub told-unused : (b : List ℕ) → length b ≡ bookSize → tripsOf b ≡ 0 → soundAlone b ≡ allZero b
+unfolding soundAlone
+told-unused b size none = rw (eq-eqb (length b) bookSize size, eq-eqb (tripsOf b) 0 none)
 
 -- a book in use, and what was read of it
 pub record InUse (b : List ℕ) (t opening out : ℕ) : Type 0 where
@@ -160,31 +170,48 @@ pub record InUse (b : List ℕ) (t opening out : ℕ) : Type 0 where
   pub opened : opening ≡ openingOf b
   pub last : out ≡ lastOutOf b
 
-pub told-used : (b : List ℕ) (areas : ℕ) {t opening out : ℕ} → InUse b t opening out
-    → sound b areas ≡ headSound t opening out && (pairsSound b (t * mostPrice) && (coversSound b areas && paymentsSound b))
-unfolding sound
-told-used b areas u =
+pub told-used : (b : List ℕ) {t opening out : ℕ} → InUse b t opening out
+    → soundAlone b ≡ headSound t opening out && (pairsSound b (t * mostPrice) && paymentsSound b)
+unfolding soundAlone
+told-used b u =
     rw (u .trips, u .opened, u .last, eq-eqb (length b) bookSize (u .size), ne-eqb (tripsOf b) 0 (λ none. u .some (u .trips ∙ none)))
 
-pub told-wrong : (b : List ℕ) (areas : ℕ) {t opening out : ℕ} → InUse b t opening out → headSound t opening out ≡ false
-    → sound b areas ≡ false
-told-wrong b areas u head = told-used b areas u ∙ rw head
+pub told-wrong : (b : List ℕ) {t opening out : ℕ} → InUse b t opening out → headSound t opening out ≡ false
+    → soundAlone b ≡ false
+told-wrong b u head = told-used b u ∙ rw head
 
-pub told-right : (b : List ℕ) (areas : ℕ) {t opening out : ℕ} → InUse b t opening out → HeadRight t opening out
-    → sound b areas ≡ pairsSound b (t * mostPrice) && (coversSound b areas && paymentsSound b)
-told-right b areas u head = told-used b areas u ∙ rw (head-back _ _ _ head)
+pub told-right : (b : List ℕ) {t opening out : ℕ} → InUse b t opening out → HeadRight t opening out
+    → soundAlone b ≡ pairsSound b (t * mostPrice) && paymentsSound b
+told-right b u head = told-used b u ∙ rw (head-back _ _ _ head)
 
-sized : (b : List ℕ) (areas : ℕ) → sound b areas ≡ true → length b ≡ bookSize
+-- A book is sound under a tariff exactly where it is sound by itself and its bicycle words are within the areas.
+pub told-alone : (b : List ℕ) (areas : ℕ) → soundAlone b ≡ true → sound b areas ≡ coversSound b areas
 unfolding sound
-sized b areas e = eqb-true (length b) bookSize (both-left _ _ e)
+told-alone b areas alone = rw alone
 
--- What every sound book has.
-pub sound-has : (b : List ℕ) (areas : ℕ) → sound b areas ≡ true → SoundBook b areas
-sound-has b areas e =
-    let size = sized b areas e in
+pub told-never : (b : List ℕ) (areas : ℕ) → soundAlone b ≡ false → sound b areas ≡ false
+unfolding sound
+told-never b areas alone = rw alone
+
+pub sound-alone : (b : List ℕ) (areas : ℕ) → sound b areas ≡ true → soundAlone b ≡ true
+unfolding sound
+sound-alone b areas e = both-left (soundAlone b) (coversSound b areas) e
+
+pub sound-covers : (b : List ℕ) (areas : ℕ) → sound b areas ≡ true → coversSound b areas ≡ true
+unfolding sound
+sound-covers b areas e = both-right (soundAlone b) (coversSound b areas) e
+
+pub alone-sized : (b : List ℕ) → soundAlone b ≡ true → length b ≡ bookSize
+unfolding soundAlone
+alone-sized b e = eqb-true (length b) bookSize (both-left _ _ e)
+
+-- What every book has that is sound by itself.
+pub alone-has : (b : List ℕ) → soundAlone b ≡ true → AloneBook b
+alone-has b e =
+    let size = alone-sized b e in
     elim (ℕ-discrete (tripsOf b) 0) [
       | yes none ↦
-          let zeros = zeros-have b (sym (told-unused b areas size none) ∙ e) in
+          let zeros = zeros-have b (sym (told-unused b size none) ∙ e) in
           record {
             size = size;
             trips = omega arith;
@@ -193,28 +220,37 @@ sound-has b areas e =
                   omega (arith, zeros (pairPlace r a) (omega arith)),
                   omega (arith, zeros (pairPlace r a + 1) (omega arith)),
                 );
-            covers = λ k h. omega (arith, zeros (coverPlace k) (omega arith));
             payments = λ k h. omega (arith, zeros (paidPlace k) (omega arith));
             opened = λ some. absurd (omega arith);
             fresh = λ _. zeros;
           }
       | no some ↦
-          let all =
-          sym (told-used b areas (record { size = size; some = some; trips = refl; opened = refl; last = refl })) ∙ e
-          in
+          let all = sym (told-used b (record { size = size; some = some; trips = refl; opened = refl; last = refl })) ∙ e in
           let head = head-has _ _ _ (both-left (headSound (tripsOf b) (openingOf b) (lastOutOf b)) _ all) in
           let rest = both-right (headSound (tripsOf b) (openingOf b) (lastOutOf b)) _ all in
-          let bicycles = both-right (pairsSound b (tripsOf b * mostPrice)) _ rest in
           record {
             size = size;
             trips = head .few;
             pairs = pairs-have b (tripsOf b * mostPrice) (both-left _ _ rest);
-            covers = covers-have b areas (both-left _ _ bicycles);
-            payments = payments-have b (both-right (coversSound b areas) _ bicycles);
+            payments = payments-have b (both-right (pairsSound b (tripsOf b * mostPrice)) _ rest);
             opened = λ _. head;
             fresh = λ none. absurd (some none);
           }
     ]
+
+-- What every sound book has.
+pub sound-has : (b : List ℕ) (areas : ℕ) → sound b areas ≡ true → SoundBook b areas
+sound-has b areas e =
+    let alone = alone-has b (sound-alone b areas e) in
+    record {
+      size = alone .size;
+      trips = alone .trips;
+      pairs = alone .pairs;
+      covers = covers-have b areas (sound-covers b areas e);
+      payments = alone .payments;
+      opened = alone .opened;
+      fresh = alone .fresh;
+    }
 
 -- A sound book without trips is a fresh one.
 pub fresh-is : {b : List ℕ} {areas : ℕ} → SoundBook b areas → tripsOf b ≡ 0 → b ≡ freshBook
@@ -238,9 +274,23 @@ pub sound-back : (b : List ℕ) (areas : ℕ) → length b ≡ bookSize
     → sound b areas ≡ true
 sound-back b areas size head pairs covers payments =
     let right = head-has (tripsOf b) (openingOf b) (lastOutOf b) head in
-    told-right b areas (record { size = size; some = λ none. omega arith; trips = refl; opened = refl; last = refl }) right
-    ∙ rw (pairs-back b (tripsOf b * mostPrice) pairs, covers-back b areas covers, payments-back b payments)
+    let used : InUse b (tripsOf b) (openingOf b) (lastOutOf b) =
+    record { size = size; some = λ none. omega arith; trips = refl; opened = refl; last = refl }
+    in
+    let alone : soundAlone b ≡ true =
+    told-right b used right ∙ rw (pairs-back b (tripsOf b * mostPrice) pairs, payments-back b payments)
+    in
+    told-alone b areas alone ∙ covers-back b areas covers
 
--- A fresh book is sound under every tariff.
+-- A book without trips that is sound by itself is sound under every tariff: all its bicycle words are 0.
+pub unused-sound : (b : List ℕ) (areas : ℕ) → soundAlone b ≡ true → tripsOf b ≡ 0 → sound b areas ≡ true
+unused-sound b areas alone none =
+    let zeros = alone-has b alone .fresh none in
+    told-alone b areas alone ∙ covers-back b areas (λ k h. omega (arith, zeros (coverPlace k) (omega arith)))
+
+-- A fresh book is sound by itself, and so under every tariff.
+pub fresh-alone : soundAlone freshBook ≡ true
+fresh-alone = told-unused freshBook fresh-size (word-fresh 0) ∙ zeros-back freshBook (λ i h. word-fresh i)
+
 pub fresh-sound : (areas : ℕ) → sound freshBook areas ≡ true
-fresh-sound areas = told-unused freshBook areas fresh-size (word-fresh 0) ∙ zeros-back freshBook (λ i h. word-fresh i)
+fresh-sound areas = unused-sound freshBook areas fresh-alone (word-fresh 0)

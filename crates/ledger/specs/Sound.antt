@@ -34,10 +34,14 @@ mostPaid = 15360000
 unfoldable pub paymentsSound : List ℕ → Bool
 paymentsSound book = each 10 (λ i. leb (paidWord book i) mostPaid)
 
--- the book has its length, and either word 0 is 0 and all others are 0, or it is in use: all sums ≤ word 0 × the most that a price is
-unfoldable pub sound : List ℕ → ℕ → Bool
-sound book areas =
+-- A book by itself: it has its length, and either word 0 is 0 and all others are 0, or it is in use: all sums ≤ word 0 × the most that a price is.
+unfoldable pub soundAlone : List ℕ → Bool
+soundAlone book =
     eqb (length book) bookSize
     && cond (eqb (tripsOf book) 0) (allZero book)
     (headSound (tripsOf book) (openingOf book) (lastOutOf book)
-    && (pairsSound book (tripsOf book * mostPrice) && (coversSound book areas && paymentsSound book)))
+    && (pairsSound book (tripsOf book * mostPrice) && paymentsSound book))
+
+-- A book under a tariff: sound by itself, and its bicycle words are within the tariff's areas, as those of a book without trips always are.
+unfoldable pub sound : List ℕ → ℕ → Bool
+sound book areas = soundAlone book && coversSound book areas

@@ -1,4 +1,4 @@
-// Whether any byte string is a sound book under a tariff with so many areas.
+// Whether any byte string is a sound book: by itself, which knows no tariff, and under a tariff with so many areas.
 // The loops have no early way out, so that the compiler can take many words at a time.
 use crate::gaps::pairs_clear;
 use crate::words::LAST_OUT;
@@ -17,7 +17,7 @@ use units::MOST_PRICE;
 ghost use mathlib.Core.Path.{_≡_};
 ghost use lib.ListN.{length};
 ghost use Rattle.ledger.specs.Words.{bookSize};
-ghost use Rattle.ledger.specs.Sound.{allZero, pairsSound, coversSound, paymentsSound, headSound, sound};
+ghost use Rattle.ledger.specs.Sound.{allZero, pairsSound, coversSound, paymentsSound, headSound, soundAlone, sound};
 
 // The most that a bicycle's payments in a window are.
 const MOST_PAID: u32 = 15_360_000;
@@ -48,17 +48,6 @@ fn pairs_sound(book: &[u8], most: u32) -> bool
     right
 }
 
-fn covers_sound(book: &[u8], areas: usize) -> bool
-    requires { ⌜ length (now book) ≡ bookSize ⌝ }
-    ensures { λ r. ⌜ r ≡ coversSound (now (book .entry)) areas ⌝ }
-{
-    let mut right = true;
-    for i in 0..10usize {
-        right = right & (get(book, cover(i)) as usize <= areas);
-    }
-    right
-}
-
 fn payments_sound(book: &[u8]) -> bool
     requires { ⌜ length (now book) ≡ bookSize ⌝ }
     ensures { λ r. ⌜ r ≡ paymentsSound (now (book .entry)) ⌝ }
@@ -81,8 +70,8 @@ fn head_sound(trips: u32, opening: u32, last: u32) -> bool
         & (last as u64 <= opening as u64 + DAY as u64)
 }
 
-pub fn is_sound(book: &[u8], areas: usize) -> bool
-    ensures { λ r. ⌜ r ≡ sound (now (book .entry)) areas ⌝ }
+pub fn is_sound_alone(book: &[u8]) -> bool
+    ensures { λ r. ⌜ r ≡ soundAlone (now (book .entry)) ⌝ }
 {
     if book.len() != SIZE {
         return false;
@@ -94,5 +83,26 @@ pub fn is_sound(book: &[u8], areas: usize) -> bool
     if !head_sound(trips, get(book, OPENING), get(book, LAST_OUT)) {
         return false;
     }
-    pairs_sound(book, trips * MOST_PRICE) & (covers_sound(book, areas) & payments_sound(book))
+    pairs_sound(book, trips * MOST_PRICE) & payments_sound(book)
+}
+
+// Each bicycle word is at most the number of areas.
+pub fn covers_within(book: &[u8], areas: usize) -> bool
+    requires { ⌜ length (now book) ≡ bookSize ⌝ }
+    ensures { λ r. ⌜ r ≡ coversSound (now (book .entry)) areas ⌝ }
+{
+    let mut right = true;
+    for i in 0..10usize {
+        right = right & (get(book, cover(i)) as usize <= areas);
+    }
+    right
+}
+
+pub fn is_sound(book: &[u8], areas: usize) -> bool
+    ensures { λ r. ⌜ r ≡ sound (now (book .entry)) areas ⌝ }
+{
+    if !is_sound_alone(book) {
+        return false;
+    }
+    covers_within(book, areas)
 }

@@ -29,7 +29,7 @@ use Rattle.fare.specs.Contracts as riding
 use Rattle.fare.proofs.SameStops.{rides-same}
 use Rattle.ledger.specs.declared.Window.{Window}
 use Rattle.ledger.specs.Words.{bookSize, bookWords, word, tripsOf, openingOf, lastOutOf, coverWord, paidPlace, paidWord}
-use Rattle.ledger.specs.Sound.{allZero, headSound, pairsSound, coversSound, mostPaid, paymentsSound, sound}
+use Rattle.ledger.specs.Sound.{allZero, headSound, pairsSound, coversSound, mostPaid, paymentsSound, soundAlone, sound}
 use Rattle.ledger.specs.Windows.{belongs, tooEarly, windowOf, inWindow}
 use Rattle.charging.specs.Contracts.{Rideable}
 use Rattle.statement.specs.Record.{Part}
@@ -138,22 +138,26 @@ module _ {c d : ℕ} {book bytes book′ bytes′ : List ℕ} (s : Shifted c d b
         leb-alike (lastOutOf book) (openingOf book + dayMinutes) (lastOutOf book′) (openingOf book′ + dayMinutes) (λ h. omega arith) (λ h. omega arith),
       )
 
-  sound-same : (areas : ℕ) → sound book′ areas ≡ sound book areas
-  unfolding sound
-  sound-same areas = rw (s .others .size, trips-same) (go (ℕ-discrete (tripsOf book) 0))
+  alone-same : soundAlone book′ ≡ soundAlone book
+  unfolding soundAlone
+  alone-same = rw (s .others .size, trips-same) (go (ℕ-discrete (tripsOf book) 0))
     where
       go : Dec (tripsOf book ≡ 0)
           → eqb (length book) bookSize
           && cond (eqb (tripsOf book) 0) (allZero book′)
           (headSound (tripsOf book) (openingOf book′) (lastOutOf book′)
-          && (pairsSound book′ (tripsOf book * mostPrice) && (coversSound book′ areas && paymentsSound book′)))
+          && (pairsSound book′ (tripsOf book * mostPrice) && paymentsSound book′))
           ≡ eqb (length book) bookSize
           && cond (eqb (tripsOf book) 0) (allZero book)
           (headSound (tripsOf book) (openingOf book) (lastOutOf book)
-          && (pairsSound book (tripsOf book * mostPrice) && (coversSound book areas && paymentsSound book)))
+          && (pairsSound book (tripsOf book * mostPrice) && paymentsSound book))
       go (yes none) = rw (eq-eqb (tripsOf book) 0 none, zeros-same none)
       go (no used) =
-          rw (ne-eqb (tripsOf book) 0 used, rw trips-same at (head-same used), pairs-same (tripsOf book * mostPrice), covers-same areas, payments-same)
+          rw (ne-eqb (tripsOf book) 0 used, rw trips-same at (head-same used), pairs-same (tripsOf book * mostPrice), payments-same)
+
+  sound-same : (areas : ℕ) → sound book′ areas ≡ sound book areas
+  unfolding sound
+  sound-same areas = rw (alone-same, covers-same areas)
 
   -- the trip belongs to the open window or not alike
   belongs-same : belongs book′ (checkoutOf bytes′) ≡ belongs book (checkoutOf bytes)

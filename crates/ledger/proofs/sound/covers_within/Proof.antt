@@ -1,4 +1,4 @@
--- `ledger::sound::covers_sound` meets its contract: after i turns the flag says whether the first i bicycle words are right, and each turn is
+-- `ledger::sound::covers_within` meets its contract: after i turns the flag says whether the first i bicycle words are right, and each turn is
 -- one test more.
 -- Assumes nothing.
 use Prim.Native.Nat.{ℕ, _-_, _≤_}
@@ -11,8 +11,8 @@ use Rattle.wire.proofs.Each.{each-none}
 use Rattle.ledger.specs.Words.{word}
 use Rattle.ledger.specs.Sound.{coversSound}
 use Rattle.ledger.proofs.SoundLaws.{coverRight, one-more, all-done}
-use Rattle.ledger.proofs.sound.covers_sound.Statement.{statement}
-use Rattle.ledger.proofs.sound.covers_sound.Tie as tie
+use Rattle.ledger.proofs.sound.covers_within.Statement.{statement}
+use Rattle.ledger.proofs.sound.covers_within.Tie as tie
 
 abbrev Inv-loop : tie.InvT-loop
 Inv-loop book areas right₀ i₀ right i = (i ≤ 10) × (right ≡ each i (coverRight book areas))
@@ -55,8 +55,8 @@ returns c =
     (c .loop-test .left)
     (c .before .loop .inv .1)
 
-pub covers-sound-spec : {M : Type 1} → statement M
-covers-sound-spec =
+pub covers-within-spec : {M : Type 1} → statement M
+covers-within-spec =
     tie.close
     (tie.spec
     Inv-loop
