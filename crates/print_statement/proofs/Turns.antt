@@ -10,8 +10,8 @@ use Rattle.streams.specs.declared.flow.Flow.{Flow}
 use Rattle.streams.specs.declared.flow.Flowed.{Flowed}
 use Rattle.streams.specs.declared.flow.Flowed.the-variants as flowed
 use Rattle.streams.specs.Runs.{State, turnAt}
-use Rattle.streams.specs.Flows.{inputSize, outputSize, Inside, InRange, unused, CameMore, Made, left, Advanced, stops}
-use Rattle.streams.proofs.Steps.{onward, unused-length, more-room, fed-on, put-on, at-last, on-is, last-is}
+use Rattle.streams.specs.Flows.{inputSize, outputSize, Inside, InRange, unused, CameMore, Made, left, Advanced}
+use Rattle.streams.proofs.Steps.{onward, unused-length, more-room, fed-on, stopped, put-on, put-out, at-last, on-is, writing-is, last-is}
 use Rattle.text.specs.Contracts.{Behind}
 use Rattle.csv.specs.declared.turns.Turn.{Turn}
 use Rattle.csv.specs.declared.turns.Turn.the-variants as turn
@@ -22,7 +22,7 @@ use Rattle.csv.specs.Contracts.{mostTurn, Did, Range, Turned}
 use Rattle.csv.proofs.Taken.{asked-by, put-by, ended-by}
 use Rattle.print_statement.specs.declared.Run.{Run}
 use Rattle.print_statement.specs.declared.Next.{Next}
-use Rattle.print_statement.specs.declared.Next.the-variants.{On, Last, Stopped}
+use Rattle.print_statement.specs.declared.Next.the-variants.{On, Write, Last}
 use Rattle.print_statement.specs.Prints.{numbered, turnAfter, start}
 use Rattle.print_statement.specs.Contracts.{wentOn, reached, recordsLeft, nextOn, StillFew}
 
@@ -55,7 +55,10 @@ module _
     asked-on input′ (flowed.On next) is came =
         let d = asked-by (subst (λ (t : Turn). Did out (run .flow .end) out′ effect t) is (turned .did)) in
         fed-on turnAfter recordsLeft (run .flow) (run .number) input out r size input′ out′ next (rw (d .0)) (d .1) came
-    asked-on input′ flowed.Stopped is came = stops
+    asked-on input′ (flowed.Write end next) is came = absurd came
+    asked-on input′ (flowed.Stopped end) is came =
+        let d = asked-by (subst (λ (t : Turn). Did out (run .flow .end) out′ effect t) is (turned .did)) in
+        stopped turnAfter recordsLeft (run .flow) (run .number) input out r size end input′ out′ (rw (d .0)) (d .1) came
 
     -- a record is used whole, and another may come
     module _ {used end number : ℕ} (is : t ≡ turn.On used end number) where
@@ -70,7 +73,8 @@ module _
 
       pub on-few : (next : Flowed) → StillFew (wentOn next number)
       on-few (flowed.On next) = facts .1 .1 .1
-      on-few flowed.Stopped = tt
+      on-few (flowed.Write upto next) = facts .1 .1 .1
+      on-few (flowed.Stopped upto) = tt
 
       did : (text : List ℕ) × (effect ≡ csv.puts used text number) × Behind text mostTurn out (run .flow .end) out′ end
       did = put-by (subst (λ (t : Turn). Did out (run .flow .end) out′ effect t) is (turned .did))
@@ -82,7 +86,10 @@ module _
       on-made (flowed.On next) made =
           put-on turnAfter recordsLeft (run .flow) (run .number) input out r size used end out′ (rw (did .1)) (did .2 .put) (facts .0)
           (omega (arith, facts .1 .1 .0, facts .1 .1 .1)) next made
-      on-made flowed.Stopped made = stops
+      on-made (flowed.Write upto next) made =
+          put-out turnAfter recordsLeft (run .flow) (run .number) input out r size used end out′ (rw (did .1)) (did .2 .put) (facts .0)
+          (omega (arith, facts .1 .1 .0, facts .1 .1 .1)) upto next made
+      on-made (flowed.Stopped upto) made = absurd made
 
     -- the run is over
     module _ {end : ℕ} (is : t ≡ turn.Over end) where
@@ -97,7 +104,8 @@ module _
 
 pub still-few : (next : Flowed) (number : ℕ) → number < mostRecords → StillFew (wentOn next number)
 still-few (flowed.On next) number few = few
-still-few flowed.Stopped number few = tt
+still-few (flowed.Write end next) number few = few
+still-few (flowed.Stopped end) number few = tt
 
 -- What is known after a step, by its answer.
 module _ {flow₀ : Flow} {s : State ℕ} {input out : List ℕ} where
@@ -106,8 +114,16 @@ module _ {flow₀ : Flow} {s : State ℕ} {input out : List ℕ} where
       → InRange mostTurn (next .flow) × (left recordsLeft (next .flow) (next .number) < left recordsLeft flow₀ (s .carried))
   on-by a is = on-is (subst (λ (t : Next). Advanced turnAfter mostTurn recordsLeft flow₀ s input out (nextOn t)) is a)
 
+  pub writing-by :
+      {t : Next} {end : ℕ} {next : Run} → Advanced turnAfter mostTurn recordsLeft flow₀ s input out (nextOn t) → t ≡ Write end next
+      → (end ≤ outputSize) × (InRange mostTurn (next .flow) × (left recordsLeft (next .flow) (next .number) < left recordsLeft flow₀ (s .carried)))
+  writing-by a is = writing-is (subst (λ (t : Next). Advanced turnAfter mostTurn recordsLeft flow₀ s input out (nextOn t)) is a)
+
   pub last-by : {t : Next} {end : ℕ} → Advanced turnAfter mostTurn recordsLeft flow₀ s input out (nextOn t) → t ≡ Last end → end ≤ outputSize
   last-by a is = last-is (subst (λ (t : Next). Advanced turnAfter mostTurn recordsLeft flow₀ s input out (nextOn t)) is a)
 
 pub few-by : {t : Next} {next : Run} → StillFew t → t ≡ On next → next .number < mostRecords
 few-by few is = subst (λ (t : Next). StillFew t) is few
+
+pub few-writing : {t : Next} {end : ℕ} {next : Run} → StillFew t → t ≡ Write end next → next .number < mostRecords
+few-writing few is = subst (λ (t : Next). StillFew t) is few

@@ -11,7 +11,7 @@ use Rattle.csv.specs.Turns.{mostRecords}
 use Rattle.csv.specs.Contracts.{mostTurn}
 use Rattle.print_statement.specs.declared.Run.{Run}
 use Rattle.print_statement.specs.declared.Next.{Next}
-use Rattle.print_statement.specs.declared.Next.the-variants.{On, Last, Stopped}
+use Rattle.print_statement.specs.declared.Next.the-variants.{On, Write, Last}
 use Rattle.print_statement.specs.Prints.{turnAfter, start}
 
 -- what a step asks: buffers of their sizes, room for a turn, and that a record may come
@@ -23,7 +23,8 @@ pub record Running (input out : List ℕ) (run : Run) : Type 0 where
 -- another turn, where there is one
 abbrev pub wentOn : Flowed → ℕ → Next
 wentOn (flowed.On flow) number = On (record { flow = flow; number = number })
-wentOn flowed.Stopped number = Stopped
+wentOn (flowed.Write end flow) number = Write end (record { flow = flow; number = number })
+wentOn (flowed.Stopped end) number = Last end
 
 -- how far a run has come
 abbrev pub reached : Run → List ℕ → List ℕ → State ℕ
@@ -36,14 +37,14 @@ recordsLeft number = mostRecords - number
 -- what comes after a turn
 abbrev pub nextOn : Next → flow.Next ℕ
 nextOn (On run) = flow.on (run .flow) (run .number)
+nextOn (Write end run) = flow.writing end (run .flow) (run .number)
 nextOn (Last end) = flow.last end
-nextOn Stopped = flow.stopped
 
 -- where another turn comes, another record may
 abbrev pub StillFew : Next → Type 0
 StillFew (On run) = run .number < mostRecords
+StillFew (Write end run) = run .number < mostRecords
 StillFew (Last end) = Unit {0}
-StillFew Stopped = Unit {0}
 
 pub record StepTaken (run : Run) (input out input′ out′ : List ℕ) (r : Next) : Type 0 where
   pub few : StillFew r

@@ -24,10 +24,10 @@ pub struct Run {
 pub enum Next {
     // another one
     On(Run),
-    // nothing but the bytes up to here, which are not written yet
+    // another one, once the output's bytes up to here are written
+    Write { end: usize, on: Run },
+    // nothing but the output's bytes up to here: the run is over, or the statement could not be read any further, which was told on standard error
     Last(usize),
-    // nothing: the statement could not be read any further, or no line be written, which was told on standard error
-    Stopped,
 }
 
 // Another turn, where there is one.
@@ -36,11 +36,15 @@ fn go_on(flowed: Flowed, number: u64) -> Next
 {
     match flowed {
         Flowed::On(flow) => Next::On(Run { flow, number }),
-        Flowed::Stopped => Next::Stopped,
+        Flowed::Write { end, on } => Next::Write {
+            end,
+            on: Run { flow: on, number },
+        },
+        Flowed::Stopped(end) => Next::Last(end),
     }
 }
 
-// A turn, and what it asks for: bytes read, or written.
+// A turn, and what it asks for: bytes read, or bytes to be written.
 fn take_step(input: &mut [u8], out: &mut [u8], run: Run) -> Next
     requires { ⌜ Running (now input) (now out) run ⌝ }
     ensures { λ r. ⌜ StepTaken run (now (input .entry)) (now (out .entry)) (now (input .exit)) (now (out .exit)) r ⌝ }
@@ -50,7 +54,7 @@ fn take_step(input: &mut [u8], out: &mut [u8], run: Run) -> Next
     let to = flow.to;
     let more = flow.more;
     match take_turn(&input[from..to], more, out, flow.end, run.number) {
-        Turn::More => go_on(read_more(input, out, flow), run.number),
+        Turn::More => go_on(read_more(input, flow), run.number),
         Turn::On { used, end, number } => {
             let on = Flow {
                 from: from + used,
@@ -58,13 +62,13 @@ fn take_step(input: &mut [u8], out: &mut [u8], run: Run) -> Next
                 more,
                 end,
             };
-            go_on(make_room(out, ROOM, on), number)
+            go_on(make_room(ROOM, on), number)
         }
         Turn::Over { end } => Next::Last(end),
     }
 }
 
-// Turn after turn, until the run is over.
+// Turn after turn, until the run is over. All that is written is written here, as each step tells it: this loop and `write` are trusted.
 fn print_all(input: &mut [u8], out: &mut [u8], first: Run)
     requires { ⌜ Begun (now input) (now out) first ⌝ }
 {
@@ -74,11 +78,14 @@ fn print_all(input: &mut [u8], out: &mut [u8], first: Run)
             Next::On(on) => {
                 run = on;
             }
+            Next::Write { end, on } => {
+                if !write(out, end) {
+                    break;
+                }
+                run = on;
+            }
             Next::Last(end) => {
                 write(out, end);
-                break;
-            }
-            Next::Stopped => {
                 break;
             }
         }

@@ -10,8 +10,8 @@ use Rattle.streams.specs.declared.flow.Flow.{Flow}
 use Rattle.streams.specs.declared.flow.Flowed.{Flowed}
 use Rattle.streams.specs.declared.flow.Flowed.the-variants as flowed
 use Rattle.streams.specs.Runs.{State, puts, ends, turnAt}
-use Rattle.streams.specs.Flows.{inputSize, outputSize, Inside, InRange, unused, CameMore, Made, left, Advanced, stops}
-use Rattle.streams.proofs.Steps.{onward, unused-length, more-room, fed-on, put-on, at-last, on-is, last-is}
+use Rattle.streams.specs.Flows.{inputSize, outputSize, Inside, InRange, unused, CameMore, Made, left, Advanced}
+use Rattle.streams.proofs.Steps.{onward, unused-length, more-room, fed-on, stopped, put-on, put-out, at-last, on-is, writing-is, last-is}
 use Rattle.ledger.specs.Words.{freshBook}
 use Rattle.layout.specs.declared.Counts.{Counts}
 use Rattle.roll.specs.Pieces.{stepOf}
@@ -27,7 +27,7 @@ use Rattle.lines.proofs.Taken.{asked-by, put-by, ended-by}
 use Rattle.lines.proofs.Told.{asks-more}
 use Rattle.settle_roll.specs.declared.run.Run.{Run}
 use Rattle.settle_roll.specs.declared.run.Next.{Next}
-use Rattle.settle_roll.specs.declared.run.Next.the-variants.{On, Last, Stopped}
+use Rattle.settle_roll.specs.declared.run.Next.the-variants.{On, Write, Last}
 use Rattle.settle_roll.specs.Prints.{Carried, onBook, turnUnder, start}
 use Rattle.settle_roll.specs.Contracts.{wentOn, reached, recordsLeft, nextOn, StillCounting}
 
@@ -78,7 +78,10 @@ module _
         let stays = turned .book-is ∙ more-stays tariff book (unused (run .flow) input) (run .flow .more) (asks-more _ _ (d .0)) in
         rw stays
         (fed-on (turnUnder tariff) recordsLeft (run .flow) (before .carried) input out r size input′ out′ next (rw (d .0)) (d .1) came)
-    asked-on input′ flowed.Stopped is came = stops
+    asked-on input′ (flowed.Write end next) is came = absurd came
+    asked-on input′ (flowed.Stopped end) is came =
+        let d = asked-by (subst (λ (t : Turn). Did out (run .flow .end) out′ effect t) is (turned .did)) in
+        stopped (turnUnder tariff) recordsLeft (run .flow) (before .carried) input out r size end input′ out′ (rw (d .0)) (d .1) came
 
     -- a record is used whole, and another may come
     module _ {used end : ℕ} {tally : Tally} (is : t ≡ turn.On used end tally) where
@@ -93,7 +96,8 @@ module _
 
       pub on-counting : (next : Flowed) → StillCounting (wentOn next tally)
       on-counting (flowed.On next) = facts .1 .1 .0
-      on-counting flowed.Stopped = tt
+      on-counting (flowed.Write upto next) = facts .1 .1 .0
+      on-counting (flowed.Stopped upto) = tt
 
       did :
           (text : List ℕ)
@@ -109,7 +113,11 @@ module _
           rw (turned .book-is)
           (put-on (turnUnder tariff) recordsLeft (run .flow) (before .carried) input out r size used end out′ (rw (did .1))
           (did .2 .put) (facts .0) (omega (arith, facts .1 .1 .1, facts .1 .1 .0 .few)) next made)
-      on-made flowed.Stopped made = stops
+      on-made (flowed.Write upto next) made =
+          rw (turned .book-is)
+          (put-out (turnUnder tariff) recordsLeft (run .flow) (before .carried) input out r size used end out′ (rw (did .1))
+          (did .2 .put) (facts .0) (omega (arith, facts .1 .1 .1, facts .1 .1 .0 .few)) upto next made)
+      on-made (flowed.Stopped upto) made = absurd made
 
     -- the run is over
     module _ {end : ℕ} (is : t ≡ turn.Over end) where
@@ -126,7 +134,8 @@ module _
 
 pub still-counting : (next : Flowed) (tally : Tally) → Counting tally → StillCounting (wentOn next tally)
 still-counting (flowed.On next) tally counting = counting
-still-counting flowed.Stopped tally counting = tt
+still-counting (flowed.Write end next) tally counting = counting
+still-counting (flowed.Stopped end) tally counting = tt
 
 -- What is known after a step, by its answer.
 module _ (tariff : List ℕ) {flow₀ : Flow} {s : State Carried} (book : List ℕ) {input out : List ℕ} where
@@ -136,6 +145,13 @@ module _ (tariff : List ℕ) {flow₀ : Flow} {s : State Carried} (book : List �
       × (left recordsLeft (next .flow) (record { book = book; tally = next .tally }) < left recordsLeft flow₀ (s .carried))
   on-by a is = on-is (subst (λ (t : Next). Advanced (turnUnder tariff) mostTurn recordsLeft flow₀ s input out (nextOn book t)) is a)
 
+  pub writing-by :
+      {t : Next} {end : ℕ} {next : Run} → Advanced (turnUnder tariff) mostTurn recordsLeft flow₀ s input out (nextOn book t) → t ≡ Write end next
+      → (end ≤ outputSize)
+      × (InRange mostTurn (next .flow)
+      × (left recordsLeft (next .flow) (record { book = book; tally = next .tally }) < left recordsLeft flow₀ (s .carried)))
+  writing-by a is = writing-is (subst (λ (t : Next). Advanced (turnUnder tariff) mostTurn recordsLeft flow₀ s input out (nextOn book t)) is a)
+
   pub last-by :
       {t : Next} {end : ℕ} → Advanced (turnUnder tariff) mostTurn recordsLeft flow₀ s input out (nextOn book t) → t ≡ Last end
       → end ≤ outputSize
@@ -143,3 +159,6 @@ module _ (tariff : List ℕ) {flow₀ : Flow} {s : State Carried} (book : List �
 
 pub counting-by : {t : Next} {next : Run} → StillCounting t → t ≡ On next → Counting (next .tally)
 counting-by counting is = subst (λ (t : Next). StillCounting t) is counting
+
+pub counting-writing : {t : Next} {end : ℕ} {next : Run} → StillCounting t → t ≡ Write end next → Counting (next .tally)
+counting-writing counting is = subst (λ (t : Next). StillCounting t) is counting

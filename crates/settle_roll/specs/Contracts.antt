@@ -15,7 +15,7 @@ use Rattle.lines.specs.Turns.{records}
 use Rattle.lines.specs.Contracts.{mostTurn, Counting}
 use Rattle.settle_roll.specs.declared.run.Run.{Run}
 use Rattle.settle_roll.specs.declared.run.Next.{Next}
-use Rattle.settle_roll.specs.declared.run.Next.the-variants.{On, Last, Stopped}
+use Rattle.settle_roll.specs.declared.run.Next.the-variants.{On, Write, Last}
 use Rattle.settle_roll.specs.Prints.{Carried, turnUnder, start}
 
 -- what a step asks: a faultless tariff, a sound book, buffers of their sizes, room for a turn, and that a record may come
@@ -28,7 +28,8 @@ pub record Running (tariff : List ℕ) (counts : Counts) (book input out : List 
 -- another turn, where there is one
 abbrev pub wentOn : Flowed → Tally → Next
 wentOn (flowed.On flow) tally = On (record { flow = flow; tally = tally })
-wentOn flowed.Stopped tally = Stopped
+wentOn (flowed.Write end flow) tally = Write end (record { flow = flow; tally = tally })
+wentOn (flowed.Stopped end) tally = Last end
 
 -- how far a run has come
 abbrev pub reached : Run → List ℕ → List ℕ → List ℕ → State Carried
@@ -41,14 +42,14 @@ recordsLeft on = mostRecords - records (on .tally)
 -- what comes after a turn, with the book that it left
 abbrev pub nextOn : List ℕ → Next → flow.Next Carried
 nextOn book (On run) = flow.on (run .flow) (record { book = book; tally = run .tally })
+nextOn book (Write end run) = flow.writing end (run .flow) (record { book = book; tally = run .tally })
 nextOn book (Last end) = flow.last end
-nextOn book Stopped = flow.stopped
 
 -- where another turn comes, another record may
 abbrev pub StillCounting : Next → Type 0
 StillCounting (On run) = Counting (run .tally)
+StillCounting (Write end run) = Counting (run .tally)
 StillCounting (Last end) = Unit {0}
-StillCounting Stopped = Unit {0}
 
 -- the tariff and the book are still as a step asks, and the run has advanced
 pub record StepTaken

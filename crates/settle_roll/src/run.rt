@@ -29,10 +29,10 @@ pub struct Run {
 pub enum Next {
     // another one
     On(Run),
-    // nothing but the bytes up to here, which are not written yet
+    // another one, once the output's bytes up to here are written
+    Write { end: usize, on: Run },
+    // nothing but the output's bytes up to here: the run is over, or the roll could not be read any further, which was told on standard error
     Last(usize),
-    // nothing: the roll could not be read any further, or no line be written, which was told on standard error
-    Stopped,
 }
 
 // Another turn, where there is one.
@@ -41,11 +41,15 @@ fn go_on(flowed: Flowed, tally: Tally) -> Next
 {
     match flowed {
         Flowed::On(flow) => Next::On(Run { flow, tally }),
-        Flowed::Stopped => Next::Stopped,
+        Flowed::Write { end, on } => Next::Write {
+            end,
+            on: Run { flow: on, tally },
+        },
+        Flowed::Stopped(end) => Next::Last(end),
     }
 }
 
-// A turn, and what it asks for: bytes read, or written.
+// A turn, and what it asks for: bytes read, or bytes to be written.
 fn take_step(
     tariff: &[u8],
     counts: Counts,
@@ -74,7 +78,7 @@ fn take_step(
         flow.end,
         run.tally,
     ) {
-        Turn::More => go_on(read_more(input, out, flow), run.tally),
+        Turn::More => go_on(read_more(input, flow), run.tally),
         Turn::On { used, end, tally } => {
             let on = Flow {
                 from: from + used,
@@ -82,13 +86,13 @@ fn take_step(
                 more,
                 end,
             };
-            go_on(make_room(out, ROOM, on), tally)
+            go_on(make_room(ROOM, on), tally)
         }
         Turn::Over { end } => Next::Last(end),
     }
 }
 
-// Turn after turn, until the run is over.
+// Turn after turn, until the run is over. All that is written is written here, as each step tells it: this loop and `write` are trusted.
 fn settle_all(
     tariff: &[u8],
     counts: Counts,
@@ -106,11 +110,14 @@ fn settle_all(
             Next::On(on) => {
                 run = on;
             }
+            Next::Write { end, on } => {
+                if !write(out, end) {
+                    break;
+                }
+                run = on;
+            }
             Next::Last(end) => {
                 write(out, end);
-                break;
-            }
-            Next::Stopped => {
                 break;
             }
         }

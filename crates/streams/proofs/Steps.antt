@@ -4,7 +4,6 @@ use Prim.Native.Nat.{ℕ, _+_, _-_, _*_, _≤_, _<_}
 use native.Mathlib.Omega.{arith}
 use native.Mathlib.Decide.{decLt}
 use mathlib.Core.Path.{_≡_, refl, sym, subst}
-use mathlib.Core.Logic.{inl, inr}
 use mathlib.Core.Bool.{Bool, true, false, cond}
 use mathlib.Core.List.{List, [], _++_}
 use borrow.Author.Tests.{lt-ltb, le-ltb}
@@ -26,11 +25,14 @@ use Rattle.streams.specs.Flows.{
   CameMore,
   Made,
   on,
+  writing,
   last,
   left,
   Advanced,
   goes,
+  goes-writing,
   finished,
+  stops,
 }
 use Rattle.streams.proofs.Moves.{joined-up, used-up}
 
@@ -120,19 +122,30 @@ module _ {A : Type 0} (turn : Turns A) (budget : A → ℕ) {room : ℕ} (flow :
         went-on = same-state (used-up input (flow .from) (flow .to) used fits (omega (arith, r .inside))) put
 
         pub put-on : (there : Flow) → Made room (onward flow used end) (flowed.On there) → Advanced turn room budget flow before input out′ (on there next)
-        unfolding written
-        put-on there (range, inl same) =
-            goes {piece = []} {text = []} range (less-left _ _ _ _ less (unfilled-few there))
+        put-on there (range, same) =
+            goes {piece = []} range (less-left _ _ _ _ less (unfilled-few there))
             (rw same (subst (λ (s : State A). Goes turn before [] [] s) (sym went-on) (holds e)))
-        put-on there (range, inr empty) =
-            goes {piece = []} {text = before .held ++ text} range (less-left _ _ _ _ less (unfilled-few there))
-            (rw empty (subst (λ (s : State A). Goes turn before [] (before .held ++ text) (written s)) (sym went-on) (writes e)))
+
+        -- and all that is held is to be written
+        pub put-out :
+            (upto : ℕ) (there : Flow) → Made room (onward flow used end) (flowed.Write upto there)
+            → Advanced turn room budget flow before input out′ (writing upto there next)
+        unfolding written
+        put-out upto there (range, (fits-out, (all, empty))) =
+            goes-writing fits-out range (less-left _ _ _ _ less (unfilled-few there))
+            (rw (all, put, empty) (subst (λ (s : State A). Goes turn before [] (before .held ++ text) (written s)) (sym went-on) (writes e)))
 
     -- it put the last text
     pub at-last :
         (end : ℕ) (out′ : List ℕ) {text : List ℕ} → turnAt turn before ≡ ends text → take end out′ ≡ take (flow .end) out ++ text → end ≤ outputSize
         → Advanced turn room budget flow before input out′ (last end)
     at-last end out′ e put fits = finished fits (record { text = _; turn-is = e; is = put })
+
+    -- it asks for more bytes, and no more can be read
+    pub stopped :
+        (end : ℕ) (input′ out′ : List ℕ) → turnAt turn before ≡ asks → take (flow .end) out′ ≡ take (flow .end) out → end ≡ flow .end
+        → Advanced turn room budget flow before input′ out′ (last end)
+    stopped end input′ out′ e same all = stops {end = end} (omega (arith, r .room-left)) e (rw all same)
 
 -- ---- What is known after a step, by its answer.
 
@@ -142,5 +155,11 @@ module _ {A : Type 0} {turn : Turns A} {room : ℕ} {budget : A → ℕ} {flow :
       → InRange room next × (left budget next carried < left budget flow (s .carried))
   on-is (goes range less step) = (range, less)
 
+  pub writing-is :
+      {end : ℕ} {next : Flow} {carried : A} → Advanced turn room budget flow s input out (writing end next carried)
+      → (end ≤ outputSize) × (InRange room next × (left budget next carried < left budget flow (s .carried)))
+  writing-is (goes-writing fits range less step) = (fits, (range, less))
+
   pub last-is : {end : ℕ} → Advanced turn room budget flow s input out (last end) → end ≤ outputSize
   last-is (finished fits done) = fits
+  last-is (stops fits e held) = fits

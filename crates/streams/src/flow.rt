@@ -1,10 +1,7 @@
 // A run's two buffers: bytes come into the one, are used, and what is put goes out of the other.
 use crate::input::keep;
 use crate::input::read_next;
-use crate::output::write;
 ghost use Prim.Native.Nat.{_≤_};
-ghost use mathlib.Core.Path.{_≡_};
-ghost use lib.ListN.{length};
 ghost use Rattle.streams.specs.Flows.{outputSize, Inside, MoreToRead, CameMore, Made};
 
 // Room for the bytes that come: a record has 1,026 at most.
@@ -22,25 +19,26 @@ pub struct Flow {
     pub end: usize,
 }
 
-// What comes after bytes are read or written.
+// What comes after bytes are read, or put. Nothing is written here: the loop does, as it is told.
 pub enum Flowed {
     // another turn
     On(Flow),
-    // nothing: no more could be read or written, which was told on standard error
-    Stopped,
+    // another turn, once the output's bytes up to here are written
+    Write { end: usize, on: Flow },
+    // nothing but the output's bytes up to here: no more could be read, which was told on standard error
+    Stopped(usize),
 }
 
-// The bytes that are not used yet, and the next ones behind them. After a failed read no turn is taken: what was put so far is written.
-pub fn read_more(input: &mut [u8], out: &[u8], flow: Flow) -> Flowed
-    requires { ⌜ MoreToRead (now input) (now out) flow ⌝ }
+// The bytes that are not used yet, and the next ones behind them. After a failed read no turn is taken: what was put so far is to be written.
+pub fn read_more(input: &mut [u8], flow: Flow) -> Flowed
+    requires { ⌜ MoreToRead (now input) flow ⌝ }
     ensures { λ r. ⌜ CameMore flow (now (input .entry)) (now (input .exit)) r ⌝ }
 {
     let end = flow.end;
     let kept = keep(input, flow.from, flow.to);
     let got = read_next(input, kept);
     if got.failed {
-        write(out, end);
-        return Flowed::Stopped;
+        return Flowed::Stopped(end);
     }
     Flowed::On(Flow {
         from: 0,
@@ -50,25 +48,25 @@ pub fn read_more(input: &mut [u8], out: &[u8], flow: Flow) -> Flowed
     })
 }
 
-// What has been put is written as soon as a turn might not find its room.
-pub fn make_room(out: &[u8], room: usize, flow: Flow) -> Flowed
-    requires { ⌜ (length (now out) ≡ outputSize) × (Inside flow × (room ≤ outputSize)) ⌝ }
+// What has been put is to be written as soon as a turn might not find its room.
+pub fn make_room(room: usize, flow: Flow) -> Flowed
+    requires { ⌜ Inside flow × (room ≤ outputSize) ⌝ }
     ensures { λ r. ⌜ Made room flow r ⌝ }
 {
     let from = flow.from;
     let to = flow.to;
     let more = flow.more;
-    let end = flow.end;
-    if room <= out.len() - end {
+    let put = flow.end;
+    if room <= OUTPUT - put {
         return Flowed::On(flow);
     }
-    if write(out, end) {
-        return Flowed::On(Flow {
+    Flowed::Write {
+        end: put,
+        on: Flow {
             from,
             to,
             more,
             end: 0,
-        });
+        },
     }
-    Flowed::Stopped
 }

@@ -1,12 +1,12 @@
 -- `print_all` is safe and ends: from step to step the run stays in range, and less is left of it.
 -- Assumes nothing.
 use native.Mathlib.Omega.{arith}
-use Prim.Native.Nat.{_<_}
+use Prim.Native.Nat.{_≤_, _<_}
 use borrow.Author.Needs.{needs}
-use Rattle.streams.specs.Flows.{InRange, left}
+use Rattle.streams.specs.Flows.{outputSize, InRange, left}
 use Rattle.csv.specs.Contracts.{mostTurn}
 use Rattle.print_statement.specs.Contracts.{Running, recordsLeft}
-use Rattle.print_statement.proofs.Turns.{on-by, last-by, few-by}
+use Rattle.print_statement.proofs.Turns.{on-by, writing-by, last-by, few-by, few-writing}
 use Rattle.print_statement.proofs.print_all.Statement.{statement}
 use Rattle.print_statement.proofs.print_all.Tie as tie
 
@@ -47,11 +47,34 @@ loop-again c =
 enum-known-end : tie.Need-enum-known-end Inv-loop μ-loop
 enum-known-end c = search needs
 
-write-requires : tie.Need-write-requires Inv-loop μ-loop
-write-requires c κs = omega (arith, last-by (c .before .before .before .before .before .before .before .before .take-step .ensures .advanced) (c .before .before .end .given .1), c .before .before .before .before .before .before .before .before .before .before .before .loop .inv .sizes .of-out)
+-- and one that goes on once bytes are written
+written :
+    (c : tie.After-write-arg Inv-loop μ-loop)
+    → (c .before .before .end .given .0 .0 ≤ outputSize)
+    × (InRange mostTurn (c .before .before .end .given .0 .1 .0 .flow)
+    × (left recordsLeft (c .before .before .end .given .0 .1 .0 .flow) (c .before .before .end .given .0 .1 .0 .number)
+    < left recordsLeft (c .before .before .before .before .before .before .before .before .before .before .before .loop .run .flow) (c .before .before .before .before .before .before .before .before .before .before .before .loop .run .number)))
+written c = writing-by (c .before .before .before .before .before .before .before .before .take-step .ensures .advanced) (c .before .before .end .given .1)
 
-enum-told : tie.Need-enum-told Inv-loop μ-loop
-enum-told c = search needs
+write-requires : tie.Need-write-requires Inv-loop μ-loop
+write-requires c κs = omega (arith, written c .0, c .before .before .before .before .before .before .before .before .before .before .before .loop .inv .sizes .of-out)
+
+loop-less-2 : tie.Need-loop-less-2 Inv-loop μ-loop
+loop-less-2 c = written (c .before .before) .1 .1
+
+loop-again-2 : tie.Need-loop-again-2 Inv-loop μ-loop
+loop-again-2 c =
+    record {
+      sizes = record { of-input = omega arith; of-out = omega arith };
+      range = written (c .before .before) .1 .0;
+      few = few-writing (c .before .before .before .before .before .before .before .before .before .before .take-step .ensures .few) (c .before .before .before .before .end .given .1);
+    }
+
+enum-known-end-2 : tie.Need-enum-known-end-2 Inv-loop μ-loop
+enum-known-end-2 c = search needs
+
+write-requires-2 : tie.Need-write-requires-2 Inv-loop μ-loop
+write-requires-2 c κs = omega (arith, last-by (c .before .before .before .before .before .before .before .before .take-step .ensures .advanced) (c .before .before .end2 .given .1), c .before .before .before .before .before .before .before .before .before .before .before .loop .inv .sizes .of-out)
 
 same-length : tie.Need-same-length Inv-loop μ-loop
 same-length c = omega arith
@@ -84,7 +107,10 @@ print-all-spec =
     loop-again
     enum-known-end
     write-requires
-    enum-told
+    loop-less-2
+    loop-again-2
+    enum-known-end-2
+    write-requires-2
     same-length
     same-length-2
     returns

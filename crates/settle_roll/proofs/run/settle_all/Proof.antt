@@ -1,15 +1,15 @@
 -- `run::settle_all` is safe and ends: from step to step the book stays sound, the run in range, and less is left of it.
 -- Assumes nothing.
 use native.Mathlib.Omega.{arith}
-use Prim.Native.Nat.{_<_}
+use Prim.Native.Nat.{_≤_, _<_}
 use mathlib.Core.Path.{_≡_, refl}
 use borrow.Author.Needs.{needs}
 use lib.ListN.{length}
-use Rattle.streams.specs.Flows.{InRange, left}
+use Rattle.streams.specs.Flows.{outputSize, InRange, left}
 use Rattle.roll.specs.Contracts.{Room}
 use Rattle.lines.specs.Contracts.{mostTurn}
 use Rattle.settle_roll.specs.Contracts.{Running, recordsLeft}
-use Rattle.settle_roll.proofs.Turns.{on-by, last-by, counting-by}
+use Rattle.settle_roll.proofs.Turns.{on-by, writing-by, last-by, counting-by, counting-writing}
 use Rattle.settle_roll.proofs.run.settle_all.Statement.{statement}
 use Rattle.settle_roll.proofs.run.settle_all.Tie as tie
 
@@ -57,26 +57,56 @@ loop-again c =
 enum-known-end : tie.Need-enum-known-end Inv-loop μ-loop
 enum-known-end c = search needs
 
+-- and one that goes on once bytes are written
+written :
+    (c : tie.After-write-arg Inv-loop μ-loop)
+    → (c .before .before .end .given .0 .0 ≤ outputSize)
+    × (InRange mostTurn (c .before .before .end .given .0 .1 .0 .flow)
+    × (left recordsLeft (c .before .before .end .given .0 .1 .0 .flow) (record { book = c .before .before .before .before .before .before .before .before .before .before .before .before .take-step .last .1 .1 .0; tally = c .before .before .end .given .0 .1 .0 .tally })
+    < left recordsLeft (c .before .before .before .before .before .before .before .before .before .before .before .before .before .before .before .before .before .loop .run .flow) (record { book = c .before .before .before .before .before .before .before .before .before .before .before .before .before .before .before .before .before .loop .book; tally = c .before .before .before .before .before .before .before .before .before .before .before .before .before .before .before .before .before .loop .run .tally })))
+written c = writing-by _ _ (c .before .before .before .before .before .before .before .before .before .before .before .before .take-step .ensures .advanced) (c .before .before .end .given .1)
+
 write-requires : tie.Need-write-requires Inv-loop μ-loop
-write-requires c κs = omega (arith, last-by _ _ (c .before .before .before .before .before .before .before .before .before .before .before .before .take-step .ensures .advanced) (c .before .before .end .given .1), c .before .before .before .before .before .before .before .before .before .before .before .before .before .before .before .before .before .loop .inv .0 .sizes .of-out)
+write-requires c κs = omega (arith, written c .0, c .before .before .before .before .before .before .before .before .before .before .before .before .before .before .before .before .before .loop .inv .0 .sizes .of-out)
+
+loop-less-2 : tie.Need-loop-less-2 Inv-loop μ-loop
+loop-less-2 c = written (c .before .before) .1 .1
+
+loop-again-2 : tie.Need-loop-again-2 Inv-loop μ-loop
+loop-again-2 c =
+    let inv = c .before .before .before .before .before .before .before .before .before .before .before .before .before .before .before .before .before .before .before .loop .inv in
+    let sizes = inv .0 .sizes in
+    let step = c .before .before .before .before .before .before .before .before .before .before .before .before .before .before .take-step in (
+      record {
+        ready = step .ensures .again;
+        sizes = record { of-input = omega (arith, sizes .of-input); of-out = omega (arith, sizes .of-out) };
+        range = written (c .before .before) .1 .0;
+        counting = counting-writing (step .ensures .counting) (c .before .before .before .before .end .given .1);
+      },
+      omega (arith, inv .1),
+      omega (arith, inv .2),
+    )
+
+enum-known-end-2 : tie.Need-enum-known-end-2 Inv-loop μ-loop
+enum-known-end-2 c = search needs
+
+write-requires-2 : tie.Need-write-requires-2 Inv-loop μ-loop
+write-requires-2 c κs = omega (arith, last-by _ _ (c .before .before .before .before .before .before .before .before .before .before .before .before .take-step .ensures .advanced) (c .before .before .end2 .given .1), c .before .before .before .before .before .before .before .before .before .before .before .before .before .before .before .before .before .loop .inv .0 .sizes .of-out)
 
 same-length : tie.Need-same-length Inv-loop μ-loop
 same-length c = omega arith
 
 same-length-2 : tie.Need-same-length-2 Inv-loop μ-loop
-same-length-2 c = omega arith
+same-length-2 c = omega (arith, c .before .before .before .before .before .before .before .before .before .before .before .before .before .before .before .before .before .before .before .before .before .before .before .before .before .pre .0 .running .sizes .of-input)
 
 same-length-3 : tie.Need-same-length-3 Inv-loop μ-loop
-same-length-3 c = omega arith
+same-length-3 c = omega (arith, c .before .before .before .before .before .before .before .before .before .before .before .before .before .before .before .before .before .before .before .before .before .before .before .before .before .pre .0 .running .sizes .of-out)
 
 same-length-4 : tie.Need-same-length-4 Inv-loop μ-loop
-same-length-4 c = omega arith
+same-length-4 c = omega (arith, c .before .before .before .before .before .before .before .before .before .before .before .before .before .before .before .before .before .before .before .before .before .before .before .before .before .pre .1)
 
 returns : tie.Need-returns Inv-loop μ-loop
 returns c = tt
-
-enum-told : tie.Need-enum-told Inv-loop μ-loop
-enum-told c = search needs
 
 same-length-5 : tie.Need-same-length-5 Inv-loop μ-loop
 same-length-5 c = omega arith
@@ -106,7 +136,10 @@ settle-all-spec =
     loop-again
     enum-known-end
     write-requires
-    enum-told
+    loop-less-2
+    loop-again-2
+    enum-known-end-2
+    write-requires-2
     same-length
     same-length-2
     same-length-3

@@ -23,11 +23,11 @@ enum-told c = search needs
 
 read-more-requires : tie.Need-read-more-requires
 read-more-requires c κs =
-    let start = c .before .before .before .before .before .before .before .before .before .before .before .before .before .before .before .before .before .before .before .before .before .before in
-    let turned = c .before .before .before .before .before .before .before .before .before .before .take-turn in
-    let room = room-for-more (start .args .input .now) (start .pre .0 .range) (start .pre .0 .sizes .of-input) (turned .ensures) (c .before .before .enum-told .given .1) in
+    let start = c .before .before .before .before .before .before .before .before .before .before .before .before .before .before .before .before .before .before .before .before .before in
+    let turned = c .before .before .before .before .before .before .before .before .before .take-turn in
+    let room = room-for-more (start .args .input .now) (start .pre .0 .range) (start .pre .0 .sizes .of-input) (turned .ensures) (c .before .enum-told .given .1) in
     record {
-      sizes = record { of-input = start .pre .0 .sizes .of-input; of-out = omega (arith, start .pre .0 .sizes .of-out) };
+      size = start .pre .0 .sizes .of-input;
       range = record { order = start .pre .0 .range .order; inside = start .pre .0 .range .inside; fits = omega (arith, start .pre .0 .range .room-left) };
       more = room .0;
       room = room .1;
@@ -39,17 +39,17 @@ go-on-requires c κs = search needs
 enum-known-used : tie.Need-enum-known-used
 enum-known-used c = search needs
 
-add-t34 : tie.Need-add-t34
-add-t34 c =
+add-t32 : tie.Need-add-t32
+add-t32 c =
     let start = c .before .before .before .before .before .before .before .before .before .before .before .before .before .before .before .before .before .before .before .before .before in
     let turned = c .before .before .before .before .before .before .before .before .before .take-turn in
     omega (arith, start .pre .0 .range .inside, fits (start .args .input .now) (start .pre .0 .range) (start .pre .0 .sizes .of-input) (turned .ensures) (c .before .used .given .1))
 
 make-room-requires : tie.Need-make-room-requires
 make-room-requires c κs =
-    let start = c .before .before .before .before .before .before .before .before .before .before .before .before .before .before .before .before .before .before .before .before .before .before in
-    let turned = c .before .before .before .before .before .before .before .before .before .before .take-turn in
-    (omega (arith, start .pre .0 .sizes .of-out), (on-inside (start .args .input .now) (start .pre .0 .range) (start .pre .0 .sizes .of-input) (turned .ensures) (c .before .before .used .given .1), omega arith))
+    let start = c .before .before .before .before .before .before .before .before .before .before .before .before .before .before .before .before .before .before .before .before .before in
+    let turned = c .before .before .before .before .before .before .before .before .before .take-turn in
+    (on-inside (start .args .input .now) (start .pre .0 .range) (start .pre .0 .sizes .of-input) (turned .ensures) (c .before .used .given .1), omega arith)
 
 go-on-requires-2 : tie.Need-go-on-requires-2
 go-on-requires-2 c κs = search needs
@@ -71,14 +71,14 @@ same-length-4 c = search needs
 
 returns : tie.Need-returns
 returns c =
-    let start = c .before .before .before .before .before .before .before .before .before .before .before .before .before .before .before .before .before .before .before .before .before .before .before .before .before .before in
-    let turned = c .before .before .before .before .before .before .before .before .before .before .before .before .before .before .take-turn in
+    let start = c .before .before .before .before .before .before .before .before .before .before .before .before .before .before .before .before .before .before .before .before .before .before .before .before .before in
+    let turned = c .before .before .before .before .before .before .before .before .before .before .before .before .before .take-turn in
     let read = c .before .before .before .read-more in
     rw (c .go-on .ensures)
     (record {
       again = turned .ensures .again;
       counting = still-counting (read .result) (start .args .run .tally) (start .pre .0 .counting);
-      advanced = asked-on (start .args .input .now) (start .pre .0 .range) (start .pre .0 .sizes .of-input) (turned .ensures) _ (read .result) (c .before .before .before .before .before .before .enum-told .given .1) (read .ensures);
+      advanced = asked-on (start .args .input .now) (start .pre .0 .range) (start .pre .0 .sizes .of-input) (turned .ensures) _ (read .result) (c .before .before .before .before .before .enum-told .given .1) (read .ensures);
     })
 
 same-length-5 : tie.Need-same-length-5
@@ -95,14 +95,14 @@ same-length-8 c = search needs
 
 returns-2 : tie.Need-returns-2
 returns-2 c =
-    let start = c .before .before .before .before .before .before .before .before .before .before .before .before .before .before .before .before .before .before .before .before .before .before .before .before in
-    let turned = c .before .before .before .before .before .before .before .before .before .before .before .before .take-turn in
+    let start = c .before .before .before .before .before .before .before .before .before .before .before .before .before .before .before .before .before .before .before .before .before .before .before in
+    let turned = c .before .before .before .before .before .before .before .before .before .before .before .take-turn in
     let made = c .before .make-room in
     rw (c .go-on2 .ensures)
     (record {
       again = turned .ensures .again;
-      counting = on-counting (start .args .input .now) (start .pre .0 .range) (start .pre .0 .sizes .of-input) (turned .ensures) (c .before .before .before .before .used .given .1) (made .result);
-      advanced = on-made (start .args .input .now) (start .pre .0 .range) (start .pre .0 .sizes .of-input) (turned .ensures) (c .before .before .before .before .used .given .1) (made .result) (made .ensures);
+      counting = on-counting (start .args .input .now) (start .pre .0 .range) (start .pre .0 .sizes .of-input) (turned .ensures) (c .before .before .before .used .given .1) (made .result);
+      advanced = on-made (start .args .input .now) (start .pre .0 .range) (start .pre .0 .sizes .of-input) (turned .ensures) (c .before .before .before .used .given .1) (made .result) (made .ensures);
     })
 
 same-length-9 : tie.Need-same-length-9
@@ -135,7 +135,7 @@ take-step-spec =
     read-more-requires
     go-on-requires
     enum-known-used
-    add-t34
+    add-t32
     make-room-requires
     go-on-requires-2
     enum-known-end

@@ -12,24 +12,21 @@ keep-requires c κs = search needs
 read-next-requires : tie.Need-read-next-requires
 read-next-requires c κs = search needs
 
-write-requires : tie.Need-write-requires
-write-requires c κs = search needs
-
 same-length : tie.Need-same-length
 same-length c = search needs
 
 returns : tie.Need-returns
 returns c = search needs
 
-add-t13 : tie.Need-add-t13
-add-t13 c = search needs
+add-t11 : tie.Need-add-t11
+add-t11 c = search needs
 
 same-length-2 : tie.Need-same-length-2
 same-length-2 c = search needs
 
 returns-2 : tie.Need-returns-2
 returns-2 c =
-    let start = c .before .before .before .before .before .before .before .before .before .before .before .before .before in
+    let start = c .before .before .before .before .before .before .before .before .before .before .before .before in
     let kept = c .before .before .before .before .before .before .before .before .before .keep in
     let got = c .before .before .before .before .before .read-next in
     more-came (start .args .flow) (start .args .input .now) (kept .last .0) (got .last .0) (kept .result) (got .result .bytes) (start .pre .range)
@@ -38,12 +35,4 @@ returns-2 c =
 pub read-more-spec : {M : Type 1} → statement M
 read-more-spec =
     tie.close
-    (tie.spec
-    keep-requires
-    read-next-requires
-    write-requires
-    same-length
-    returns
-    add-t13
-    same-length-2
-    returns-2)
+    (tie.spec keep-requires read-next-requires same-length returns add-t11 same-length-2 returns-2)
