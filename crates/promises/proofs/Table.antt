@@ -19,18 +19,18 @@ use Rattle.caps.specs.Rides.{ChargedRide}
 use Rattle.caps.specs.Tree.{foldUp, among, chargeIn}
 use Rattle.layout.specs.declared.Counts.{Counts}
 use Rattle.layout.specs.Layout.{longOf, areaPlace, longBits}
-use Rattle.layout.specs.Fields.{areaFields, factorFields, stopFields}
-use Rattle.layout.specs.Rules.{capsRight, placeRight, wideAmong}
+use Rattle.layout.specs.Fields.{areaFields, longFields, factorFields, stopFields}
+use Rattle.layout.specs.Rules.{capsRight, longRight, placeRight, wideAmong}
 use Rattle.layout.specs.Scan.{areaEntry, factorEntry, stopEntry, entryAt, readFrom, readTariff, Read}
 use Rattle.units.specs.Levels.{levelCap}
-use Rattle.areas.specs.Areas.{capOf, tripCapOf, kindWith, dayCapOf, areaOf, areaAt, stopAt, townAt, liesWithin, smallestOf, isMarked, inMarkedTown}
+use Rattle.areas.specs.Areas.{capOf, tripCapOf, childTicketOf, townOf, kindWith, dayCapOf, areaOf, areaAt, stopAt, townAt, liesWithin, smallestOf, isMarked, inMarkedTown}
 use Rattle.trip.specs.Record.{shapeAt, partyAt, stopNumber}
 use Rattle.trip.specs.Moments.{checkinOf, checkoutOf}
 use Rattle.trip.specs.Trips.{isTrip, partyRight, stopsKnown, stampsRight, oneStop, tripOf}
 use Rattle.fare.specs.Distance.{apart, kmFrom, kmOf}
 use Rattle.fare.specs.Rides.{stopOf, areaOfStops, rideBetween, rideOf}
 use Rattle.fare.specs.Parts.{breakOf, ridesOf as tripRides}
-use Rattle.prices.specs.Prices.{basePart, kmPart, step1, step2, step3, step4, tripCap, commonPrice, priceOf}
+use Rattle.prices.specs.Prices.{basePart, kmPart, step1, step2, step3, step4, tripCap, commonPrice, townStep1, ticketIn, raisedOrCompared, aachenAdult, aachenChild, priceOf}
 use Rattle.fare.specs.Towns.{someInTown, townRefuses}
 use Rattle.ledger.specs.Words.{freshBook}
 use Rattle.ledger.specs.Sound.{sound}
@@ -39,7 +39,7 @@ use Rattle.charging.specs.Charging.{riderCharge, inTurn, eachPerson, chargesOf}
 use Rattle.charging.specs.Cuts.{riderCut, cutsOf}
 use Rattle.ledger.specs.Windows.{belongs, tooEarly, windowOf, opened}
 use Rattle.charging.specs.After.{addHere, addUp, addList, posted}
-use Rattle.cycles.specs.Bicycles.{coverBicycles}
+use Rattle.cycles.specs.Bicycles.{newCover, payment, flatBefore, bicycleCharge, paidWith, coverBicycles}
 use Rattle.statement.specs.Record.{statementSize}
 use Rattle.deciding.specs.Refusals.{refusal, rows, Verdict, nothing, found, firstOf}
 use Rattle.settle.specs.Outcome.{Outcome, refused, partOf, oneMore, partsOf, postedAll, acceptedTrip, settled, bookAfter}
@@ -50,7 +50,11 @@ use Rattle.settle.specs.Steps.{settlings}
 use Rattle.settle.proofs.Steps.{settlings-run, settlings-book}
 use Rattle.promises.specs.Runs.{entryOf, cutOf, ridesWith, ridesAfter, ridesOver}
 use Rattle.promises.specs.Cases.{
+  sampleFields,
   sampleArea,
+  aachenArea,
+  fieldsBytes,
+  moreBytes,
   areaBytes,
   areasBytes,
   sampleFactor,
@@ -146,11 +150,11 @@ module _ (tariff : List ℕ) (counts : Counts) (read : Read tariff counts) where
 
 -- ---- The sample.
 
--- The sample is a faultless tariff of seven areas, three factor records and 28 stops.
+-- The sample is a faultless tariff of ten areas, three of them of kind 8, four factor records and 35 stops.
 pub sample-read : Read sample sampleCounts
-unfolding longOf areaPlace longBits ones readTariff readFrom entryAt areaEntry factorEntry stopEntry frameAt broken areaFields factorFields stopFields
-    capsRight placeRight wideAmong getLe bytesOf sample sampleAreas sampleFactors sampleStops areasBytes areaBytes sampleArea factorsBytes factorBytes
-    sampleFactor stopsBytes stopBytes sampleStop
+unfolding longOf areaPlace longBits ones readTariff readFrom entryAt areaEntry factorEntry stopEntry frameAt broken areaFields longFields factorFields stopFields
+    capsRight longRight placeRight wideAmong getLe bytesOf sample sampleAreas sampleFactors sampleStops areasBytes areaBytes fieldsBytes moreBytes sampleFields sampleArea
+    aachenArea factorsBytes factorBytes sampleFactor stopsBytes stopBytes sampleStop
 sample-read = refl
 
 -- ---- The table.
@@ -172,12 +176,14 @@ saidSums c = record { come-to = results c; window = ridesIn (results c) [] }
 -- all cases, computed
 computed : map settledSums cases ≡ map saidSums cases
 unfolding dividedUp hundredthsOf periods getLe putLe bytesOf each broken frameAt monthDays daysOfMonths daysOfYears dayNumber localMinute minuteNumber
-    leftOf cappedHere foldUp among chargeIn leaves namedHere nameIn longOf areaPlace longBits ones areaFields stopFields levelCap capOf tripCapOf kindWith
+    leftOf cappedHere foldUp among chargeIn leaves namedHere nameIn longOf areaPlace longBits ones areaFields longFields stopFields levelCap capOf tripCapOf
+    childTicketOf townOf kindWith
     dayCapOf areaOf areaAt stopAt townAt liesWithin smallestOf shapeAt partyAt stopNumber checkinOf checkoutOf isTrip partyRight stopsKnown
-    stampsRight oneStop apart kmFrom kmOf stopOf areaOfStops rideBetween rideOf basePart kmPart step1 step2 step3 step4 tripCap commonPrice isMarked
-    inMarkedTown priceOf someInTown townRefuses secondCap allCap riderCharge inTurn eachPerson chargesOf riderCut cutsOf cutOf
-    belongs tooEarly windowOf addHere addUp addList coverBicycles opened posted statementSize breakOf tripRides rows firstOf partOf oneMore partsOf
-    postedAll acceptedTrip onSound runOnSound entryOf ridesWith ridesAfter ridesOver sampleArea areaBytes areasBytes sampleFactor factorBytes
+    stampsRight oneStop apart kmFrom kmOf stopOf areaOfStops rideBetween rideOf basePart kmPart step1 step2 step3 step4 tripCap commonPrice townStep1 ticketIn
+    raisedOrCompared aachenAdult aachenChild isMarked inMarkedTown priceOf someInTown townRefuses secondCap allCap riderCharge inTurn eachPerson chargesOf riderCut cutsOf cutOf
+    belongs tooEarly windowOf addHere addUp addList newCover payment flatBefore bicycleCharge paidWith coverBicycles opened posted statementSize breakOf tripRides rows firstOf partOf oneMore partsOf
+    postedAll acceptedTrip onSound runOnSound entryOf ridesWith ridesAfter ridesOver sampleFields sampleArea aachenArea fieldsBytes moreBytes areaBytes
+    areasBytes sampleFactor factorBytes
     factorsBytes sampleStop stopBytes stopsBytes sampleAreas sampleFactors sampleStops sample stampBytes numbersBytes tripBytes along partResults
     outcomeResults resultsOf ridesIn cases
 computed = refl

@@ -1,6 +1,6 @@
 -- docs/RULES.md, section 18: the starred sums, as one table. Each is a run of trips, made of their bytes and settled one after another from a
 -- fresh book under the sample, and what it comes to.
-use Prim.Native.Nat.{ℕ, _+_, _*_, _/_, _%_}
+use Prim.Native.Nat.{ℕ, _+_, _*_, _/_, _%_, _^_}
 use mathlib.Core.Path.{_≡_}
 use mathlib.Core.List.{List, [], _∷_, _++_, map}
 use lib.ListN.{length}
@@ -10,6 +10,7 @@ use Rattle.caps.specs.Rides.{ChargedRide}
 use Rattle.layout.specs.declared.Counts.{Counts}
 use Rattle.layout.specs.declared.Factor.{Factor}
 use Rattle.layout.specs.declared.fields.AreaFields.{AreaFields}
+use Rattle.layout.specs.declared.fields.LongFields.{LongFields}
 use Rattle.layout.specs.declared.fields.StopFields.{StopFields}
 use Rattle.trip.specs.declared.Party.{Party}
 use Rattle.caps.specs.declared.Cut.{Cut}
@@ -20,11 +21,16 @@ use Rattle.settle.specs.Runs.{Offer, Settlement, runFrom}
 use Rattle.settle.specs.Steps.{settlings}
 use Rattle.promises.specs.Runs.{entryOf, cutOf, ridesOf}
 
--- ---- The sample.
+-- ---- The sample, samples/tariff.bin: a test, host/tests/cases.rs, holds its numbers here to that file's bytes.
 
--- an area of the sample: percentages 50; `sort` and the five fields of its trip cap; day cap and bicycle flat
-unfoldable pub sampleArea : ℕ → ℕ → ℕ → ℕ → ℕ → ℕ → ℕ → ℕ → ℕ → ℕ → ℕ → ℕ → ℕ → AreaFields
-sampleArea level parent base rate validity sort k a b c d daycap flat =
+-- an area record: of kind 1; or of kind 8, which has more fields behind those
+pub data SampleArea : Type 0 where
+  common : AreaFields → SampleArea
+  aachen : AreaFields → LongFields → SampleArea
+
+-- the fields of both kinds: percentages 50; `sort` and the five fields of its trip cap; day cap and bicycle flat, or cap
+unfoldable pub sampleFields : ℕ → ℕ → ℕ → ℕ → ℕ → ℕ → ℕ → ℕ → ℕ → ℕ → ℕ → ℕ → ℕ → AreaFields
+sampleFields level parent base rate validity sort k a b c d daycap flat =
     record {
       level = level;
       parent = parent;
@@ -43,17 +49,37 @@ sampleArea level parent base rate validity sort k a b c d daycap flat =
       «bicycle_flat» = flat;
     }
 
--- an area record, kind 1: a head of 4 bytes and a body of 25
-unfoldable pub areaBytes : AreaFields → List ℕ
-areaBytes f =
-    bytesOf 2 27 ++ (bytesOf 2 1
-    ++ (bytesOf 1 (f .level) ++ (bytesOf 1 (f .parent) ++ (bytesOf 2 (f .«base_price») ++ (bytesOf 2 (f .«price_per_km») ++ (bytesOf 2 (f .validity)
+-- an area of kind 1
+unfoldable pub sampleArea : ℕ → ℕ → ℕ → ℕ → ℕ → ℕ → ℕ → ℕ → ℕ → ℕ → ℕ → ℕ → ℕ → SampleArea
+sampleArea level parent base rate validity sort k a b c d daycap flat = common (sampleFields level parent base rate validity sort k a b c d daycap flat)
+
+-- an area of kind 8: behind the same fields the child tickets, the bicycle's price a trip and the town's mark
+unfoldable pub aachenArea : ℕ → ℕ → ℕ → ℕ → ℕ → ℕ → ℕ → ℕ → ℕ → ℕ → ℕ → ℕ → ℕ → ℕ → ℕ → ℕ → ℕ → ℕ → ℕ → ℕ → SampleArea
+aachenArea level parent base rate validity sort k a b c d daycap most child1 child2 child3 child4 child5 bicycle town =
+    aachen (sampleFields level parent base rate validity sort k a b c d daycap most)
+    (record { child1 = child1; child2 = child2; child3 = child3; child4 = child4; child5 = child5; «bicycle_price» = bicycle; town = town })
+
+-- the body of kind 1: 25 bytes
+unfoldable pub fieldsBytes : AreaFields → List ℕ
+fieldsBytes f =
+    bytesOf 1 (f .level) ++ (bytesOf 1 (f .parent) ++ (bytesOf 2 (f .«base_price») ++ (bytesOf 2 (f .«price_per_km») ++ (bytesOf 2 (f .validity)
     ++ (bytesOf 1 (f .surcharge) ++ (bytesOf 1 (f .reduction) ++ (bytesOf 1 (f .sort)
     ++ (bytesOf 2 (f .cap1) ++ (bytesOf 2 (f .cap2) ++ (bytesOf 2 (f .cap3) ++ (bytesOf 2 (f .cap4) ++ (bytesOf 2 (f .cap5)
-    ++ (bytesOf 2 (f .«day_cap») ++ bytesOf 2 (f .«bicycle_flat»))))))))))))))))
+    ++ (bytesOf 2 (f .«day_cap») ++ bytesOf 2 (f .«bicycle_flat»))))))))))))))
+
+-- what kind 8 has behind it: 13 bytes
+unfoldable pub moreBytes : LongFields → List ℕ
+moreBytes f =
+    bytesOf 2 (f .child1) ++ (bytesOf 2 (f .child2) ++ (bytesOf 2 (f .child3) ++ (bytesOf 2 (f .child4) ++ (bytesOf 2 (f .child5)
+    ++ (bytesOf 2 (f .«bicycle_price») ++ bytesOf 1 (f .town))))))
+
+-- an area record: a head of 4 bytes before its body
+unfoldable pub areaBytes : SampleArea → List ℕ
+areaBytes (common f) = bytesOf 2 27 ++ (bytesOf 2 1 ++ fieldsBytes f)
+areaBytes (aachen f more) = bytesOf 2 40 ++ (bytesOf 2 8 ++ (fieldsBytes f ++ moreBytes more))
 
 -- area records one after another
-unfoldable pub areasBytes : List AreaFields → List ℕ
+unfoldable pub areasBytes : List SampleArea → List ℕ
 areasBytes [] = []
 areasBytes (f ∷ more) = areaBytes f ++ areasBytes more
 
@@ -83,8 +109,10 @@ unfoldable pub stopsBytes : List StopFields → List ℕ
 stopsBytes [] = []
 stopsBytes (f ∷ more) = stopBytes f ++ stopsBytes more
 
--- state 0, regions 1 and 6, cities 2 to 5 of region 1. Ours: the state's prices, the bicycle flats, levels K, A, C and D of region 6
-unfoldable pub sampleAreas : List AreaFields
+-- state 0, regions 1 and 6, cities 2 to 5 of region 1; and of kind 8 region 7, the Aachen tariff of document 001, with its towns 8, Baesweiler,
+-- which drops the base price, and 9, Stolberg, which drops the price per km. Ours: the state's prices, the bicycle flats of kind 1, levels K, A, C
+-- and D of region 6, and of region 7 all tickets but A's
+unfoldable pub sampleAreas : List SampleArea
 sampleAreas =
     sampleArea 0 0 180 28 360 0 0 0 0 0 0 3000 500
     ∷ sampleArea 1 0 140 27 360 0 0 0 0 0 0 2500 380
@@ -93,14 +121,22 @@ sampleAreas =
     ∷ sampleArea 2 1 140 27 90 1 200 90 0 0 0 65535 250
     ∷ sampleArea 2 1 140 27 90 0 0 0 0 0 0 400 300
     ∷ sampleArea 1 0 173 29 240 2 210 340 740 1250 1690 2890 400
+    ∷ aachenArea 1 0 141 27 180 2 210 340 500 820 1250 2060 347 110 160 250 410 630 228 0
+    ∷ aachenArea 2 7 141 27 180 0 0 0 0 0 0 65535 347 0 0 0 0 0 228 1
+    ∷ aachenArea 2 7 141 27 180 0 0 0 0 0 0 65535 347 0 0 0 0 0 228 2
     ∷ []
 
--- the state, region 1 (as Westfalen, where rides inside one city are exempt) and region 6 (as the VRR)
+-- the state, region 1 (as Westfalen, where rides inside one city are exempt), region 6 (as the VRR) and region 7 (as the AVV)
 unfoldable pub sampleFactors : List Factor
-sampleFactors = sampleFactor 3 0 ∷ sampleFactor 4 1 ∷ sampleFactor 3 0 ∷ []
+sampleFactors =
+    sampleFactor 3 0
+    ∷ sampleFactor 4 1
+    ∷ sampleFactor 3 0
+    ∷ sampleFactor 3 0
+    ∷ []
 
 -- the stops, as in samples/tariff.txt: 0 to 6 in city 2, 7 and 8 in city 3, 9 and 10 in city 4, 11 and 12 in city 5, 13 in region 1, 14 to 26 in
--- region 6, 27 in the state
+-- region 6, 27 in the state, 28 to 30 in region 7, 31 and 32 in town 8, 33 and 34 in town 9
 unfoldable pub sampleStops : List StopFields
 sampleStops =
     sampleStop 2 300000 200000
@@ -131,15 +167,22 @@ sampleStops =
     ∷ sampleStop 6 524000 332000
     ∷ sampleStop 6 536000 348000
     ∷ sampleStop 0 420000 250000
+    ∷ sampleStop 7 200000 100000
+    ∷ sampleStop 7 209000 100000
+    ∷ sampleStop 7 200000 121000
+    ∷ sampleStop 8 200000 120000
+    ∷ sampleStop 8 203000 124000
+    ∷ sampleStop 9 212000 105000
+    ∷ sampleStop 9 216000 108000
     ∷ []
 
 -- the tariff's bytes
 unfoldable pub sample : List ℕ
 sample = areasBytes sampleAreas ++ (factorsBytes sampleFactors ++ stopsBytes sampleStops)
 
--- and what it has
+-- and what it has; areas 7, 8 and 9 are of kind 8
 abbrev pub sampleCounts : Counts
-sampleCounts = record { areas = 7; longs = 0; factors = 3; stops = 28 }
+sampleCounts = record { areas = 10; longs = 2 ^ 7 + 2 ^ 8 + 2 ^ 9; factors = 4; stops = 35 }
 
 -- ---- Trips.
 
@@ -164,12 +207,15 @@ tripBytes from to class level party stops =
     ++ (stampBytes from ++ (stampBytes to ++ (bytesOf 1 class ++ (bytesOf 1 level
     ++ (bytesOf 1 (party .adults) ++ (bytesOf 1 (party .children) ++ (bytesOf 1 (party .bicycles) ++ (bytesOf 1 (length stops) ++ numbersBytes stops)))))))))
 
--- the holder alone; and with one child
+-- the holder alone; with one child; and with a bicycle
 abbrev pub alone : Party
 alone = record { adults = 0; children = 0; bicycles = 0 }
 
 abbrev pub withChild : Party
 withChild = record { adults = 0; children = 1; bicycles = 0 }
+
+abbrev pub withBicycle : Party
+withBicycle = record { adults = 0; children = 0; bicycles = 1 }
 
 -- some trip along its stops, offered with room for any statement; and from a stop to a stop, which has no change
 unfoldable pub along : Stamp → Stamp → ℕ → ℕ → Party → List ℕ → Offer
@@ -263,6 +309,15 @@ abbrev pub childRide : ℕ → ℕ → ℕ → ℕ → ℕ → ℕ → ℕ → R
 childRide area km minutes class price charge holder =
     ridden (record { area = area; class = class; price = price; charge = charge }) km minutes (holder ∷ charge ∷ []) uncut
 
+-- the same of the holder with a bicycle, whose charge stands behind the holder's
+abbrev pub cycled : ℕ → Result → Result
+cycled bicycle (ridden own km minutes charges off) = ridden own km minutes (charges ++ bicycle ∷ []) off
+cycled bicycle (refusedWith number place) = refusedWith number place
+
+-- the holder's trip of 30 minutes with a bicycle, from a full hour on
+abbrev pub tripCycled : ℕ → ℕ → ℕ → Offer
+tripCycled hour first last = offered (after hour 0) (after hour 30) 2 0 withBicycle first last
+
 -- the starred sums, in their order, with what caps took off; the two nights of a year in which the clock changes; and mistaps
 unfoldable pub cases : List Case
 cases =
@@ -299,6 +354,24 @@ cases =
     ∷ (trip 7 30 2 0 0 13, ride 1 67 30 2 1949 1949)
     ∷ (trip 8 30 2 0 9 10, ride 4 5 30 2 200 200)
     ∷ (trip 9 30 2 0 9 10, cut 4 5 30 2 200 121 79 1 2)
+    ∷ [])
+    -- region 7, 9 km: level 0; level A; that for a child; class 1; that for a child. Document 001 prints 384, 340, 160 and 576
+    ∷ one (trip 6 30 2 0 28 29) (ride 7 9 30 2 384 384)
+    ∷ one (trip 6 30 2 2 28 29) (ride 7 9 30 2 340 340)
+    ∷ forChild (offered (after 6 0) (after 6 30) 2 2 withChild 28 29) (childRide 7 9 30 2 160 160 340)
+    ∷ one (trip 6 30 1 2 28 29) (ride 7 9 30 1 576 576)
+    ∷ forChild (offered (after 6 0) (after 6 30) 1 2 withChild 28 29) (childRide 7 9 30 1 288 288 576)
+    -- city 8, 5 km, of which document 001 prints 135; city 9, 5 km: 30 minutes; 181 minutes
+    ∷ one (trip 6 30 2 0 31 32) (ride 8 5 30 2 135 135)
+    ∷ one (trip 6 30 2 0 33 34) (ride 9 5 30 2 141 141)
+    ∷ one (trip 6 181 2 0 33 34) (ride 9 5 181 2 282 282)
+    -- a bicycle: region 7, three times; from there to city 2; region 7
+    ∷ day
+    ((tripCycled 6 28 29, cycled 228 (ride 7 9 30 2 384 384))
+    ∷ (tripCycled 7 28 29, cycled 119 (ride 7 9 30 2 384 384))
+    ∷ (tripCycled 8 28 29, cycled 0 (ride 7 9 30 2 384 384))
+    ∷ (tripCycled 9 28 0, cycled 500 (cut 0 142 30 2 4156 1848 2308 0 2))
+    ∷ (tripCycled 10 28 29, cycled 0 (cut 7 9 30 2 384 0 384 0 2))
     ∷ [])
     -- 1,000 m; 1,001 m
     ∷ one (trip 6 30 2 0 0 5) (ride 2 1 30 2 167 167)
