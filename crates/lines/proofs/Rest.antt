@@ -6,7 +6,7 @@ use mathlib.Core.Path.{_≡_, refl, sym, ap, _∙_}
 use mathlib.Core.List.{List, [], _∷_, _++_, append-assoc}
 use Rattle.roll.specs.declared.Line.{Line}
 use Rattle.roll.specs.declared.Line.the-variants.{Charged, Both, Refused}
-use Rattle.lines.specs.declared.turns.Tally.{Tally}
+use Rattle.lines.specs.declared.tally.Tally.{Tally}
 use Rattle.lines.specs.Text.{header, lineText, tailText, linesText, acceptedOf, refusedOf, centsOf, textOf}
 use Rattle.lines.specs.Turns.{records, counted, tailOf}
 use Rattle.lines.proofs.Taken.{counted-one}

@@ -17,7 +17,7 @@ use Rattle.deciding.specs.Contracts.{Ready}
 use Rattle.roll.specs.Pieces.{stepOf}
 use Rattle.roll.specs.Contracts.{lineCents, stepCents, mostLineCents, Stepped}
 use Rattle.roll.proofs.Starts.{record-within, more-short}
-use Rattle.lines.specs.declared.turns.Tally.{Tally}
+use Rattle.lines.specs.declared.tally.Tally.{Tally}
 use Rattle.lines.specs.declared.turns.Turn.{Turn}
 use Rattle.lines.specs.declared.turns.Turn.the-variants as turn
 use Rattle.lines.specs.Text.{lineText}

@@ -13,7 +13,7 @@ use Rattle.deciding.specs.Contracts.{Ready}
 use Rattle.roll.specs.Pieces.{stepOf, bookStep}
 use Rattle.roll.specs.Contracts.{mostLineCents}
 use Rattle.lines.specs.Text.{spaced}
-use Rattle.lines.specs.declared.turns.Tally.{Tally}
+use Rattle.lines.specs.declared.tally.Tally.{Tally}
 use Rattle.lines.specs.declared.turns.Turn.{Turn}
 use Rattle.lines.specs.declared.turns.Turn.the-variants.{More, On, Over}
 use Rattle.roll.specs.Lines.{mostRecords}

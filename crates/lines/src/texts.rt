@@ -2,7 +2,7 @@
 use crate::short::put_short;
 use crate::spaced::put_long_spaced;
 use crate::spaced::put_spaced;
-use crate::turns::Tally;
+use crate::tally::Tally;
 use roll::Entry;
 use roll::Line;
 use text::behind::put_byte;

@@ -1,4 +1,6 @@
 // A turn of a run: what stands at the start of the bytes that have come, settled, counted and put into the output.
+use crate::tally::Tally;
+use crate::tally::count;
 use crate::texts::put_line;
 use crate::texts::put_refused;
 use crate::texts::put_tail;
@@ -13,17 +15,10 @@ ghost use lib.ListN.{length};
 ghost use Rattle.roll.specs.declared.Line.the-variants.{Refused};
 ghost use Rattle.deciding.specs.Contracts.{Ready};
 ghost use Rattle.roll.specs.Contracts.{Room, lineCents, mostLineCents};
-ghost use Rattle.lines.specs.Contracts.{mostTurn, Counting, Counted, LineTaken, Turned};
+ghost use Rattle.lines.specs.Contracts.{mostTurn, Counting, LineTaken, Turned};
 
 // The room that a turn takes at most: the lines of two parts, and the tail behind them.
 pub const ROOM: usize = 384;
-
-// The records so far, and the sum of their charges.
-pub struct Tally {
-    pub accepted: u32,
-    pub refused: u32,
-    pub cents: u64,
-}
 
 // What a turn comes to.
 pub enum Turn {
@@ -39,33 +34,6 @@ pub enum Turn {
     Over {
         end: usize,
     },
-}
-
-// One record more, of one part or of two.
-fn count(tally: Tally, line: Line) -> Tally
-    requires { ⌜ Counting tally × (lineCents line ≤ mostLineCents) ⌝ }
-    ensures { λ r. ⌜ Counted tally line r ⌝ }
-{
-    let accepted = tally.accepted;
-    let refused = tally.refused;
-    let cents = tally.cents;
-    match line {
-        Line::Charged(entry) => Tally {
-            accepted: accepted + 1,
-            refused,
-            cents: cents + entry.cents,
-        },
-        Line::Both(one, other) => Tally {
-            accepted: accepted + 1,
-            refused,
-            cents: cents + one.cents + other.cents,
-        },
-        Line::Refused(_) => Tally {
-            accepted,
-            refused: refused + 1,
-            cents,
-        },
-    }
 }
 
 // What is printed of a record, behind the others. The run is over with the last record there can be, and the tail then stands behind it.

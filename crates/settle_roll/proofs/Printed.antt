@@ -23,7 +23,7 @@ use Rattle.roll.specs.Lines.{mostRecords, linesOf, linesIn, offersOf, brokenIn}
 use Rattle.roll.specs.Pieces.{stepOf, bookStep}
 use Rattle.roll.proofs.Starts.{record-within, more-short}
 use Rattle.roll.proofs.Pieces.{longer-same, afterStep, lines-step}
-use Rattle.lines.specs.declared.turns.Tally.{Tally}
+use Rattle.lines.specs.declared.tally.Tally.{Tally}
 use Rattle.lines.specs.Text.{textOf}
 use Rattle.lines.specs.Turns.{records, counted, effectOf}
 use Rattle.lines.specs.Turns as lines

@@ -17,7 +17,7 @@ use Rattle.layout.specs.declared.Counts.{Counts}
 use Rattle.roll.specs.Pieces.{stepOf}
 use Rattle.roll.proofs.Starts.{more-stays}
 use Rattle.text.specs.Contracts.{Behind}
-use Rattle.lines.specs.declared.turns.Tally.{Tally}
+use Rattle.lines.specs.declared.tally.Tally.{Tally}
 use Rattle.lines.specs.declared.turns.Turn.{Turn}
 use Rattle.lines.specs.declared.turns.Turn.the-variants as turn
 use Rattle.lines.specs.Text.{header}

@@ -10,7 +10,7 @@ use Rattle.streams.specs.Flows as flow
 use Rattle.layout.specs.declared.Counts.{Counts}
 use Rattle.deciding.specs.Contracts.{Ready}
 use Rattle.roll.specs.Lines.{mostRecords}
-use Rattle.lines.specs.declared.turns.Tally.{Tally}
+use Rattle.lines.specs.declared.tally.Tally.{Tally}
 use Rattle.lines.specs.Turns.{records}
 use Rattle.lines.specs.Contracts.{mostTurn, Counting}
 use Rattle.settle_roll.specs.declared.run.Run.{Run}

@@ -5,7 +5,7 @@ use mathlib.Core.List.{List, []}
 use Rattle.streams.specs.Runs.{Effect, asks, puts, ends, Turns, State}
 use Rattle.ledger.specs.Words.{freshBook}
 use Rattle.roll.specs.Pieces.{stepOf, bookStep}
-use Rattle.lines.specs.declared.turns.Tally.{Tally}
+use Rattle.lines.specs.declared.tally.Tally.{Tally}
 use Rattle.lines.specs.Text.{header}
 use Rattle.lines.specs.Turns as lines
 

@@ -1,8 +1,8 @@
 // The roll, turn by turn, on one book.
 use layout::Counts;
+use lines::tally::Tally;
 use lines::texts::put_header;
 use lines::turns::ROOM;
-use lines::turns::Tally;
 use lines::turns::Turn;
 use lines::turns::take_turn;
 use roll::fresh_book;

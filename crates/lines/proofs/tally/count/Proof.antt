@@ -1,4 +1,4 @@
--- `turns::count` meets its contract: one record more, which adds what its parts can say at most.
+-- `tally::count` meets its contract: one record more, which adds what its parts can say at most.
 -- Assumes nothing.
 use Prim.Native.Nat.{_≤_}
 use native.Mathlib.Omega.{arith}
@@ -7,8 +7,8 @@ use borrow.Author.Needs.{needs}
 use Rattle.roll.specs.declared.Line.{Line}
 use Rattle.roll.specs.Contracts.{lineCents, mostLineCents}
 use Rattle.lines.specs.Turns.{counted}
-use Rattle.lines.proofs.turns.count.Statement.{statement}
-use Rattle.lines.proofs.turns.count.Tie as tie
+use Rattle.lines.proofs.tally.count.Statement.{statement}
+use Rattle.lines.proofs.tally.count.Tie as tie
 
 -- what a line says, where it is known which it is
 said : {line same : Line} → line ≡ same → lineCents line ≤ mostLineCents → lineCents same ≤ mostLineCents
