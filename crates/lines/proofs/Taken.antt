@@ -110,8 +110,8 @@ line-range {tally = tally} {line = line} {used = used} {last = last} {place = pl
 
 -- ---- The ways through a turn.
 
-module _ {tariff : List ℕ} {counts : Counts} {book piece : List ℕ} {more : Bool} {tally : Tally} {book′ : List ℕ} {s : Step}
-    (ready : Ready tariff counts book) (counting : Counting tally) (step : Stepped tariff (counts .areas) book piece more book′ s)
+module _ {tariff : List ℕ} {counts : Counts} {book piece : List ℕ} {more : Bool} {tally : Tally} {statement book′ statement′ : List ℕ} {s : Step}
+    (ready : Ready tariff counts book) (counting : Counting tally) (step : Stepped tariff (counts .areas) book piece more statement book′ statement′ s)
   where
     again : Ready tariff counts book′
     again = record { read = ready .read; sound-book = step .sound-again }

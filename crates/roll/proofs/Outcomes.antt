@@ -15,7 +15,7 @@ use Rattle.statement.proofs.Charges.{length-record, one-part, length-two}
 use Rattle.statement.proofs.Records.{opening-is, area-is, km-is, minutes-is, cents-is, size-is, record-at, first-stands, second-stands}
 use Rattle.settle.specs.declared.Answer.{Answer}
 use Rattle.settle.specs.declared.Answer.the-variants as answer
-use Rattle.settle.specs.Outcome.{Outcome, refused, accepted, settledUnder, settled, partsIn, bookAfter}
+use Rattle.settle.specs.Outcome.{Outcome, refused, accepted, settledUnder, settled, partsIn, bookAfter, statementAfter}
 use Rattle.deciding.specs.Contracts.{Ready}
 use Rattle.settle.specs.Contracts.{Told, ToldSound, NextSettled}
 use Rattle.settle.proofs.Parts.{OneOrTwo, alone, both, Accepted, no-size, under-accepted, settled-accepted}
@@ -127,20 +127,22 @@ module _ {tariff : List ℕ} {counts : Counts} {book : List ℕ} (trip : List �
   pub readable : {size : ℕ} → r ≡ answer.Written size → Readable statement′ size
   readable is = told-says is .readable
 
-  pub charged-settled : {size : ℕ} {line : Line} → r ≡ answer.Written size → LineIn statement′ size line → SettledLine tariff (counts .areas) book trip book′ line
+  pub charged-settled : {size : ℕ} {line : Line} → r ≡ answer.Written size → LineIn statement′ size line → SettledLine tariff (counts .areas) book trip statement book′ statement′ line
   charged-settled is e =
       record {
         line = e .value ∙ told-says is .line ∙ ap lineOf (sym under);
         book-is = o .told .book-is ∙ ap (λ (x : Outcome). bookAfter x book) (sym under);
+        statement-is = o .told .statement-is ∙ ap (λ (x : Outcome). statementAfter x statement) (sym under);
         sound-again = o .sound-again;
         range = e .range;
       }
 
-  pub refused-settled : {number place : ℕ} → r ≡ answer.Refused number place → SettledLine tariff (counts .areas) book trip book′ (Refused number)
+  pub refused-settled : {number place : ℕ} → r ≡ answer.Refused number place → SettledLine tariff (counts .areas) book trip statement book′ statement′ (Refused number)
   refused-settled is =
       record {
         line = turned-down _ (rw is at (o .told)) ∙ ap lineOf (sym under);
         book-is = o .told .book-is ∙ ap (λ (x : Outcome). bookAfter x book) (sym under);
+        statement-is = o .told .statement-is ∙ ap (λ (x : Outcome). statementAfter x statement) (sym under);
         sound-again = o .sound-again;
         range = omega arith;
       }

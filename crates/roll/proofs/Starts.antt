@@ -127,31 +127,33 @@ module _ (tariff book piece : List ℕ) (more : Bool) where
 
 -- The contract of `next`, way by way.
 module _ (tariff : List ℕ) (areas : ℕ) (book piece : List ℕ) (more u : Bool) (is : sound book areas ≡ true) (e : u ≡ unfinished piece) where
-  pub more-stepped : more && u ≡ true → Stepped tariff areas book piece more book More
+  pub more-stepped : {statement : List ℕ} → more && u ≡ true → Stepped tariff areas book piece more statement book statement More
   more-stepped t =
       let way = more-way tariff book piece more (rw e at t) in
-      record { found = sym (way .0); book-is = sym (way .1); sound-again = is; range = omega arith }
+      record { found = sym (way .0); book-is = sym (way .1); statement-is = refl; sound-again = is; range = omega arith }
 
   module _ (t : more && u ≡ false) where
-    pub end-stepped : length piece ≡ 0 → Stepped tariff areas book piece more book End
+    pub end-stepped : {statement : List ℕ} → length piece ≡ 0 → Stepped tariff areas book piece more statement book statement End
     end-stepped none =
         let way = end-way tariff book piece more (rw e at t) none in
-        record { found = sym (way .0); book-is = sym (way .1); sound-again = is; range = omega arith }
+        record { found = sym (way .0); book-is = sym (way .1); statement-is = refl; sound-again = is; range = omega arith }
 
-    pub broken-stepped : (length piece ≡ 0 → ⊥) → frame.Broken ≡ frameAt piece 0 → Stepped tariff areas book piece more book Broken
+    pub broken-stepped : {statement : List ℕ} → (length piece ≡ 0 → ⊥) → frame.Broken ≡ frameAt piece 0 → Stepped tariff areas book piece more statement book statement Broken
     broken-stepped some f =
         let way = broken-way tariff book piece more (rw e at t) some (sym f) in
-        record { found = sym (way .0); book-is = sym (way .1); sound-again = is; range = omega arith }
+        record { found = sym (way .0); book-is = sym (way .1); statement-is = refl; sound-again = is; range = omega arith }
 
     pub record-stepped :
-        (kind body : ℕ) (book′ : List ℕ) (line : Line) → frame.Whole kind body ≡ frameAt piece 0
-        → SettledLine tariff areas book (take (4 + body) piece) book′ line → Stepped tariff areas book piece more book′ (Record line (4 + body))
+        (kind body : ℕ) {statement : List ℕ} (book′ : List ℕ) {statement′ : List ℕ} (line : Line) → frame.Whole kind body ≡ frameAt piece 0
+        → SettledLine tariff areas book (take (4 + body) piece) statement book′ statement′ line
+        → Stepped tariff areas book piece more statement book′ statement′ (Record line (4 + body))
     unfolding outcomeAt
     record-stepped kind body book′ line f s =
         let way = whole-way tariff book piece more (rw e at t) kind body (sym f) in
         record {
           found = rw (s .line) (sym (way .0));
           book-is = s .book-is ∙ sym (way .1);
+          statement-is = s .statement-is;
           sound-again = s .sound-again;
           range = s .range;
         }

@@ -10,14 +10,14 @@ use Rattle.ledger.specs.Sound.{sound}
 use Rattle.statement.specs.Record.{mostParts, largestStatement}
 use Rattle.statement.specs.Reading.{openingIn, areaIn, kmIn, minutesIn, sizeIn, centsIn}
 use Rattle.statement.specs.Contracts.{RecordAt, mostCents}
-use Rattle.settle.specs.Outcome.{settled, bookAfter}
+use Rattle.settle.specs.Outcome.{settled, bookAfter, statementAfter}
 use Rattle.roll.specs.declared.Entry.{Entry}
 use Rattle.roll.specs.declared.Line.{Line}
 use Rattle.roll.specs.declared.Line.the-variants.{Charged, Both, Refused}
 use Rattle.roll.specs.declared.Step.{Step}
 use Rattle.roll.specs.declared.Step.the-variants.{End, More, Record, Broken}
 use Rattle.roll.specs.Lines.{lineOf}
-use Rattle.roll.specs.Pieces.{stepOf, bookStep}
+use Rattle.roll.specs.Pieces.{stepOf, bookStep, statementStep}
 
 -- the cents of a line, and of a step's
 abbrev pub lineCents : Line → ℕ
@@ -40,7 +40,7 @@ pub record Fresh (book : List ℕ) : Type 0 where
   pub size : bookSize ≡ length book
   pub sound-book : (areas : ℕ) → sound book areas ≡ true
 
--- room for every record's statement; what stands in it says nothing
+-- room for every record's statement
 abbrev pub Room : List ℕ → Type 0
 Room statement = length statement ≡ largestStatement
 
@@ -73,14 +73,16 @@ pub record LineIn (statement : List ℕ) (size : ℕ) (r : Line) : Type 0 where
   pub value : r ≡ lineIn statement size
   pub range : lineCents r ≤ mostLineCents
 
-pub record SettledLine (tariff : List ℕ) (areas : ℕ) (book trip book′ : List ℕ) (r : Line) : Type 0 where
+pub record SettledLine (tariff : List ℕ) (areas : ℕ) (book trip statement book′ statement′ : List ℕ) (r : Line) : Type 0 where
   pub line : r ≡ lineOf (settled tariff book trip largestStatement)
   pub book-is : book′ ≡ bookAfter (settled tariff book trip largestStatement) book
+  pub statement-is : statement′ ≡ statementAfter (settled tariff book trip largestStatement) statement
   pub sound-again : sound book′ areas ≡ true
   pub range : lineCents r ≤ mostLineCents
 
-pub record Stepped (tariff : List ℕ) (areas : ℕ) (book piece : List ℕ) (more : Bool) (book′ : List ℕ) (r : Step) : Type 0 where
+pub record Stepped (tariff : List ℕ) (areas : ℕ) (book piece : List ℕ) (more : Bool) (statement book′ statement′ : List ℕ) (r : Step) : Type 0 where
   pub found : r ≡ stepOf tariff book piece more
   pub book-is : book′ ≡ bookStep tariff book piece more
+  pub statement-is : statement′ ≡ statementStep tariff book piece statement r
   pub sound-again : sound book′ areas ≡ true
   pub range : stepCents r ≤ mostLineCents

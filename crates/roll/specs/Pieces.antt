@@ -8,7 +8,7 @@ use Rattle.wire.specs.Number.{getLe}
 use Rattle.wire.specs.Frame.{frameAt}
 use Rattle.wire.specs.declared.Frame.the-variants as frame
 use Rattle.statement.specs.Record.{largestStatement}
-use Rattle.settle.specs.Outcome.{Outcome, settled, bookAfter}
+use Rattle.settle.specs.Outcome.{Outcome, settled, bookAfter, statementAfter}
 use Rattle.roll.specs.declared.Step.{Step}
 use Rattle.roll.specs.declared.Step.the-variants.{End, More, Record, Broken}
 use Rattle.roll.specs.Lines.{lineOf}
@@ -42,3 +42,10 @@ bookStep tariff book piece more =
       | frame.Broken ↦ book
       | frame.Whole kind body ↦ bookAfter (outcomeAt tariff book piece (4 + body)) book
     ]))
+
+-- the statement that was lent, after it: of a record that was settled what settling leaves in it, which is all that was told of the record
+abbrev pub statementStep : List ℕ → List ℕ → List ℕ → List ℕ → Step → List ℕ
+statementStep tariff book piece statement End = statement
+statementStep tariff book piece statement More = statement
+statementStep tariff book piece statement Broken = statement
+statementStep tariff book piece statement (Record line used) = statementAfter (outcomeAt tariff book piece used) statement

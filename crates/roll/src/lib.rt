@@ -95,7 +95,8 @@ fn charged_line(statement: &[u8], size: usize) -> Line
     Line::Charged(first)
 }
 
-// A record settled: its line, and the book brought up to date. The statement is lent to be written and read, and what is left in it says nothing.
+// A record settled: its line, and the book brought up to date. What was told of it stands in the statement that is lent: its charge records, in
+// front of what stood there; of a refusal nothing is written.
 fn settle_line(
     tariff: &[u8],
     counts: Counts,
@@ -104,7 +105,8 @@ fn settle_line(
     statement: &mut [u8],
 ) -> Line
     requires { ⌜ Ready (now tariff) counts (now book) × Room (now statement) ⌝ }
-    ensures { λ r. ⌜ SettledLine (now (tariff .entry)) (counts .areas) (now (book .entry)) (now (trip .entry)) (now (book .exit)) r ⌝ }
+    ensures { λ r. ⌜ SettledLine (now (tariff .entry)) (counts .areas) (now (book .entry)) (now (trip .entry)) (now (statement .entry)) (now (book .exit))
+        (now (statement .exit)) r ⌝ }
 {
     match settle_next(tariff, counts, book, trip, statement) {
         Answer::Refused { number, place: _ } => Line::Refused(number as u64),
@@ -124,7 +126,7 @@ fn is_unfinished(piece: &[u8]) -> bool
 }
 
 // What stands at the start of a piece, and what it comes to on the book; `more` says whether the roll can go on behind the piece. The statement
-// is lent for a record's.
+// is lent for a record's: whoever wants more than its line, as each person's charge, reads it there.
 pub fn next(
     tariff: &[u8],
     counts: Counts,
@@ -134,7 +136,8 @@ pub fn next(
     statement: &mut [u8],
 ) -> Step
     requires { ⌜ Ready (now tariff) counts (now book) × Room (now statement) ⌝ }
-    ensures { λ r. ⌜ Stepped (now (tariff .entry)) (counts .areas) (now (book .entry)) (now (piece .entry)) more (now (book .exit)) r ⌝ }
+    ensures { λ r. ⌜ Stepped (now (tariff .entry)) (counts .areas) (now (book .entry)) (now (piece .entry)) more (now (statement .entry)) (now (book .exit))
+        (now (statement .exit)) r ⌝ }
 {
     if more & is_unfinished(piece) {
         return Step::More;
