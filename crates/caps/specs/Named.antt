@@ -40,7 +40,8 @@ nameIn t second all class area price =
 -- an area has a cap of a class that a ride of class `class` has, and it left this: 0 if passed already
 pub data CapHere (caps : Caps) (class second all which left : ℕ) : Type 0 where
   all-classes : (cap : Cents) → which ≡ 1 → caps .all ≡ UpTo cap → left ≡ cap .0 - all → CapHere caps class second all which left
-  second-class : (cap : Cents) → which ≡ 2 → class ≡ 2 → caps .second ≡ UpTo cap → left ≡ cap .0 - second → CapHere caps class second all which left
+  second-class :
+      (cap : Cents) → which ≡ 2 → class ≡ 2 → caps .second ≡ UpTo cap → left ≡ cap .0 - second → CapHere caps class second all which left
 
 -- a cap that a ride has, of its area or of one above, left this
 pub record CapLeft (t : Tree) (second all : ℕ → ℕ) (class area : ℕ) (name : Name) (left : ℕ) : Type 0 where
