@@ -25,8 +25,8 @@ pub faultless : (b : List ℕ) (counts : Counts) → Read b counts → Faultless
 unfolding areaAt factorAt
 faultless b counts e =
     let (p, some, factors) = finished b counts e in
-    let area : (i : ℕ) → i < counts .areas → AreaEntry b (areaPlace b i) (areasBefore b i) (kindOf b counts i) =
-    λ i h. area-entry b (areaPlace b i) (areasBefore b i) (kindOf b counts i) (p .area i h)
+    let area : (i : ℕ) → i < counts .areas → AreaEntry b (areaPlace b i) (areasBefore b i) (kindOf b i) =
+    λ i h. area-entry b (areaPlace b i) (areasBefore b i) (kindOf b i) (p .area i h)
     in
     let factor : (k : ℕ) → k < counts .factors → FactorEntry b (factorPlace counts k) (factorsBefore counts k) =
     λ k h. factor-entry b (factorPlace counts k) (factorsBefore counts k) (p .factor k h)
@@ -41,22 +41,22 @@ faultless b counts e =
       longs = p .reached .longs;
       few-long = few-long b (length b) counts p some;
       factors = factors;
-      some-factor = omega (arith, wide-before (levelOf b counts) 0 (counts .areas) some (omega arith));
+      some-factor = omega (arith, wide-before (levelOf b) 0 (counts .areas) some (omega arith));
       few-factors = omega (arith, few-factors b (length b) counts p, p .reached .few);
       few-stops = few-stops b (length b) counts p;
       size = p .reached .place;
       kind = λ i h. area i h .here .kinds;
       area = λ i h. area-ranges b (areasBefore b i) _ _ _ (area i h .right);
-      rank = λ i h. area-rank b counts i state (area i h .right);
+      rank = λ i h. area-rank b i state (area i h .right);
       factor = λ k h. factor-ranges _ k (factor k h .right);
       stop = λ j h. stop-ranges b counts j (stop j h .right);
     }
 
 -- The bicycle price of an area of kind 8 is in its range.
 pub bicycle-price-most :
-    (b : List ℕ) (counts : Counts) (i : ℕ) → Read b counts × (i < counts .areas) × (isAachen b counts i ≡ true) → bicyclePriceOf b counts i ≤ mostMoney
+    (b : List ℕ) (counts : Counts) (i : ℕ) → Read b counts × (i < counts .areas) × (isAachen b i ≡ true) → bicyclePriceOf b i ≤ mostMoney
 bicycle-price-most b counts i h =
-    let ranges = rw (area-aachen b counts i (h .2)) at (faultless b counts (h .0) .area i (h .1) .kind) in
+    let ranges = rw (area-aachen b i (h .2)) at (faultless b counts (h .0) .area i (h .1) .kind) in
     ranges .1
 
 -- A tariff has its counts once.

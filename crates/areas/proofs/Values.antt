@@ -159,17 +159,17 @@ area-ranges b soFar kind f g e =
     }
 
 -- what has level 1 is not area 0
-not-state : (b : List ℕ) (counts : Counts) (r : ℕ) → levelOf b counts 0 ≡ 0 → levelOf b counts r ≡ 1 → 0 < r
-not-state b counts zero top level = omega arith
-not-state b counts (suc r) top level = omega arith
+not-state : (b : List ℕ) (r : ℕ) → levelOf b 0 ≡ 0 → levelOf b r ≡ 1 → 0 < r
+not-state b zero top level = omega arith
+not-state b (suc r) top level = omega arith
 
 -- An area whose values are right has its rank, where area 0 has level 0.
 pub area-rank :
-    (b : List ℕ) (counts : Counts) (number : ℕ) → levelOf b counts 0 ≡ 0
-    → areaRight b (areasBefore b number) (kindOf b counts number) (areaFields b (areaPlace b number)) (longFields b (areaPlace b number)) ≡ true
-    → AreaRank b counts number
+    (b : List ℕ) (number : ℕ) → levelOf b 0 ≡ 0
+    → areaRight b (areasBefore b number) (kindOf b number) (areaFields b (areaPlace b number)) (longFields b (areaPlace b number)) ≡ true
+    → AreaRank b number
 unfolding areaAt areaOf placeRight
-area-rank b counts number top e =
+area-rank b number top e =
     elim (ℕ-discrete number 0) [
       | yes is ↦
           let e′ = rw (eq-eqb number 0 is) at e in
@@ -177,23 +177,23 @@ area-rank b counts number top e =
       | no some ↦
           let e′ = rw (ne-eqb number 0 some) at e in
           let f = areaFields b (areaPlace b number) in
-          let kind = kindOf b counts number in
+          let kind = kindOf b number in
           let own = f .«bicycle_flat» in
-          let above = flatOf b counts (f .parent) in
+          let above = flatOf b (f .parent) in
           let flat : eqb (f .level) 1 && eqb kind aachenKind || leb own above ≡ true = search told in
           one-of (eqb (f .level) 1 && eqb (f .parent) 0)
-          (eqb (f .level) 2 && eqb (levelOf b counts (f .parent)) 1 && eqb (kindOf b counts (f .parent)) kind) (search told)
+          (eqb (f .level) 2 && eqb (levelOf b (f .parent)) 1 && eqb (kindOf b (f .parent)) kind) (search told)
           (λ is.
           let parent : f .parent ≡ 0 = search told in
           region (omega arith) (search told) parent
           (λ common.
           one-of (eqb (f .level) 1 && eqb kind aachenKind) (leb own above) flat
           (λ free. let long : kind ≡ aachenKind = search told in absurd (omega arith))
-          (λ most. omega (arith, leb-true own above most, ap (flatOf b counts) parent))))
+          (λ most. omega (arith, leb-true own above most, ap (flatOf b) parent))))
           (λ is.
-          let level : levelOf b counts (f .parent) ≡ 1 = search told in
+          let level : levelOf b (f .parent) ≡ 1 = search told in
           let high : f .level ≡ 2 = search told in
-          city (f .parent) (not-state b counts (f .parent) top level) (search told) high refl level (search told)
+          city (f .parent) (not-state b (f .parent) top level) (search told) high refl level (search told)
           (one-of (eqb (f .level) 1 && eqb kind aachenKind) (leb own above) flat
           (λ free. let other : f .level ≡ 1 = search told in absurd (omega arith)) (leb-true own above)))
     ]

@@ -85,8 +85,8 @@ areaOf f kind =
     }
 
 -- the area of a number
-unfoldable pub areaAt : List ℕ → Counts → ℕ → Area
-areaAt b counts number =
+unfoldable pub areaAt : List ℕ → ℕ → Area
+areaAt b number =
     let at = areaPlace b number in
     areaOf (areaFields b at) (kindWith (kindAt b at) (areaFields b at) (longFields b at))
 
@@ -101,18 +101,18 @@ stopAt b counts number =
     record { area = f .area; x = record { 0 = f .x }; y = record { 0 = f .y } }
 
 -- the area above an area; the state is its own
-abbrev pub parentOf : List ℕ → Counts → ℕ → ℕ
-parentOf b counts number = areaFields b (areaPlace b number) .parent
+abbrev pub parentOf : List ℕ → ℕ → ℕ
+parentOf b number = areaFields b (areaPlace b number) .parent
 
 -- whether an area is of kind 8; such an area's bicycle price per trip; an area's town mark
-abbrev pub isAachen : List ℕ → Counts → ℕ → Bool
-isAachen b counts number = eqb (kindOf b counts number) aachenKind
+abbrev pub isAachen : List ℕ → ℕ → Bool
+isAachen b number = eqb (kindOf b number) aachenKind
 
-abbrev pub bicyclePriceOf : List ℕ → Counts → ℕ → ℕ
-bicyclePriceOf b counts number = longFields b (areaPlace b number) .«bicycle_price»
+abbrev pub bicyclePriceOf : List ℕ → ℕ → ℕ
+bicyclePriceOf b number = longFields b (areaPlace b number) .«bicycle_price»
 
-unfoldable pub townAt : List ℕ → Counts → ℕ → Town
-townAt b counts number = cond (isAachen b counts number) (townOf (longFields b (areaPlace b number) .town)) Unmarked
+unfoldable pub townAt : List ℕ → ℕ → Town
+townAt b number = cond (isAachen b number) (townOf (longFields b (areaPlace b number) .town)) Unmarked
 
 -- a town is marked where it drops the base price or the km price
 unfoldable pub isMarked : Town → Bool
@@ -121,26 +121,26 @@ isMarked (BaseDropped) = true
 isMarked (KmDropped) = true
 
 -- an area of the tariff is a marked town
-unfoldable pub inMarkedTown : List ℕ → Counts → ℕ → Bool
-inMarkedTown tariff counts area = isMarked (townAt tariff counts area)
+unfoldable pub inMarkedTown : List ℕ → ℕ → Bool
+inMarkedTown tariff area = isMarked (townAt tariff area)
 
 -- an area lies within itself, within the area above it, and within the area above that: there are three levels
-unfoldable pub liesWithin : List ℕ → Counts → ℕ → ℕ → Bool
-liesWithin b counts inner outer = among (parentOf b counts) 2 inner outer
+unfoldable pub liesWithin : List ℕ → ℕ → ℕ → Bool
+liesWithin b inner outer = among (parentOf b) 2 inner outer
 
 -- of two areas: the first of the one, the area above it and the area above that within which the other lies too
-unfoldable pub smallestOf : List ℕ → Counts → ℕ → ℕ → ℕ
-smallestOf b counts a c =
-    cond (liesWithin b counts c a) a
-    (cond (liesWithin b counts c (parentOf b counts a)) (parentOf b counts a) (parentOf b counts (parentOf b counts a)))
+unfoldable pub smallestOf : List ℕ → ℕ → ℕ → ℕ
+smallestOf b a c =
+    cond (liesWithin b c a) a
+    (cond (liesWithin b c (parentOf b a)) (parentOf b a) (parentOf b (parentOf b a)))
 
 -- the smallest area that contains two: it contains both, and lies within every area that contains both
 pub record Smallest (b : List ℕ) (counts : Counts) (a c r : ℕ) : Type 0 where
-  pub value : r ≡ smallestOf b counts a c
+  pub value : r ≡ smallestOf b a c
   pub there : r < counts .areas
-  pub one : liesWithin b counts a r ≡ true
-  pub other : liesWithin b counts c r ≡ true
-  pub least : (d : ℕ) → liesWithin b counts a d ≡ true → liesWithin b counts c d ≡ true → liesWithin b counts r d ≡ true
+  pub one : liesWithin b a r ≡ true
+  pub other : liesWithin b c r ≡ true
+  pub least : (d : ℕ) → liesWithin b a d ≡ true → liesWithin b c d ≡ true → liesWithin b r d ≡ true
 
 -- the numbers of a trip cap are in their ranges
 abbrev pub TripCapRange : TripCap → Type 0
@@ -177,15 +177,15 @@ pub record AreaRanges (area : Area) : Type 0 where
 
 -- area 0 alone is the state, its own parent, and of kind 1; a region's parent is the state, a city's an earlier region of its own kind; no
 -- flat exceeds the parent's, but that of a region of kind 8 may
-pub data AreaRank (b : List ℕ) (counts : Counts) (number : ℕ) : Type 0 where
-  state : number ≡ 0 → areaAt b counts number .level ≡ 0 → areaAt b counts number .parent ≡ 0 → kindOf b counts number ≡ commonKind
-      → AreaRank b counts number
-  region : 0 < number → areaAt b counts number .level ≡ 1 → areaAt b counts number .parent ≡ 0
-      → (kindOf b counts number ≡ commonKind → areaAt b counts number .«bicycle_flat» .0 ≤ areaAt b counts 0 .«bicycle_flat» .0)
-      → AreaRank b counts number
-  city : (r : ℕ) → 0 < r → r < number → areaAt b counts number .level ≡ 2 → areaAt b counts number .parent ≡ r → areaAt b counts r .level ≡ 1
-      → kindOf b counts r ≡ kindOf b counts number → areaAt b counts number .«bicycle_flat» .0 ≤ areaAt b counts r .«bicycle_flat» .0
-      → AreaRank b counts number
+pub data AreaRank (b : List ℕ) (number : ℕ) : Type 0 where
+  state : number ≡ 0 → areaAt b number .level ≡ 0 → areaAt b number .parent ≡ 0 → kindOf b number ≡ commonKind
+      → AreaRank b number
+  region : 0 < number → areaAt b number .level ≡ 1 → areaAt b number .parent ≡ 0
+      → (kindOf b number ≡ commonKind → areaAt b number .«bicycle_flat» .0 ≤ areaAt b 0 .«bicycle_flat» .0)
+      → AreaRank b number
+  city : (r : ℕ) → 0 < r → r < number → areaAt b number .level ≡ 2 → areaAt b number .parent ≡ r → areaAt b r .level ≡ 1
+      → kindOf b r ≡ kindOf b number → areaAt b number .«bicycle_flat» .0 ≤ areaAt b r .«bicycle_flat» .0
+      → AreaRank b number
 
 -- what each factor record has; the state's, which is the first, has the mark 0
 pub record FactorRanges (number : ℕ) (f : Factor) : Type 0 where
@@ -210,8 +210,8 @@ pub record FaultlessTariff (b : List ℕ) (counts : Counts) : Type 0 where
   pub few-factors : counts .factors ≤ mostAreas
   pub few-stops : counts .stops ≤ mostStops
   pub size : length b ≡ stopPlace counts (counts .stops)
-  pub kind : (i : ℕ) → i < counts .areas → (kindOf b counts i ≡ commonKind) ⊎ (kindOf b counts i ≡ aachenKind)
-  pub area : (i : ℕ) → i < counts .areas → AreaRanges (areaAt b counts i)
-  pub rank : (i : ℕ) → i < counts .areas → AreaRank b counts i
+  pub kind : (i : ℕ) → i < counts .areas → (kindOf b i ≡ commonKind) ⊎ (kindOf b i ≡ aachenKind)
+  pub area : (i : ℕ) → i < counts .areas → AreaRanges (areaAt b i)
+  pub rank : (i : ℕ) → i < counts .areas → AreaRank b i
   pub factor : (k : ℕ) → k < counts .factors → FactorRanges k (factorAt b counts k)
   pub stop : (j : ℕ) → j < counts .stops → StopRanges (counts .areas) (stopAt b counts j)

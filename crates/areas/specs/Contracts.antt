@@ -15,22 +15,22 @@ abbrev pub limitsOf : Area → Limits
 limitsOf area = record { «day_cap» = area .«day_cap»; surcharge = area .surcharge; reduction = area .reduction }
 
 pub record ParentOf (b : List ℕ) (counts : Counts) (number r : ℕ) : Type 0 where
-  pub value : r ≡ parentOf b counts number
+  pub value : r ≡ parentOf b number
   pub there : r < counts .areas
 
-pub record FlatOf (b : List ℕ) (counts : Counts) (number r : ℕ) : Type 0 where
-  pub value : r ≡ flatOf b counts number
+pub record FlatOf (b : List ℕ) (number r : ℕ) : Type 0 where
+  pub value : r ≡ flatOf b number
   pub range : r ≤ mostMoney
 
-pub record BicyclePriceOf (b : List ℕ) (counts : Counts) (number r : ℕ) : Type 0 where
-  pub value : r ≡ bicyclePriceOf b counts number
+pub record BicyclePriceOf (b : List ℕ) (number r : ℕ) : Type 0 where
+  pub value : r ≡ bicyclePriceOf b number
   pub range : r ≤ mostMoney
 
 -- the region of an area, which is no city
 pub record RegionOf (b : List ℕ) (counts : Counts) (area r : ℕ) : Type 0 where
-  pub value : r ≡ regionOf b counts area
+  pub value : r ≡ regionOf b area
   pub there : r < counts .areas
-  pub wide : levelOf b counts r < 2
+  pub wide : levelOf b r < 2
 
 -- the factor record of an area, in its ranges; the state's mark is 0
 pub record FactorOf (b : List ℕ) (counts : Counts) (area : ℕ) (r : Factor) : Type 0 where
@@ -38,4 +38,4 @@ pub record FactorOf (b : List ℕ) (counts : Counts) (area : ℕ) (r : Factor) :
   pub least : 1 ≤ r .factor
   pub most : r .factor ≤ mostFactor
   pub mark : r .mark ≤ 1
-  pub state-mark : regionOf b counts area ≡ 0 → r .mark ≡ 0
+  pub state-mark : regionOf b area ≡ 0 → r .mark ≡ 0

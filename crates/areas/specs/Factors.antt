@@ -9,13 +9,13 @@ use Rattle.layout.specs.Rules.{levelOf, wideAreas}
 use Rattle.areas.specs.Areas.{parentOf, factorAt}
 
 -- an area is a city: what lies in it lies in one city
-abbrev pub isCity : List ℕ → Counts → ℕ → Bool
-isCity b counts area = eqb (levelOf b counts area) 2
+abbrev pub isCity : List ℕ → ℕ → Bool
+isCity b area = eqb (levelOf b area) 2
 
 -- the region that contains an area, else the state: a city's is its parent, a region's and the state's is itself
-unfoldable pub regionOf : List ℕ → Counts → ℕ → ℕ
-regionOf b counts area = cond (isCity b counts area) (parentOf b counts area) area
+unfoldable pub regionOf : List ℕ → ℕ → ℕ
+regionOf b area = cond (isCity b area) (parentOf b area) area
 
 -- factor records stand in the order of the areas: before a region's stand those of the state and of the regions before it
 unfoldable pub factorOf : List ℕ → Counts → ℕ → Factor
-factorOf b counts area = factorAt b counts (wideAreas b counts (regionOf b counts area))
+factorOf b counts area = factorAt b counts (wideAreas b (regionOf b area))

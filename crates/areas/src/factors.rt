@@ -20,7 +20,7 @@ ghost use Rattle.areas.specs.Contracts.{RegionOf, FactorOf};
 // How many areas before one are the state or a region: their records are walked over.
 fn wide_before(tariff: &[u8], counts: Counts, number: usize) -> u8
     requires { ⌜ Read (now tariff) counts × (number < counts .areas) ⌝ }
-    ensures { λ r. ⌜ r ≡ wideAreas (now (tariff .entry)) counts number ⌝ }
+    ensures { λ r. ⌜ r ≡ wideAreas (now (tariff .entry)) number ⌝ }
 {
     let mut wide = 0;
     let mut at = 0;
@@ -34,7 +34,7 @@ fn wide_before(tariff: &[u8], counts: Counts, number: usize) -> u8
 // Whether an area is a city.
 pub fn is_city(tariff: &[u8], counts: Counts, area: usize) -> bool
     requires { ⌜ Read (now tariff) counts × (area < counts .areas) ⌝ }
-    ensures { λ r. ⌜ r ≡ isCity (now (tariff .entry)) counts area ⌝ }
+    ensures { λ r. ⌜ r ≡ isCity (now (tariff .entry)) area ⌝ }
 {
     level(tariff, counts, area) == CITY
 }

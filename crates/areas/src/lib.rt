@@ -155,7 +155,7 @@ fn area_of(f: AreaFields, kind: Kind) -> Area
 
 pub fn area(tariff: &[u8], counts: Counts, number: usize) -> Area
     requires { ⌜ Read (now tariff) counts × (number < counts .areas) ⌝ }
-    ensures { λ r. ⌜ r ≡ areaAt (now (tariff .entry)) counts number ⌝ }
+    ensures { λ r. ⌜ r ≡ areaAt (now (tariff .entry)) number ⌝ }
 {
     let at = area_place(tariff, counts, number);
     let f = area_fields(tariff, at);
@@ -176,7 +176,7 @@ pub fn stop(tariff: &[u8], counts: Counts, number: usize) -> Stop
 
 pub fn limits(tariff: &[u8], counts: Counts, number: usize) -> Limits
     requires { ⌜ Read (now tariff) counts × (number < counts .areas) ⌝ }
-    ensures { λ r. ⌜ r ≡ limitsOf (areaAt (now (tariff .entry)) counts number) ⌝ }
+    ensures { λ r. ⌜ r ≡ limitsOf (areaAt (now (tariff .entry)) number) ⌝ }
 {
     let at = area_place(tariff, counts, number);
     Limits {
@@ -197,7 +197,7 @@ pub fn parent(tariff: &[u8], counts: Counts, number: usize) -> usize
 // An area's level: 0 the state, 1 a region, 2 a city; as many areas lie above it.
 pub fn level(tariff: &[u8], counts: Counts, number: usize) -> u8
     requires { ⌜ Read (now tariff) counts × (number < counts .areas) ⌝ }
-    ensures { λ r. ⌜ r ≡ levelOf (now (tariff .entry)) counts number ⌝ }
+    ensures { λ r. ⌜ r ≡ levelOf (now (tariff .entry)) number ⌝ }
 {
     level_at(tariff, area_place(tariff, counts, number))
 }
@@ -205,7 +205,7 @@ pub fn level(tariff: &[u8], counts: Counts, number: usize) -> u8
 // An area's bicycle flat; in an area of kind 8 the bicycle's cap per window.
 pub fn flat(tariff: &[u8], counts: Counts, number: usize) -> Cents
     requires { ⌜ Read (now tariff) counts × (number < counts .areas) ⌝ }
-    ensures { λ r. ⌜ FlatOf (now (tariff .entry)) counts number (r .0) ⌝ }
+    ensures { λ r. ⌜ FlatOf (now (tariff .entry)) number (r .0) ⌝ }
 {
     Cents(flat_at(tariff, area_place(tariff, counts, number)) as u32)
 }
@@ -213,15 +213,15 @@ pub fn flat(tariff: &[u8], counts: Counts, number: usize) -> Cents
 // Whether an area is of kind 8.
 pub fn is_aachen(tariff: &[u8], counts: Counts, number: usize) -> bool
     requires { ⌜ Read (now tariff) counts × (number < counts .areas) ⌝ }
-    ensures { λ r. ⌜ r ≡ isAachen (now (tariff .entry)) counts number ⌝ }
+    ensures { λ r. ⌜ r ≡ isAachen (now (tariff .entry)) number ⌝ }
 {
     kind_at(tariff, area_place(tariff, counts, number)) == AACHEN_KIND
 }
 
 // The bicycle price per trip of an area of kind 8.
 pub fn bicycle_price(tariff: &[u8], counts: Counts, number: usize) -> Cents
-    requires { ⌜ Read (now tariff) counts × (number < counts .areas) × (isAachen (now tariff) counts number ≡ true) ⌝ }
-    ensures { λ r. ⌜ BicyclePriceOf (now (tariff .entry)) counts number (r .0) ⌝ }
+    requires { ⌜ Read (now tariff) counts × (number < counts .areas) × (isAachen (now tariff) number ≡ true) ⌝ }
+    ensures { λ r. ⌜ BicyclePriceOf (now (tariff .entry)) number (r .0) ⌝ }
 {
     Cents(bicycle_price_at(tariff, area_place(tariff, counts, number)) as u32)
 }
@@ -229,7 +229,7 @@ pub fn bicycle_price(tariff: &[u8], counts: Counts, number: usize) -> Cents
 // An area's town mark; an area of kind 1 has none.
 pub fn town(tariff: &[u8], counts: Counts, number: usize) -> Town
     requires { ⌜ Read (now tariff) counts × (number < counts .areas) ⌝ }
-    ensures { λ r. ⌜ r ≡ townAt (now (tariff .entry)) counts number ⌝ }
+    ensures { λ r. ⌜ r ≡ townAt (now (tariff .entry)) number ⌝ }
 {
     let at = area_place(tariff, counts, number);
     if kind_at(tariff, at) == AACHEN_KIND {
@@ -252,7 +252,7 @@ pub fn marked(town: Town) -> bool
 // Whether an area is a marked town.
 pub fn in_marked_town(tariff: &[u8], counts: Counts, area: usize) -> bool
     requires { ⌜ Read (now tariff) counts × (area < counts .areas) ⌝ }
-    ensures { λ r. ⌜ r ≡ inMarkedTown (now (tariff .entry)) counts area ⌝ }
+    ensures { λ r. ⌜ r ≡ inMarkedTown (now (tariff .entry)) area ⌝ }
 {
     marked(town(tariff, counts, area))
 }
@@ -263,7 +263,7 @@ const STATE: usize = 0;
 // Whether an area is, or lies within, another.
 pub fn lies_within(tariff: &[u8], counts: Counts, inner: usize, outer: usize) -> bool
     requires { ⌜ Read (now tariff) counts × (inner < counts .areas) ⌝ }
-    ensures { λ r. ⌜ r ≡ liesWithin (now (tariff .entry)) counts inner outer ⌝ }
+    ensures { λ r. ⌜ r ≡ liesWithin (now (tariff .entry)) inner outer ⌝ }
 {
     let above = parent(tariff, counts, inner);
     (inner == outer) | (above == outer) | (STATE == outer)

@@ -123,9 +123,9 @@ module _ {R : List ℕ → List ℕ → Type 0} {Known : ℕ → Type 0} (alike 
   unfolding addList addUp
   list-alike first zero charges from b b′ r known = r
   list-alike first (suc count) charges from b b′ r known =
-      fold-related (parentOf tariff counts) (counts .areas) (parent-there t) _ _ R
+      fold-related (parentOf tariff) (counts .areas) (parent-there t) _ _ R
       (λ a h x y s. here-alike x y s (first + count) (ride .class) a (getD charges (from + count) 0) (known count (omega arith) a h))
-      (levelOf tariff counts (ride .area)) (ride .area) there _ _
+      (levelOf tariff (ride .area)) (ride .area) there _ _
       (list-alike first count charges from b b′ r (λ i h. known i (omega arith)))
 
   -- one bicycle's new covering area and its payments

@@ -134,14 +134,14 @@ module _ (t : List ℕ) (counts : Counts) (w : List ℕ) (ride : Ride) where
 
 -- A ride of a faultless tariff can be priced, and no price is above 3,790,000 cents: so no charge is.
 module _ {t : List ℕ} {counts : Counts} {b : List ℕ} {ride : Ride} (r : Rideable t counts b ride) where
-  pub priceable : Priceable (areaAt t counts (ride .area)) ride
+  pub priceable : Priceable (areaAt t (ride .area)) ride
   priceable = record { ranges = faultless t counts (r .read) .area (ride .area) (r .area); minutes = r .minutes; km = r .km }
 
   pub rider-charge-most : (w : List ℕ) (child : Bool) (rider : ℕ) → riderCharge t counts w ride child rider ≤ mostPrice
   unfolding riderCharge
   rider-charge-most w child rider =
       le-trans (charge-smallest (is-tree (faultless t counts (r .read)) child) _ _ _ (ride .area) (r .area) _ .most)
-      (price-most (areaAt t counts (ride .area)) ride child priceable)
+      (price-most (areaAt t (ride .area)) ride child priceable)
 
   pub charges-most : (current : Bool) (i : ℕ) → getD (chargesOf t counts (inWindow current b) ride) i 0 ≤ mostPrice
   unfolding chargesOf eachPerson

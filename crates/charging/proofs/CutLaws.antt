@@ -148,4 +148,4 @@ cuts-in-range {tariff} {counts} {book} {ride} r w d i h =
     fits : (child : Bool) (rider : ℕ) → CutRange (riderCut tariff counts w ride child rider)
     fits child rider =
         in-range (faultless tariff counts (r .read)) w ride (r .area) child rider
-        (price-most (areaAt tariff counts (ride .area)) ride child (priceable r))
+        (price-most (areaAt tariff (ride .area)) ride child (priceable r))

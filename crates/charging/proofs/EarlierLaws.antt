@@ -204,7 +204,7 @@ module _ (tariff : List ℕ) (counts : Counts) (book : List ℕ) (current : Bool
     lacking-by (Part before) right x =
         omega (
           arith,
-          added-most (liesWithin tariff counts (before .area) x) (riderCharge tariff counts counting before child rider),
+          added-most (liesWithin tariff (before .area) x) (riderCharge tariff counts counting before child rider),
           rider-charge-most (right .rideable) counting child rider,
         )
 
@@ -286,7 +286,7 @@ module _ {tariff : List ℕ} {counts : Counts} {book : List ℕ} {current : Bool
       (record { own = link-fits _ (places .own); above = link-fits _ (places .above); top = link-fits _ (places .top) })
 
   -- What it is charged by the chain of the ride's area, and what is taken off, are those on what the earlier part leaves.
-  module _ {area : Area} {chain : Chain} {fare : ℕ} (e : area ≡ areaAt tariff counts (ride .area))
+  module _ {area : Area} {chain : Chain} {fare : ℕ} (e : area ≡ areaAt tariff (ride .area))
       (e′ : chain ≡ chainOf tariff counts (ride .area) child earlier) (e″ : fare ≡ priceOf area ride child) where
     abbrev after : List ℕ
     after = wordsAfter tariff counts (inWindow current book) earlier

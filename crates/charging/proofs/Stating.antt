@@ -206,7 +206,7 @@ module _ {tariff : List ℕ} {counts : Counts} {book : List ℕ} {current : Bool
       turn-charged chain w class fare e = e ∙ ap (λ (n : ℕ). personBy chain w (riders .first + i) class n fare) (is ∙ both .1)
 
   -- All of them are charged as on what the earlier part leaves.
-  module _ {area : Area} {chain : Chain} {fare : ℕ} (e : area ≡ areaAt tariff counts (ride .area))
+  module _ {area : Area} {chain : Chain} {fare : ℕ} (e : area ≡ areaAt tariff (ride .area))
       (e′ : chain ≡ chainOf tariff counts (ride .area) (riders .child) earlier) (e″ : fare ≡ priceOf area ride (riders .child)) where
     abbrev words : List ℕ
     words = wordsAfter tariff counts (inWindow current book) earlier

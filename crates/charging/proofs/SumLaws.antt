@@ -134,8 +134,8 @@ module _ {tariff : List ℕ} {counts : Counts} (t : FaultlessTariff tariff count
   pub up-size : (b : List ℕ) (a : ℕ) → a < counts .areas → length (addUp tariff counts b r class a c) ≡ length b
   unfolding addUp
   up-size b a there =
-      fold-keeps (parentOf tariff counts) (counts .areas) (parent-there t) adding (λ (l : List ℕ). length l ≡ length b)
-      (λ x h l e. here-size l r class x c ∙ e) (levelOf tariff counts a) a there b refl
+      fold-keeps (parentOf tariff) (counts .areas) (parent-there t) adding (λ (l : List ℕ). length l ≡ length b)
+      (λ x h l e. here-size l r class x c ∙ e) (levelOf tariff a) a there b refl
 
   -- a word outside the rider's own is not one of the two in any area
   off : (b : List ℕ) (a : ℕ) → a < counts .areas → (j : ℕ) → (j < 3 + 64 * r) ⊎ (67 + 64 * r ≤ j) → word (addHere b r class a c) j ≡ word b j
@@ -150,8 +150,8 @@ module _ {tariff : List ℕ} {counts : Counts} (t : FaultlessTariff tariff count
       → word (addUp tariff counts b r class a c) j ≡ word b j
   unfolding addUp
   up-other b a there j out =
-      fold-keeps (parentOf tariff counts) (counts .areas) (parent-there t) adding (λ (l : List ℕ). word l j ≡ word b j)
-      (λ x h l e. off l x h j out ∙ e) (levelOf tariff counts a) a there b refl
+      fold-keeps (parentOf tariff) (counts .areas) (parent-there t) adding (λ (l : List ℕ). word l j ≡ word b j)
+      (λ x h l e. off l x h j out ∙ e) (levelOf tariff a) a there b refl
 
   -- The rider's sums grow by the charge in each area that the ride's area lies within, and in no other.
   pub up-sum :
@@ -170,7 +170,7 @@ module _ {tariff : List ℕ} {counts : Counts} (t : FaultlessTariff tariff count
       ap (λ (l : List ℕ). sumOf which l r x) (climb-top tree adding a top b)
       ∙ rw (within-top tree a x top) (one a h b size (fits a (within-self tree a h)) which x hx))
       λ a h low above b size fits x hx.
-      let up = parentOf tariff counts a in
+      let up = parentOf tariff a in
       let own = fits a (within-self tree a h) in
       let fits′ : (y : ℕ) → within (treeOf tariff counts false) up y ≡ true → Fits (adding a b) r c y =
       λ y w which′.

@@ -57,10 +57,10 @@ module _ {tariff : List ℕ} {counts : Counts} (t : FaultlessTariff tariff count
         parent-there = parent-there t;
         parent-level = λ a h low. omega (arith, above-of t a h .level-up);
         top-level = λ a h. above-of t a h .state-only;
-        caps-order = λ a h. caps-in-order (areaAt tariff counts a) _;
+        caps-order = λ a h. caps-in-order (areaAt tariff a) _;
       }
 
   -- An area lies within what it lies within in the tree: three areas are enough for all levels.
-  pub lies-within : (a x : ℕ) → a < counts .areas → liesWithin tariff counts a x ≡ within (treeOf tariff counts child) a x
+  pub lies-within : (a x : ℕ) → a < counts .areas → liesWithin tariff a x ≡ within (treeOf tariff counts child) a x
   unfolding liesWithin
   lies-within a x h = within-past is-tree a x 2 h (is-tree .few-levels a h)

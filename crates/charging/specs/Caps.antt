@@ -34,7 +34,7 @@ abbrev pub treeOf : List ℕ → Counts → Bool → Tree
 treeOf tariff counts child =
     record {
       size = counts .areas;
-      parent = parentOf tariff counts;
-      level = levelOf tariff counts;
-      caps = λ area. capsHere (areaAt tariff counts area) child;
+      parent = parentOf tariff;
+      level = levelOf tariff;
+      caps = λ area. capsHere (areaAt tariff area) child;
     }

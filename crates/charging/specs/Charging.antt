@@ -28,7 +28,7 @@ placeOf party rider = cond (isChild rider) (1 + party .adults + (rider - firstCh
 
 -- what a rider pays where no cap cuts it, by whether it is a child
 abbrev pub priceFor : List ℕ → Counts → Ride → Bool → ℕ
-priceFor tariff counts ride child = priceOf (areaAt tariff counts (ride .area)) ride child
+priceFor tariff counts ride child = priceOf (areaAt tariff (ride .area)) ride child
 
 -- the smallest of the rider's price and what the caps of the ride's area and of every area above have left over the rider's sums
 unfoldable pub riderCharge : List ℕ → Counts → List ℕ → Ride → Bool → ℕ → ℕ

@@ -65,11 +65,11 @@ pub record Ridden (tariff : List ℕ) (counts : Counts) (book : List ℕ) (curre
 -- an area's sums lack an earlier part's charges where the part's area lies within it
 unfoldable pub pendingIn : List ℕ → Counts → Earlier → ℕ → Bool
 pendingIn tariff counts Nothing area = false
-pendingIn tariff counts (Part before) area = liesWithin tariff counts (before .area) area
+pendingIn tariff counts (Part before) area = liesWithin tariff (before .area) area
 
 -- an area of a chain, with its caps
 abbrev pub linkWith : List ℕ → Counts → ℕ → Bool → Bool → Link
-linkWith tariff counts area child pending = record { area = area; caps = capsHere (areaAt tariff counts area) child; pending = pending }
+linkWith tariff counts area child pending = record { area = area; caps = capsHere (areaAt tariff area) child; pending = pending }
 
 abbrev pub linkOf : List ℕ → Counts → ℕ → Bool → Earlier → Link
 linkOf tariff counts area child earlier = linkWith tariff counts area child (pendingIn tariff counts earlier area)
@@ -78,8 +78,8 @@ linkOf tariff counts area child earlier = linkWith tariff counts area child (pen
 abbrev pub chainOf : List ℕ → Counts → ℕ → Bool → Earlier → Chain
 chainOf tariff counts area child earlier = record {
   own = linkOf tariff counts area child earlier;
-  above = linkOf tariff counts (parentOf tariff counts area) child earlier;
-  top = linkOf tariff counts (parentOf tariff counts (parentOf tariff counts area)) child earlier;
+  above = linkOf tariff counts (parentOf tariff area) child earlier;
+  top = linkOf tariff counts (parentOf tariff (parentOf tariff area)) child earlier;
 }
 
 -- each area of a chain has its words in the book

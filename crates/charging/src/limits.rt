@@ -34,7 +34,7 @@ pub struct Chain {
 // An area's caps for an adult or a child. Of the area's record only what they are made of is read.
 pub fn caps_at(tariff: &[u8], counts: Counts, at: usize, child: bool) -> Caps
     requires { ⌜ Read (now tariff) counts × (at < counts .areas) ⌝ }
-    ensures { λ r. ⌜ r ≡ capsHere (areaAt (now (tariff .entry)) counts at) child ⌝ }
+    ensures { λ r. ⌜ r ≡ capsHere (areaAt (now (tariff .entry)) at) child ⌝ }
 {
     let of = limits(tariff, counts, at);
     let daily = of.day_cap;

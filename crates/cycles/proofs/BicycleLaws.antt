@@ -34,16 +34,16 @@ module _ (t : List ℕ) (counts : Counts) (old : ℕ) where
   unfolding flatBefore
   before-none none = rw (eq-eqb old 0 none)
 
-  before-used : (inner : ℕ) → old ≡ 1 + inner → flatBefore t counts old ≡ cond (isAachen t counts inner) 0 (flatOf t counts inner)
+  before-used : (inner : ℕ) → old ≡ 1 + inner → flatBefore t counts old ≡ cond (isAachen t inner) 0 (flatOf t inner)
   unfolding flatBefore
   before-used inner is =
       let same : old - 1 ≡ inner = omega arith in
       rw (ne-eqb old 0 (λ none. omega arith), same)
 
-  pub before-paid : (inner : ℕ) → old ≡ 1 + inner → isAachen t counts inner ≡ true → flatBefore t counts old ≡ 0
+  pub before-paid : (inner : ℕ) → old ≡ 1 + inner → isAachen t inner ≡ true → flatBefore t counts old ≡ 0
   before-paid inner is aachen = before-used inner is ∙ rw aachen
 
-  pub before-flat : (inner : ℕ) → old ≡ 1 + inner → isAachen t counts inner ≡ false → flatBefore t counts old ≡ flatOf t counts inner
+  pub before-flat : (inner : ℕ) → old ≡ 1 + inner → isAachen t inner ≡ false → flatBefore t counts old ≡ flatOf t inner
   before-flat inner is common = before-used inner is ∙ rw common
 
 -- A bicycle in a ride of area a: its new covering area and its charge.
@@ -59,19 +59,19 @@ module _ (t : List ℕ) (counts : Counts) (a : ℕ) (read : Read t counts) (here
 
   -- a bicycle that the ride's own area covers stays with it
   pub cover-own : (old : ℕ) → (old ≡ 0 → ⊥) → old - 1 ≡ a → NewCover t counts a old a
-  cover-own old used same = cover-more old a used (rw same (smallest-own (faultless t counts read) a a here (within-refl t counts a)))
+  cover-own old used same = cover-more old a used (rw same (smallest-own (faultless t counts read) a a here (within-refl t a)))
 
   -- the new covering area contains the old one: so where both are of kind 1, its flat is at least the old one's
   pub flat-before-most :
-      {old new : ℕ} → old ≤ counts .areas → NewCover t counts a old new → isAachen t counts new ≡ false → flatBefore t counts old ≤ flatOf t counts new
+      {old new : ℕ} → old ≤ counts .areas → NewCover t counts a old new → isAachen t new ≡ false → flatBefore t counts old ≤ flatOf t new
   unfolding newCover flatBefore
   flat-before-most {old} {new} known cover common =
       elim (ℕ-discrete old 0) [
         | yes none ↦ rw (eq-eqb old 0 none) (omega arith)
-        | no used ↦ rw (ne-eqb old 0 used) (go used (isAachen t counts (old - 1)) refl)
+        | no used ↦ rw (ne-eqb old 0 used) (go used (isAachen t (old - 1)) refl)
       ]
     where
-      go : (old ≡ 0 → ⊥) → (kind : Bool) → isAachen t counts (old - 1) ≡ kind → cond kind 0 (flatOf t counts (old - 1)) ≤ flatOf t counts new
+      go : (old ≡ 0 → ⊥) → (kind : Bool) → isAachen t (old - 1) ≡ kind → cond kind 0 (flatOf t (old - 1)) ≤ flatOf t new
       go used true is = omega arith
       go used false is =
           let f = faultless t counts read in
@@ -85,7 +85,7 @@ module _ (t : List ℕ) (counts : Counts) (a : ℕ) (read : Read t counts) (here
     pub bicycle-pays : {paid r : ℕ} → terms .aachen ≡ true → r ≡ payBy terms paid → BicycleCharge t counts a old paid r
     unfolding bicycleCharge payment
     bicycle-pays aachen pays =
-        let kind : isAachen t counts new ≡ true = sym (asked .kind) ∙ aachen in
+        let kind : isAachen t new ≡ true = sym (asked .kind) ∙ aachen in
         record {
           value = pays ∙ rw (← cover .value, kind, asked .price kind, asked .flat);
           range = omega (arith, asked .range);
@@ -94,7 +94,7 @@ module _ (t : List ℕ) (counts : Counts) (a : ℕ) (read : Read t counts) (here
     pub bicycle-flat : {paid before : ℕ} → terms .aachen ≡ false → before ≡ flatBefore t counts old → BicycleCharge t counts a old paid (terms .flat .0 - before)
     unfolding bicycleCharge
     bicycle-flat common is =
-        let kind : isAachen t counts new ≡ false = sym (asked .kind) ∙ common in
+        let kind : isAachen t new ≡ false = sym (asked .kind) ∙ common in
         record { value = rw (← cover .value, kind, asked .flat, is); range = omega (arith, asked .range) }
 
     pub bicycle-fits : {before : ℕ} → old ≤ counts .areas → terms .aachen ≡ false → before ≡ flatBefore t counts old → before ≤ terms .flat .0
@@ -105,12 +105,12 @@ module _ (t : List ℕ) (counts : Counts) (a : ℕ) (read : Read t counts) (here
   bicycle-most old paid known =
       let f = faultless t counts read in
       let new = newCover t counts a old in
-      let flat : flatOf t counts new ≤ mostMoney = omega (arith, f .area new (cover-there f a old here known) .bicycle-flat, area-flat t counts new) in
-      go new (isAachen t counts new) flat
+      let flat : flatOf t new ≤ mostMoney = omega (arith, f .area new (cover-there f a old here known) .bicycle-flat, area-flat t new) in
+      go new (isAachen t new) flat
     where
       go :
-          (new : ℕ) (kind : Bool) → flatOf t counts new ≤ mostMoney
-          → cond kind (min (bicyclePriceOf t counts new) (flatOf t counts new - paid)) (flatOf t counts new - flatBefore t counts old) ≤ mostMoney
+          (new : ℕ) (kind : Bool) → flatOf t new ≤ mostMoney
+          → cond kind (min (bicyclePriceOf t new) (flatOf t new - paid)) (flatOf t new - flatBefore t counts old) ≤ mostMoney
       go new true flat = omega arith
       go new false flat = omega arith
 
@@ -118,11 +118,11 @@ module _ (t : List ℕ) (counts : Counts) (a : ℕ) (read : Read t counts) (here
 module _ {t : List ℕ} {counts : Counts} (f : FaultlessTariff t counts) (cover : ℕ) (there : cover < counts .areas) where
   pub payment-most : (paid : ℕ) → paid ≤ mostPaid → paid + payment t counts cover paid ≤ mostPaid
   unfolding payment
-  payment-most paid small = omega (arith, f .area cover there .bicycle-flat, area-flat t counts cover)
+  payment-most paid small = omega (arith, f .area cover there .bicycle-flat, area-flat t cover)
 
   pub paid-with-most : (paid : ℕ) → paid ≤ mostPaid → paidWith t counts cover paid ≤ mostPaid
   unfolding paidWith
-  paid-with-most paid small = go (isAachen t counts cover)
+  paid-with-most paid small = go (isAachen t cover)
     where
       go : (kind : Bool) → cond kind (paid + payment t counts cover paid) paid ≤ mostPaid
       go true = payment-most paid small
@@ -134,6 +134,6 @@ module _ {t : List ℕ} {counts : Counts} (f : FaultlessTariff t counts) (cover 
       let same = e ∙ go (terms .aachen) (asked .kind) in
       record { value = same; range = rw same (paid-with-most paid small) }
     where
-      go : (kind : Bool) → kind ≡ isAachen t counts cover → cond kind (paid + payBy terms paid) paid ≡ paidWith t counts cover paid
+      go : (kind : Bool) → kind ≡ isAachen t cover → cond kind (paid + payBy terms paid) paid ≡ paidWith t counts cover paid
       go true is = rw (← is, asked .price (sym is), asked .flat)
       go false is = rw (← is)

@@ -30,10 +30,10 @@ pub per-trip-one :
     {tariff : List ℕ} {counts : Counts} {cover paid charge : ℕ} → PerTrip tariff counts cover paid charge → charge ≡ payment tariff counts cover paid
 unfolding payment
 per-trip-one {tariff} {counts} {cover} {paid} {charge} s =
-    elim (decLt (flatOf tariff counts cover) paid) [
+    elim (decLt (flatOf tariff cover) paid) [
       | yes past ↦ omega (arith, s .passed past)
       | no under ↦
-          elim (decLt charge (bicyclePriceOf tariff counts cover)) [
+          elim (decLt charge (bicyclePriceOf tariff cover)) [
             | yes less ↦ omega (arith, s .full (omega arith) less)
             | no whole ↦ omega (arith, s .at-most-price, s .within-cap (omega arith))
           ]
@@ -49,7 +49,7 @@ module _ {tariff : List ℕ} {counts : Counts} (t : FaultlessTariff tariff count
             rw (eq-eqb old 0 none)
             (record {
               there = here;
-              contains = record { trips = within-refl tariff counts area; olds = λ inner is. absurd (omega arith) };
+              contains = record { trips = within-refl tariff area; olds = λ inner is. absurd (omega arith) };
               least = λ outer both. both .trips;
             })
         | no used ↦
@@ -61,7 +61,7 @@ module _ {tariff : List ℕ} {counts : Counts} (t : FaultlessTariff tariff count
                 trips = s .one;
                 olds = λ inner is.
                     let same : old - 1 ≡ inner = omega arith in
-                    subst (λ (a : ℕ). liesWithin tariff counts a (smallestOf tariff counts area (old - 1)) ≡ true) same (s .other);
+                    subst (λ (a : ℕ). liesWithin tariff a (smallestOf tariff area (old - 1)) ≡ true) same (s .other);
               };
               least = λ outer both. s .least outer (both .trips) (both .olds (old - 1) (omega arith));
             })
@@ -74,8 +74,8 @@ module _ {tariff : List ℕ} {counts : Counts} (t : FaultlessTariff tariff count
 
   -- the new covering area contains the old one: so where both are of kind 1, its flat is at least the old one's
   old-flat :
-      (area old new inner : ℕ) → old ≤ counts .areas → CoverSays tariff counts area old new → isAachen tariff counts new ≡ false → old ≡ 1 + inner
-      → isAachen tariff counts inner ≡ false → flatOf tariff counts inner ≤ flatOf tariff counts new
+      (area old new inner : ℕ) → old ≤ counts .areas → CoverSays tariff counts area old new → isAachen tariff new ≡ false → old ≡ 1 + inner
+      → isAachen tariff inner ≡ false → flatOf tariff inner ≤ flatOf tariff new
   old-flat area old new inner known s common is common′ =
       let there : inner < counts .areas = omega arith in
       flat-within t inner new there (common-kind t new (s .there) common ∙ sym (common-kind t inner there common′)) (s .contains .olds inner is)

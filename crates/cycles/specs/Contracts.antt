@@ -41,9 +41,9 @@ pub record NewCover (tariff : List ℕ) (counts : Counts) (area old r : ℕ) : T
 
 -- what an area asks of bicycles
 pub record TermsOf (tariff : List ℕ) (counts : Counts) (area : ℕ) (r : Terms) : Type 0 where
-  pub kind : r .aachen ≡ isAachen tariff counts area
-  pub flat : r .flat .0 ≡ flatOf tariff counts area
-  pub price : isAachen tariff counts area ≡ true → r .price .0 ≡ bicyclePriceOf tariff counts area
+  pub kind : r .aachen ≡ isAachen tariff area
+  pub flat : r .flat .0 ≡ flatOf tariff area
+  pub price : isAachen tariff area ≡ true → r .price .0 ≡ bicyclePriceOf tariff area
   pub range : r .flat .0 ≤ mostMoney
 
 -- what a bicycle pays by an area's terms, and its payments with that

@@ -72,13 +72,13 @@ back-under-one first last change f least (nearer far) = nearer (omega (arith, fa
 -- Nothing but itself lies inside a city.
 pub within-city :
     {tariff : List ℕ} {counts : Counts} → FaultlessTariff tariff counts → (a city : ℕ) → a < counts .areas
-    → levelOf tariff counts city ≡ 2 → liesWithin tariff counts a city ≡ true → a ≡ city
+    → levelOf tariff city ≡ 2 → liesWithin tariff a city ≡ true → a ≡ city
 within-city {tariff} {counts} t a city there level inside =
     let one = above-of t a there in
-    let two = above-of t (parentOf tariff counts a) (parent-there t a there) in
-    within-cases tariff counts a city inside (λ self. self)
-    (λ parent. absurd (omega (arith, one .level, one .level-up, ap (levelOf tariff counts) parent)))
-    (λ top. absurd (omega (arith, one .level, one .level-up, two .level-up, ap (levelOf tariff counts) top)))
+    let two = above-of t (parentOf tariff a) (parent-there t a there) in
+    within-cases tariff a city inside (λ self. self)
+    (λ parent. absurd (omega (arith, one .level, one .level-up, ap (levelOf tariff) parent)))
+    (λ top. absurd (omega (arith, one .level, one .level-up, two .level-up, ap (levelOf tariff) top)))
 
 -- Of a trip with n stops, each of which the faultless tariff has:
 module _ {tariff : List ℕ} {counts : Counts} {bytes : List ℕ} {n : ℕ} (riding : Riding tariff counts bytes n) where
@@ -100,9 +100,9 @@ module _ {tariff : List ℕ} {counts : Counts} {bytes : List ℕ} {n : ℕ} (rid
   kept-inside some e =
       record {
         city = whole;
-        level = eqb-true _ _ (both-left (isCity tariff counts whole) (eqb (factorOf tariff counts whole .mark) 1) e);
+        level = eqb-true _ _ (both-left (isCity tariff whole) (eqb (factorOf tariff counts whole .mark) 1) e);
         inside = λ i h. whole-area some .contains i (omega arith) (omega arith);
-        mark = eqb-true _ _ (both-right (isCity tariff counts whole) (eqb (factorOf tariff counts whole .mark) 1) e);
+        mark = eqb-true _ _ (both-right (isCity tariff whole) (eqb (factorOf tariff counts whole .mark) 1) e);
       }
 
   pub inside-kept : 1 ≤ n → InMarkedCity tariff counts bytes n → keptWhole tariff counts whole ≡ true
@@ -113,7 +113,7 @@ module _ {tariff : List ℕ} {counts : Counts} {bytes : List ℕ} {n : ℕ} (rid
       within-city (faultless tariff counts (riding .read)) whole (marked .city) (is .there) (marked .level)
       (is .least (marked .city) (λ i h h′. marked .inside i (omega arith)))
       in
-      rw (same, eq-eqb (levelOf tariff counts (marked .city)) 2 (marked .level), eq-eqb (factorOf tariff counts (marked .city) .mark) 1 (marked .mark))
+      rw (same, eq-eqb (levelOf tariff (marked .city)) 2 (marked .level), eq-eqb (factorOf tariff counts (marked .city) .mark) 1 (marked .mark))
 
   -- where the words say that it is broken, the definition does;
   pub said-broken : (c : ℕ) → BrokenAt tariff counts bytes n c → breakOf tariff counts bytes n ≡ At c

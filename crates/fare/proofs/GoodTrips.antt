@@ -16,9 +16,7 @@ use Rattle.trip.specs.Record.{countAt}
 use Rattle.trip.specs.Trips.{tripOf}
 use Rattle.trip.specs.Contracts.{GoodTrip}
 use Rattle.trip.proofs.Clear.{good-fields}
-use Rattle.fare.specs.Parts.{ridesOf}
-use Rattle.fare.specs.Contracts.{Riding, InOrder, RideIs, EachRide}
-use Rattle.fare.proofs.PartLaws.{rides-there}
+use Rattle.fare.specs.Contracts.{Riding, InOrder}
 
 pub riding :
     {tariff : List ℕ} {counts : Counts} {bytes : List ℕ} → Read tariff counts → GoodTrip bytes (counts .stops)
@@ -28,12 +26,6 @@ riding read good = record { read = read; known = good .stops; fits = le-of-eq (g
 pub in-order : {bytes : List ℕ} {known : ℕ} → GoodTrip bytes known → InOrder (tripOf bytes)
 in-order good =
     record { two = good-fields good .ranges .least; most = good-fields good .ranges .most; times = good .order }
-
--- so each of its rides is in one of the tariff's areas, goes no farther than across the plane and takes at most a day
-pub good-rides-there :
-    (tariff : List ℕ) (counts : Counts) (bytes : List ℕ) → Read tariff counts → GoodTrip bytes (counts .stops)
-    → EachRide (λ ride. RideIs counts ride ride) (ridesOf tariff counts bytes (tripOf bytes))
-good-rides-there tariff counts bytes read good = rides-there tariff counts bytes (tripOf bytes) (riding read good) (in-order good)
 
 -- Whatever an area's five amounts are, the trip's level picks one of them or none: no price is made with a level that is refused.
 pub level-answered :

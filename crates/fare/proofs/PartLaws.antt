@@ -1,15 +1,13 @@
 -- The rides that a trip is charged as: the whole trip, or its two parts; each of the trip's class, level and party, and in its ranges.
 -- Assumes nothing.
 use Prim.Native.Nat.{ℕ, _+_, _-_, _≤_, _<_}
-use native.Mathlib.Nat.{zero-add}
 use native.Mathlib.Omega.{arith}
 use native.Mathlib.Decide.{decLt}
 use mathlib.Core.Path.{_≡_, refl, sym}
-use mathlib.Core.Bool.{true}
 use mathlib.Core.List.{List, [], _∷_}
 use lib.ListN.{length}
 use Rattle.layout.specs.declared.Counts.{Counts}
-use Rattle.areas.specs.Areas.{smallestOf, FaultlessTariff}
+use Rattle.areas.specs.Areas.{smallestOf}
 use Rattle.areas.proofs.Faultless.{faultless}
 use Rattle.areas.proofs.Within.{within-trans, smallest-unique}
 use Rattle.trip.specs.declared.Trip.{Trip}
@@ -31,7 +29,7 @@ module _ {tariff : List ℕ} {counts : Counts} {bytes : List ℕ} {n : ℕ} (rid
 
   pub parts-area :
       (c : ℕ) → c < n
-      → smallestOf tariff counts (areaOfStops tariff counts bytes 0 (c - 0)) (areaOfStops tariff counts bytes c (n - 1 - c))
+      → smallestOf tariff (areaOfStops tariff counts bytes 0 (c - 0)) (areaOfStops tariff counts bytes c (n - 1 - c))
       ≡ areaOfStops tariff counts bytes 0 (n - 1 - 0)
   parts-area c inside =
       let t = faultless tariff counts (riding .read) in

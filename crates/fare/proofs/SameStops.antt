@@ -34,8 +34,8 @@ module _ (bytes bytes′ : List ℕ) (same : (i : ℕ) → stopNumber bytes′ i
   unfolding areaOfStops
   area-same first zero = ap (λ (p : Stop). p .area) (stop-same first)
   area-same first (suc more) =
-      ap (λ (a : ℕ). smallestOf tariff counts a (stopOf tariff counts bytes′ (first + suc more) .area)) (area-same first more)
-      ∙ ap (λ (p : Stop). smallestOf tariff counts (areaOfStops tariff counts bytes first more) (p .area)) (stop-same (first + suc more))
+      ap (λ (a : ℕ). smallestOf tariff a (stopOf tariff counts bytes′ (first + suc more) .area)) (area-same first more)
+      ∙ ap (λ (p : Stop). smallestOf tariff (areaOfStops tariff counts bytes first more) (p .area)) (stop-same (first + suc more))
 
   pub away-same : (i : ℕ) → away tariff counts bytes′ i ≡ away tariff counts bytes i
   unfolding away

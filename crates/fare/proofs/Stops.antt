@@ -54,7 +54,7 @@ module _ {tariff : List ℕ} {counts : Counts} {trip : List ℕ} {n : ℕ} (ridi
       record {
         value = rw (none, of .value);
         there = of .ranges .area;
-        contains = λ i h h′. let e : i ≡ first = omega arith in rw (e, of .value) (within-refl tariff counts _);
+        contains = λ i h h′. let e : i ≡ first = omega arith in rw (e, of .value) (within-refl tariff _);
         least = λ d all. rw (of .value) (all first (omega arith) (omega arith));
       }
 
@@ -97,9 +97,9 @@ module _ {tariff : List ℕ} {counts : Counts} {trip : List ℕ} {n : ℕ} (ridi
   -- An area that contains each of the stops and lies within every area that contains them all is the smallest.
   pub area-unique :
       (first last r : ℕ) → first ≤ last → last < n
-      → ((i : ℕ) → first ≤ i → i ≤ last → liesWithin tariff counts (stopOf tariff counts trip i .area) r ≡ true)
-      → ((d : ℕ) → ((i : ℕ) → first ≤ i → i ≤ last → liesWithin tariff counts (stopOf tariff counts trip i .area) d ≡ true)
-      → liesWithin tariff counts r d ≡ true)
+      → ((i : ℕ) → first ≤ i → i ≤ last → liesWithin tariff (stopOf tariff counts trip i .area) r ≡ true)
+      → ((d : ℕ) → ((i : ℕ) → first ≤ i → i ≤ last → liesWithin tariff (stopOf tariff counts trip i .area) d ≡ true)
+      → liesWithin tariff r d ≡ true)
       → r ≡ areaOfStops tariff counts trip first (last - first)
   area-unique first last r order inside contains least =
       let place : first + (last - first) ≡ last = omega arith in

@@ -63,16 +63,16 @@ module _ (tariff : List ℕ) (counts : Counts) (bytes : List ℕ) where
 
 -- A marked town, and first class in one, as a test and in words.
 module _ (tariff : List ℕ) (counts : Counts) where
-  pub marked-says : (area : ℕ) → inMarkedTown tariff counts area ≡ true → MarkedTown tariff counts area
+  pub marked-says : (area : ℕ) → inMarkedTown tariff area ≡ true → MarkedTown tariff counts area
   unfolding inMarkedTown isMarked
-  marked-says area e = go (townAt tariff counts area) refl e
+  marked-says area e = go (townAt tariff area) refl e
     where
-      go : (town : Town) → townAt tariff counts area ≡ town → isMarked town ≡ true → MarkedTown tariff counts area
+      go : (town : Town) → townAt tariff area ≡ town → isMarked town ≡ true → MarkedTown tariff counts area
       go (Unmarked) is e = absurd (false≢true e)
       go (BaseDropped) is e = base-dropped is
       go (KmDropped) is e = km-dropped is
 
-  pub said-marked : {area : ℕ} → MarkedTown tariff counts area → inMarkedTown tariff counts area ≡ true
+  pub said-marked : {area : ℕ} → MarkedTown tariff counts area → inMarkedTown tariff area ≡ true
   unfolding inMarkedTown isMarked
   said-marked (base-dropped is) = rw is
   said-marked (km-dropped is) = rw is
@@ -81,13 +81,13 @@ module _ (tariff : List ℕ) (counts : Counts) where
   unfolding someInTown
   some-says [] e = absurd (false≢true e)
   some-says (ride ∷ rest) e =
-      one-of (inMarkedTown tariff counts (ride .area)) _ e (λ this. this-ride (marked-says (ride .area) this))
+      one-of (inMarkedTown tariff (ride .area)) _ e (λ this. this-ride (marked-says (ride .area) this))
       (λ later. later-ride (some-says rest later))
 
   said-some : {rides : List Ride} → SomeRide (λ ride. MarkedTown tariff counts (ride .area)) rides → someInTown tariff counts rides ≡ true
   unfolding someInTown
   said-some (this-ride this) = rw (said-marked this)
-  said-some (later-ride {ride} later) = rw (said-some later) (or-true (inMarkedTown tariff counts (ride .area)))
+  said-some (later-ride {ride} later) = rw (said-some later) (or-true (inMarkedTown tariff (ride .area)))
 
   module _ (bytes : List ℕ) (trip : Trip) where
     pub refused-says : townRefuses tariff counts bytes trip ≡ true → FirstClassInTown tariff counts bytes trip
@@ -108,10 +108,10 @@ abbrev pub kindMarked : Kind → Bool
 kindMarked (Common) = false
 kindMarked (Aachen ticket price town) = isMarked town
 
-pub town-priced : (tariff : List ℕ) (counts : Counts) (a : ℕ) → inMarkedTown tariff counts a ≡ kindMarked (areaAt tariff counts a .kind)
+pub town-priced : (tariff : List ℕ) (counts : Counts) (a : ℕ) → inMarkedTown tariff a ≡ kindMarked (areaAt tariff a .kind)
 unfolding inMarkedTown townAt isMarked
-town-priced tariff counts a = go (isAachen tariff counts a) refl
+town-priced tariff counts a = go (isAachen tariff a) refl
   where
-    go : (is : Bool) → isAachen tariff counts a ≡ is → inMarkedTown tariff counts a ≡ kindMarked (areaAt tariff counts a .kind)
-    go true e = rw (area-aachen tariff counts a e) refl
-    go false e = rw (area-common tariff counts a e, e) refl
+    go : (is : Bool) → isAachen tariff a ≡ is → inMarkedTown tariff a ≡ kindMarked (areaAt tariff a .kind)
+    go true e = rw (area-aachen tariff a e) refl
+    go false e = rw (area-common tariff a e, e) refl

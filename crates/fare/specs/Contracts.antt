@@ -104,7 +104,7 @@ pub record OfTrip (trip : Trip) (ride : Ride) : Type 0 where
 
 -- the area of a trip's stops `first` to `last` is a marked town
 abbrev pub betweenInTown : List ℕ → Counts → List ℕ → ℕ → ℕ → Bool
-betweenInTown tariff counts bytes first last = inMarkedTown tariff counts (areaOfStops tariff counts bytes first (last - first))
+betweenInTown tariff counts bytes first last = inMarkedTown tariff (areaOfStops tariff counts bytes first (last - first))
 
 -- whether first class is refused in a town; it goes by the stops and the class of the trip, whatever its stamps are
 pub record TownRefuses (tariff : List ℕ) (counts : Counts) (bytes : List ℕ) (stops class : ℕ) (r : Bool) : Type 0 where

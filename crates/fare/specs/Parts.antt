@@ -43,7 +43,7 @@ pub record FarthestChange (tariff : List ℕ) (counts : Counts) (bytes : List �
 
 -- a trip with the area of a city is never broken where the city's region says so
 unfoldable pub keptWhole : List ℕ → Counts → ℕ → Bool
-keptWhole tariff counts area = isCity tariff counts area && eqb (factorOf tariff counts area .mark) 1
+keptWhole tariff counts area = isCity tariff area && eqb (factorOf tariff counts area .mark) 1
 
 -- first and last stop are at the same point, or the squared distance to the change exceeds f² times the squared distance from first to last
 unfoldable pub comesBack : Stop → Stop → Stop → ℕ → Bool
@@ -68,8 +68,8 @@ breakOf tariff counts bytes stops =
 -- The same in the rule's words. All stops lie inside one city, whose region has the mark 1;
 pub record InMarkedCity (tariff : List ℕ) (counts : Counts) (bytes : List ℕ) (stops : ℕ) : Type 0 where
   pub city : ℕ
-  pub level : levelOf tariff counts city ≡ 2
-  pub inside : (i : ℕ) → i < stops → liesWithin tariff counts (stopOf tariff counts bytes i .area) city ≡ true
+  pub level : levelOf tariff city ≡ 2
+  pub inside : (i : ℕ) → i < stops → liesWithin tariff (stopOf tariff counts bytes i .area) city ≡ true
   pub mark : factorOf tariff counts city .mark ≡ 1
 
 -- the trip comes back to its first stop's point, or so near to it that the change is more than f times as far away;

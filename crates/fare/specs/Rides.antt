@@ -20,16 +20,16 @@ stopOf tariff counts trip i = stopAt tariff counts (stopNumber trip i)
 unfoldable pub areaOfStops : List ℕ → Counts → List ℕ → ℕ → ℕ → ℕ
 areaOfStops tariff counts trip first zero = stopOf tariff counts trip first .area
 areaOfStops tariff counts trip first (suc more) =
-    smallestOf tariff counts (areaOfStops tariff counts trip first more) (stopOf tariff counts trip (first + suc more) .area)
+    smallestOf tariff (areaOfStops tariff counts trip first more) (stopOf tariff counts trip (first + suc more) .area)
 
 -- it contains the area of each of those stops, and lies within every area that contains them all
 pub record AreaOfStops (tariff : List ℕ) (counts : Counts) (trip : List ℕ) (first last r : ℕ) : Type 0 where
   pub value : r ≡ areaOfStops tariff counts trip first (last - first)
   pub there : r < counts .areas
-  pub contains : (i : ℕ) → first ≤ i → i ≤ last → liesWithin tariff counts (stopOf tariff counts trip i .area) r ≡ true
+  pub contains : (i : ℕ) → first ≤ i → i ≤ last → liesWithin tariff (stopOf tariff counts trip i .area) r ≡ true
   pub least :
-      (d : ℕ) → ((i : ℕ) → first ≤ i → i ≤ last → liesWithin tariff counts (stopOf tariff counts trip i .area) d ≡ true)
-      → liesWithin tariff counts r d ≡ true
+      (d : ℕ) → ((i : ℕ) → first ≤ i → i ≤ last → liesWithin tariff (stopOf tariff counts trip i .area) d ≡ true)
+      → liesWithin tariff r d ≡ true
 
 -- the ride from one stop of a trip to another, in so many minutes: the smallest area containing the stops from the one to the other, the
 -- kilometres between these two, and the trip's class, level and party

@@ -14,7 +14,7 @@ use Rattle.fare.specs.Parts.{ridesOf}
 -- the area of one of some rides is a marked town
 unfoldable pub someInTown : List ℕ → Counts → List Ride → Bool
 someInTown tariff counts [] = false
-someInTown tariff counts (ride ∷ rest) = inMarkedTown tariff counts (ride .area) || someInTown tariff counts rest
+someInTown tariff counts (ride ∷ rest) = inMarkedTown tariff (ride .area) || someInTown tariff counts rest
 
 -- class 1, and the area of one of the trip's rides is a marked town
 unfoldable pub townRefuses : List ℕ → Counts → List ℕ → Trip → Bool
@@ -22,8 +22,8 @@ townRefuses tariff counts bytes trip = eqb (trip .class) 1 && someInTown tariff 
 
 -- The same in the rule's words. The area is a town where the base price or the km price is dropped;
 pub data MarkedTown (tariff : List ℕ) (counts : Counts) (area : ℕ) : Type 0 where
-  base-dropped : townAt tariff counts area ≡ BaseDropped → MarkedTown tariff counts area
-  km-dropped : townAt tariff counts area ≡ KmDropped → MarkedTown tariff counts area
+  base-dropped : townAt tariff area ≡ BaseDropped → MarkedTown tariff counts area
+  km-dropped : townAt tariff area ≡ KmDropped → MarkedTown tariff counts area
 
 -- one ride of some is such;
 pub data SomeRide (P : Ride → Type 0) : List Ride → Type 0 where

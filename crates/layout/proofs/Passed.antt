@@ -106,7 +106,7 @@ most (suc n) bound each = each n (omega arith)
 module _ (b : List ℕ) (at : ℕ) (soFar : Counts) (p : Passed b at soFar) where
   pub few-long : 0 < soFar .areas → ones (soFar .longs) < soFar .areas
   few-long some =
-      let first = area-entry b (areaPlace b 0) (areasBefore b 0) (kindOf b soFar 0) (p .area 0 some) in
+      let first = area-entry b (areaPlace b 0) (areasBefore b 0) (kindOf b 0) (p .area 0 some) in
       let common = rw (place-none b) at (state-kind b soFar (first .right)) in
       omega (arith, ap ones (p .reached .longs), long-fewer b common (soFar .areas) some)
 
@@ -115,7 +115,7 @@ module _ (b : List ℕ) (at : ℕ) (soFar : Counts) (p : Passed b at soFar) wher
       most (soFar .factors) (factorsDue b soFar) (λ k h. factor-entry b (factorPlace soFar k) (factorsBefore soFar k) (p .factor k h) .few)
 
   pub few-factors : soFar .factors ≤ soFar .areas
-  few-factors = omega (arith, due-factors, wide-most (levelOf b soFar) (soFar .areas))
+  few-factors = omega (arith, due-factors, wide-most (levelOf b) (soFar .areas))
 
   pub few-stops : soFar .stops ≤ mostStops
   few-stops = most (soFar .stops) mostStops (λ j h. stop-entry b (stopPlace soFar j) (stopsBefore soFar j) (p .stop j h) .few)
@@ -180,7 +180,7 @@ comes b at soFar p =
     let areas =
     after-many b (areaPlace b) (areasBefore b) (soFar .areas)
     (λ i h.
-    let kind = kindOf b soFar i in
+    let kind = kindOf b i in
     let is = p .area i h in
     let facts = area-entry b (areaPlace b i) (areasBefore b i) kind is in (
       omega (arith, place-next b i),

@@ -34,7 +34,7 @@ module _ (b : List ℕ) (soFar : Counts) (kind : ℕ) (f : AreaFields) (some : 0
             (ap (λ (place : ℕ). eqb kind aachenKind || leb (f .«bicycle_flat») (areaFields b place .«bicycle_flat»)) (sym (place-none b)))
         | no other ↦
             rw (ne-eqb (soFar .areas) 0 (λ e. omega arith), level, ne-eqb (f .parent) 0 other)
-            (sym (never (ltb (f .parent) (soFar .areas)) (eqb kind aachenKind || leb (f .«bicycle_flat») (flatOf b soFar (f .parent)))))
+            (sym (never (ltb (f .parent) (soFar .areas)) (eqb kind aachenKind || leb (f .«bicycle_flat») (flatOf b (f .parent)))))
       ]
 
   -- No area has a level besides.
@@ -42,15 +42,15 @@ module _ (b : List ℕ) (soFar : Counts) (kind : ℕ) (f : AreaFields) (some : 0
   unfolding placeRight
   place-of-none no-region no-city =
       rw (ne-eqb (soFar .areas) 0 (λ e. omega arith), ne-eqb (f .level) 1 no-region, ne-eqb (f .level) 2 no-city)
-      (sym (never (ltb (f .parent) (soFar .areas)) (leb (f .«bicycle_flat») (flatOf b soFar (f .parent)))))
+      (sym (never (ltb (f .parent) (soFar .areas)) (leb (f .«bicycle_flat») (flatOf b (f .parent)))))
 
 -- area 0 has level 0, and is of kind 1
 module _ (b : List ℕ) (counts : Counts)
-    (e : areaRight b (areasBefore b 0) (kindOf b counts 0) (areaFields b (areaPlace b 0)) (longFields b (areaPlace b 0)) ≡ true) where
-  pub state-level : levelOf b counts 0 ≡ 0
+    (e : areaRight b (areasBefore b 0) (kindOf b 0) (areaFields b (areaPlace b 0)) (longFields b (areaPlace b 0)) ≡ true) where
+  pub state-level : levelOf b 0 ≡ 0
   unfolding placeRight
   state-level = search told
 
-  pub state-kind : kindOf b counts 0 ≡ commonKind
+  pub state-kind : kindOf b 0 ≡ commonKind
   unfolding placeRight
   state-kind = search told

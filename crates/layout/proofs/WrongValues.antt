@@ -359,12 +359,12 @@ module _ (b : List ℕ) (soFar : Counts) (kind : ℕ) (f : AreaFields) where
   FirstWrong = ((f .level ≡ 0 → ⊥) ⊎ (f .parent ≡ 0 → ⊥)) ⊎ (kind ≡ commonKind → ⊥)
 
   abbrev CityWrong : Type 0
-  CityWrong = ((f .level ≡ 2 → ⊥) ⊎ (levelOf b soFar (f .parent) ≡ 1 → ⊥)) ⊎ (kindOf b soFar (f .parent) ≡ kind → ⊥)
+  CityWrong = ((f .level ≡ 2 → ⊥) ⊎ (levelOf b (f .parent) ≡ 1 → ⊥)) ⊎ (kindOf b (f .parent) ≡ kind → ⊥)
 
   abbrev LaterWrong : Type 0
   LaterWrong =
       ((soFar .areas ≤ f .parent) ⊎ (((f .level ≡ 1 → ⊥) ⊎ (f .parent ≡ 0 → ⊥)) × CityWrong))
-      ⊎ (((f .level ≡ 1 → ⊥) ⊎ (kind ≡ aachenKind → ⊥)) × (flatOf b soFar (f .parent) < f .«bicycle_flat»))
+      ⊎ (((f .level ≡ 1 → ⊥) ⊎ (kind ≡ aachenKind → ⊥)) × (flatOf b (f .parent) < f .«bicycle_flat»))
 
   first-fails : Fails (eqb (f .level) 0 && eqb (f .parent) 0 && eqb kind commonKind) FirstWrong
   first-fails = both _ _ (both _ _ (other (f .level) 0) (other (f .parent) 0)) (other kind commonKind)
@@ -373,15 +373,15 @@ module _ (b : List ℕ) (soFar : Counts) (kind : ℕ) (f : AreaFields) where
       Fails
       (ltb (f .parent) (soFar .areas)
       && (eqb (f .level) 1 && eqb (f .parent) 0
-      || eqb (f .level) 2 && eqb (levelOf b soFar (f .parent)) 1 && eqb (kindOf b soFar (f .parent)) kind)
-      && (eqb (f .level) 1 && eqb kind aachenKind || leb (f .«bicycle_flat») (flatOf b soFar (f .parent))))
+      || eqb (f .level) 2 && eqb (levelOf b (f .parent)) 1 && eqb (kindOf b (f .parent)) kind)
+      && (eqb (f .level) 1 && eqb kind aachenKind || leb (f .«bicycle_flat») (flatOf b (f .parent))))
       LaterWrong
   later-fails =
       both _ _
       (both _ _ (not-below (f .parent) (soFar .areas))
       (either _ _ (both _ _ (other (f .level) 1) (other (f .parent) 0))
-      (both _ _ (both _ _ (other (f .level) 2) (other (levelOf b soFar (f .parent)) 1)) (other (kindOf b soFar (f .parent)) kind))))
-      (either _ _ (both _ _ (other (f .level) 1) (other kind aachenKind)) (above (f .«bicycle_flat») (flatOf b soFar (f .parent))))
+      (both _ _ (both _ _ (other (f .level) 2) (other (levelOf b (f .parent)) 1)) (other (kindOf b (f .parent)) kind))))
+      (either _ _ (both _ _ (other (f .level) 1) (other kind aachenKind)) (above (f .«bicycle_flat») (flatOf b (f .parent))))
 
   -- by the level: a region's parent is wrong, or what is wrong with a city
   by-level : 0 < soFar .areas → (f .level ≡ 1 → f .parent ≡ 0 → ⊥) → (f .level ≡ 2 → WrongPlace b soFar kind f) → WrongPlace b soFar kind f

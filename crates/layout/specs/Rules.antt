@@ -82,14 +82,14 @@ unfoldable pub longRight : AreaFields → LongFields → Bool
 longRight f g = ticketsRight f g && money (g .«bicycle_price») && (eqb (g .town) 0 || leb (g .town) 2 && eqb (f .level) 2)
 
 -- the level, the flat and the kind of an area by number
-abbrev pub levelOf : List ℕ → Counts → ℕ → ℕ
-levelOf b counts number = areaFields b (areaPlace b number) .level
+abbrev pub levelOf : List ℕ → ℕ → ℕ
+levelOf b number = areaFields b (areaPlace b number) .level
 
-abbrev pub flatOf : List ℕ → Counts → ℕ → ℕ
-flatOf b counts number = areaFields b (areaPlace b number) .«bicycle_flat»
+abbrev pub flatOf : List ℕ → ℕ → ℕ
+flatOf b number = areaFields b (areaPlace b number) .«bicycle_flat»
 
-abbrev pub kindOf : List ℕ → Counts → ℕ → ℕ
-kindOf b counts number = kindAt b (areaPlace b number)
+abbrev pub kindOf : List ℕ → ℕ → ℕ
+kindOf b number = kindAt b (areaPlace b number)
 
 -- the next area after those so far: area 0 alone has level 0, parent 0, and it is of kind 1; a region's parent is 0; a city's is an earlier
 -- region of its own kind; no flat exceeds its parent's, but that of a region of kind 8 is not compared with the state's
@@ -98,8 +98,8 @@ placeRight b soFar kind f =
     cond (eqb (soFar .areas) 0) (eqb (f .level) 0 && eqb (f .parent) 0 && eqb kind commonKind)
     (ltb (f .parent) (soFar .areas)
     && (eqb (f .level) 1 && eqb (f .parent) 0
-    || eqb (f .level) 2 && eqb (levelOf b soFar (f .parent)) 1 && eqb (kindOf b soFar (f .parent)) kind)
-    && (eqb (f .level) 1 && eqb kind aachenKind || leb (f .«bicycle_flat») (flatOf b soFar (f .parent))))
+    || eqb (f .level) 2 && eqb (levelOf b (f .parent)) 1 && eqb (kindOf b (f .parent)) kind)
+    && (eqb (f .level) 1 && eqb kind aachenKind || leb (f .«bicycle_flat») (flatOf b (f .parent))))
 
 -- every rule about an area's values
 abbrev pub areaRight : List ℕ → Counts → ℕ → AreaFields → LongFields → Bool
@@ -111,12 +111,12 @@ unfoldable pub wideAmong : (ℕ → ℕ) → ℕ → ℕ
 wideAmong level zero = 0
 wideAmong level (suc n) = wideAmong level n + cond (ltb (level n) 2) 1 0
 
-abbrev pub wideAreas : List ℕ → Counts → ℕ → ℕ
-wideAreas b counts n = wideAmong (levelOf b counts) n
+abbrev pub wideAreas : List ℕ → ℕ → ℕ
+wideAreas b n = wideAmong (levelOf b) n
 
 -- the state and each region have a factor record: so many are due for the areas so far
 abbrev pub factorsDue : List ℕ → Counts → ℕ
-factorsDue b soFar = wideAreas b soFar (soFar .areas)
+factorsDue b soFar = wideAreas b (soFar .areas)
 
 -- the next factor record after so many: the factor; the mark is 0, or 1 where it is not the state's, which is the first
 abbrev pub factorRight : Factor → ℕ → Bool

@@ -111,7 +111,7 @@ Read b counts = readTariff b ≡ Faultless counts
 -- every record before a place that so many areas, factor records and stops reach is faultless
 pub record Passed (b : List ℕ) (at : ℕ) (soFar : Counts) : Type 0 where
   pub reached : Reached b at soFar
-  pub area : (i : ℕ) → i < soFar .areas → entryAt b (areaPlace b i) (areasBefore b i) ≡ Area (kindOf b soFar i)
+  pub area : (i : ℕ) → i < soFar .areas → entryAt b (areaPlace b i) (areasBefore b i) ≡ Area (kindOf b i)
   pub factor : (k : ℕ) → k < soFar .factors → entryAt b (factorPlace soFar k) (factorsBefore soFar k) ≡ Factor
   pub stop : (j : ℕ) → j < soFar .stops → entryAt b (stopPlace soFar j) (stopsBefore soFar j) ≡ Stop
 

@@ -63,11 +63,11 @@ pub data WrongPlace (b : List ℕ) (soFar : Counts) (kind : ℕ) (f : AreaFields
   high-level : 2 < f .level → WrongPlace b soFar kind f
   region-parent : 0 < soFar .areas → f .level ≡ 1 → (f .parent ≡ 0 → ⊥) → WrongPlace b soFar kind f
   city-parent :
-      0 < soFar .areas → f .level ≡ 2 → (f .parent < soFar .areas → levelOf b soFar (f .parent) ≡ 1 → ⊥) → WrongPlace b soFar kind f
+      0 < soFar .areas → f .level ≡ 2 → (f .parent < soFar .areas → levelOf b (f .parent) ≡ 1 → ⊥) → WrongPlace b soFar kind f
   city-kind :
-      0 < soFar .areas → f .level ≡ 2 → f .parent < soFar .areas → (kindOf b soFar (f .parent) ≡ kind → ⊥) → WrongPlace b soFar kind f
+      0 < soFar .areas → f .level ≡ 2 → f .parent < soFar .areas → (kindOf b (f .parent) ≡ kind → ⊥) → WrongPlace b soFar kind f
   flat-above :
-      0 < soFar .areas → f .parent < soFar .areas → (f .level ≡ 1 → kind ≡ aachenKind → ⊥) → flatOf b soFar (f .parent) < f .«bicycle_flat»
+      0 < soFar .areas → f .parent < soFar .areas → (f .level ≡ 1 → kind ≡ aachenKind → ⊥) → flatOf b (f .parent) < f .«bicycle_flat»
       → WrongPlace b soFar kind f
 
 -- an area: base 0..10,000; km price 0..1,000; validity 30..1,440; percentages 0..100; its trip cap; day cap 0..60,000, or 65,535, which

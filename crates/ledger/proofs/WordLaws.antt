@@ -9,8 +9,8 @@ use mathlib.Core.Logic.{inl, inr}
 use mathlib.Core.List.{List}
 use lib.ListN.{length, getD, replicate, length-replicate}
 use lib.Seq.{ext-getD}
-use Rattle.wire.specs.Number.{getLe, Bytes}
-use Rattle.wire.proofs.Number.{length-put, read-back, read-other, put-reads, get-range}
+use Rattle.wire.specs.Number.{getLe}
+use Rattle.wire.proofs.Number.{length-put, read-back, read-other, put-reads}
 use Rattle.ledger.specs.Words.{bookSize, bookWords, freshBook, word, putWord}
 
 -- A word put leaves the book as long as it was.
@@ -71,7 +71,3 @@ zeros-fresh b size zeros = ext-getD 0 b freshBook (size ∙ sym fresh-size) at
     at i h =
         let place : 4 * (i / 4) + i % 4 ≡ i = omega arith in
         rw zero-at (rw place at (bytes-zero 4 b (4 * (i / 4)) (zeros (i / 4) (omega arith)) (i % 4) (omega arith)))
-
--- A word of bytes is one that four bytes hold.
-pub word-range : (b : List ℕ) (i : ℕ) → Bytes b → word b i < 2 ^ 32
-word-range b i bytes = get-range 4 b (4 * i) bytes

@@ -35,12 +35,12 @@ use Rattle.charging.proofs.PostedLaws.{wordsIn, chargesIn, posted-cover, posted
 -- Where the new covering area is of kind 8, the charge is the payment per trip, and it is added.
 module _ (tariff : List ℕ) (counts : Counts) where
   charge-paid :
-      (area old paid : ℕ) → isAachen tariff counts (newCover tariff counts area old) ≡ true
+      (area old paid : ℕ) → isAachen tariff (newCover tariff counts area old) ≡ true
       → bicycleCharge tariff counts area old paid ≡ payment tariff counts (newCover tariff counts area old) paid
   unfolding bicycleCharge
   charge-paid area old paid aachen = rw aachen
 
-  payment-added : (cover paid : ℕ) → isAachen tariff counts cover ≡ true → paidWith tariff counts cover paid ≡ paid + payment tariff counts cover paid
+  payment-added : (cover paid : ℕ) → isAachen tariff cover ≡ true → paidWith tariff counts cover paid ≡ paid + payment tariff counts cover paid
   unfolding paidWith
   payment-added cover paid aachen = rw aachen
 
@@ -60,17 +60,17 @@ module _ (tariff : List ℕ) (counts : Counts) where
 
 module _ {tariff : List ℕ} {counts : Counts} (t : FaultlessTariff tariff counts) where
   -- the state is not of kind 8
-  not-state : (a : ℕ) → isAachen tariff counts a ≡ true → 0 < a
+  not-state : (a : ℕ) → isAachen tariff a ≡ true → 0 < a
   not-state a aachen =
       elim (ℕ-discrete a 0) [
-        | yes none ↦ absurd (omega (arith, eqb-true (kindOf tariff counts a) aachenKind aachen, ap (kindOf tariff counts) none, state-common t))
+        | yes none ↦ absurd (omega (arith, eqb-true (kindOf tariff a) aachenKind aachen, ap (kindOf tariff) none, state-common t))
         | no some ↦ omega arith
       ]
 
   -- a cap of kind 8 is at most that of a wider area of this kind: so payments within the old one are within the new one
   still-within :
       (area old paid : ℕ) → area < counts .areas → old ≤ counts .areas → WithinCap tariff counts old paid
-      → isAachen tariff counts (newCover tariff counts area old) ≡ true → paid ≤ flatOf tariff counts (newCover tariff counts area old)
+      → isAachen tariff (newCover tariff counts area old) ≡ true → paid ≤ flatOf tariff (newCover tariff counts area old)
   still-within area old paid here known s aachen =
       let new = newCover tariff counts area old in
       elim (ℕ-discrete old 0) [
@@ -92,7 +92,7 @@ module _ {tariff : List ℕ} {counts : Counts} {book : List ℕ} {ride : Ride} (
   -- A bicycle that an area of kind 8 covers pays per trip.
   pub ride-pays :
       (k : ℕ) → k < ride .party .bicycles → WithinCap tariff counts (coverWord (wordsIn window book) k) (paidWord (wordsIn window book) k)
-      → isAachen tariff counts (newCover tariff counts (ride .area) (coverWord (wordsIn window book) k)) ≡ true
+      → isAachen tariff (newCover tariff counts (ride .area) (coverWord (wordsIn window book) k)) ≡ true
       → RidePays tariff counts (newCover tariff counts (ride .area) (coverWord (wordsIn window book) k)) (paidWord (wordsIn window book) k)
       (getD (chargesIn tariff counts book window ride) (1 + ride .party .adults + ride .party .children + k) 0)
       (paidWord (posted tariff counts book window checkout ride) k)
@@ -128,7 +128,7 @@ module _ {tariff : List ℕ} {counts : Counts} {book : List ℕ} {ride : Ride} (
               covered = λ cover is aachen.
                   let same : cover ≡ new = omega arith in
                   rw same
-                  (ride-pays k on s (ap (isAachen tariff counts) (sym same) ∙ aachen) .within-cap);
+                  (ride-pays k on s (ap (isAachen tariff) (sym same) ∙ aachen) .within-cap);
             }
         | no off ↦ rw (posted-uncovered ok window checkout room k (omega arith) few, posted-unpaid ok window checkout room k (omega arith)) s
       ]

@@ -175,25 +175,25 @@ module _ {t : List ℕ} {counts : Counts} (f : FaultlessTariff t counts) where
   -- Levels differ by one from area to area, so the areas of a way are different ones.
   pub way-apart : (at : ℕ) → at < counts .areas → Apart (wayOf t counts at)
   way-apart at there =
-      let up = parentOf t counts at in
+      let up = parentOf t at in
       let there′ = parent-there f at there in
       record {
         own = omega (arith, f .few-areas);
         above = omega (arith, f .few-areas, there′);
         top = omega arith;
-        above-own = λ low e. omega (arith, tree .parent-level at there low, ap (levelOf t counts) e);
+        above-own = λ low e. omega (arith, tree .parent-level at there low, ap (levelOf t) e);
         top-own = λ low e.
             let step = tree .parent-level at there (omega arith) in
             let last = tree .parent-level up there′ (omega (arith, step)) in
-            omega (arith, step, last, ap (levelOf t counts) (e ∙ sym (parent-top f at there)));
+            omega (arith, step, last, ap (levelOf t) (e ∙ sym (parent-top f at there)));
         top-above = λ low e.
             let step = tree .parent-level at there (omega arith) in
             let last = tree .parent-level up there′ (omega (arith, step)) in
-            omega (arith, last, ap (levelOf t counts) (e ∙ sym (parent-top f at there)));
+            omega (arith, last, ap (levelOf t) (e ∙ sym (parent-top f at there)));
       }
 
   pub way-found :
-      {at above level : ℕ} → at < counts .areas → above ≡ parentOf t counts at → level ≡ levelOf t counts at
+      {at above level : ℕ} → at < counts .areas → above ≡ parentOf t at → level ≡ levelOf t at
       → WayOf t counts at (record { own = at; above = above; top = 0; level = level })
   way-found {at} there e e′ = rw (e, e′) (record { value = refl; apart = way-apart at there })
 
@@ -203,26 +203,26 @@ module _ {t : List ℕ} {counts : Counts} (f : FaultlessTariff t counts) where
       → addAlong b rider class (wayOf t counts at) amount ≡ addUp t counts b rider class at amount
   unfolding addUp addAlong
   along-up b rider class at amount there =
-      elim (ℕ-discrete (levelOf t counts at) 0) [
-        | yes e ↦ rw (eq-eqb (levelOf t counts at) 0 e) (sym (climb-top tree step at e b))
+      elim (ℕ-discrete (levelOf t at) 0) [
+        | yes e ↦ rw (eq-eqb (levelOf t at) 0 e) (sym (climb-top tree step at e b))
         | no ne ↦
-            let low : 0 < levelOf t counts at = omega arith in
+            let low : 0 < levelOf t at = omega arith in
             let next = tree .parent-level at there low in
-            elim (ℕ-discrete (levelOf t counts at) 1) [
+            elim (ℕ-discrete (levelOf t at) 1) [
               | yes e ↦
-                  rw (ne-eqb (levelOf t counts at) 0 ne, eq-eqb (levelOf t counts at) 1 e)
+                  rw (ne-eqb (levelOf t at) 0 ne, eq-eqb (levelOf t at) 1 e)
                   (sym (climb-up tree step at there low b ∙ climb-top tree step up (omega (arith, next)) (step at b)))
               | no ne′ ↦
-                  let low′ : 0 < levelOf t counts up = omega (arith, next) in
+                  let low′ : 0 < levelOf t up = omega (arith, next) in
                   let last = tree .parent-level up (parent-there f at there) low′ in
-                  rw (ne-eqb (levelOf t counts at) 0 ne, ne-eqb (levelOf t counts at) 1 ne′, ← parent-top f at there)
+                  rw (ne-eqb (levelOf t at) 0 ne, ne-eqb (levelOf t at) 1 ne′, ← parent-top f at there)
                   (sym (climb-up tree step at there low b ∙ climb-up tree step up (parent-there f at there) low′ (step at b)
-                  ∙ climb-top tree step (parentOf t counts up) (omega (arith, next, last, tree .few-levels at there)) (step up (step at b))))
+                  ∙ climb-top tree step (parentOf t up) (omega (arith, next, last, tree .few-levels at there)) (step up (step at b))))
             ]
       ]
     where
       up : ℕ
-      up = parentOf t counts at
+      up = parentOf t at
 
       step : ℕ → List ℕ → List ℕ
       step a sums = addHere sums rider class a amount

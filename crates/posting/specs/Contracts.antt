@@ -46,7 +46,7 @@ pub record AddingHere (book : List ℕ) (rider at amount : ℕ) : Type 0 where
 
 -- a ride's area, the one above it and the state
 abbrev pub wayOf : List ℕ → Counts → ℕ → Way
-wayOf tariff counts area = record { own = area; above = parentOf tariff counts area; top = 0; level = levelOf tariff counts area }
+wayOf tariff counts area = record { own = area; above = parentOf tariff area; top = 0; level = levelOf tariff area }
 
 -- each has its words in the book, and as far as the level says they are different ones
 pub record Apart (way : Way) : Type 0 where

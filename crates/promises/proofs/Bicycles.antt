@@ -70,7 +70,7 @@ module _ {tariff : List ℕ} {counts : Counts} {checkout k : ℕ} (few : k < 10)
             let same = cover-one t (takes .covers) (cover-says t (ride .area) (coverWord w k) (ok .area) known) in
             pays-on {part = partOf tariff counts book window ride} on takes
             (λ aachen.
-            pays-alike same (ride-pays ok window checkout (window-room right) k on s (ap (isAachen tariff counts) (sym same) ∙ aachen)))
+            pays-alike same (ride-pays ok window checkout (window-room right) k on s (ap (isAachen tariff) (sym same) ∙ aachen)))
             rest
         | no off ↦
             let past : ride .party .bicycles ≤ k = omega arith in

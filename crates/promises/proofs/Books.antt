@@ -94,7 +94,7 @@ module _ {tariff : List ℕ} {counts : Counts} {book : List ℕ} {ride : Ride} (
   abbrev inTree : ℕ → Bool
   inTree area = within (treeOf tariff counts false) (ride .area) area
 
-  inside : (area : ℕ) → liesWithin tariff counts (ride .area) area ≡ inTree area
+  inside : (area : ℕ) → liesWithin tariff (ride .area) area ≡ inTree area
   inside area = lies-within t false (ride .area) area (ok .area)
 
   all-takes :
@@ -122,13 +122,13 @@ module _ {tariff : List ℕ} {counts : Counts} {book : List ℕ} {ride : Ride} (
   payments-take :
       (area old paid : ℕ) {charge paid′ : ℕ} → charge ≡ bicycleCharge tariff counts area old paid
       → paid′ ≡ paidWith tariff counts (newCover tariff counts area old) paid
-      → Takes (isAachen tariff counts (newCover tariff counts area old) ≡ true) charge paid paid′
+      → Takes (isAachen tariff (newCover tariff counts area old) ≡ true) charge paid paid′
   unfolding bicycleCharge paidWith
-  payments-take area old paid is leaves = rw (is, leaves) (go (isAachen tariff counts (newCover tariff counts area old)) refl)
+  payments-take area old paid is leaves = rw (is, leaves) (go (isAachen tariff (newCover tariff counts area old)) refl)
     where
       go :
-          (aachen : Bool) → isAachen tariff counts (newCover tariff counts area old) ≡ aachen
-          → Takes (isAachen tariff counts (newCover tariff counts area old) ≡ true) (bicycleCharge tariff counts area old paid) paid
+          (aachen : Bool) → isAachen tariff (newCover tariff counts area old) ≡ aachen
+          → Takes (isAachen tariff (newCover tariff counts area old) ≡ true) (bicycleCharge tariff counts area old paid) paid
           (paidWith tariff counts (newCover tariff counts area old) paid)
       go true e = record { grows = λ _. rw e; stays = λ out. absurd (out e) }
       go false e = record { grows = λ aachen. absurd (false≢true (sym e ∙ aachen)); stays = λ _. rw e }
@@ -231,10 +231,10 @@ takes-one (no out) same s s′ = s .stays out ∙ sym (s′ .stays out)
 
 -- whether a ride counts in a rider's sums is decided
 counts-or-not : (tariff : List ℕ) (counts : Counts) (ride : Ride) (rider area : ℕ) → Dec (CountsIn tariff counts ride rider area)
-counts-or-not tariff counts ride rider area = go (carries (ride .party) rider) refl (liesWithin tariff counts (ride .area) area) refl
+counts-or-not tariff counts ride rider area = go (carries (ride .party) rider) refl (liesWithin tariff (ride .area) area) refl
   where
     go :
-        (on : Bool) → carries (ride .party) rider ≡ on → (inside : Bool) → liesWithin tariff counts (ride .area) area ≡ inside
+        (on : Bool) → carries (ride .party) rider ≡ on → (inside : Bool) → liesWithin tariff (ride .area) area ≡ inside
         → Dec (CountsIn tariff counts ride rider area)
     go true e true e′ = yes (record { on-trip = e; inside = e′ })
     go true e false e′ = no (λ c. false≢true (sym e′ ∙ c .inside))
@@ -248,8 +248,8 @@ second-or-not tariff counts ride rider area =
       | no other ↦ no (λ c. other (c .0))
     ]
 
-aachen-or-not : (tariff : List ℕ) (counts : Counts) (area : ℕ) → Dec (isAachen tariff counts area ≡ true)
-aachen-or-not tariff counts area = go (isAachen tariff counts area)
+aachen-or-not : (tariff : List ℕ) (counts : Counts) (area : ℕ) → Dec (isAachen tariff area ≡ true)
+aachen-or-not tariff counts area = go (isAachen tariff area)
   where
     go : (aachen : Bool) → Dec (aachen ≡ true)
     go true = yes refl
@@ -259,13 +259,13 @@ aachen-or-not tariff counts area = go (isAachen tariff counts area)
 paid-one :
     {tariff : List ℕ} {counts : Counts} {area old paid charge charge′ new : ℕ} → FaultlessTariff tariff counts
     → BicycleSays tariff counts area old paid charge → BicycleSays tariff counts area old paid charge′ → CoverSays tariff counts area old new
-    → isAachen tariff counts new ≡ true → charge ≡ charge′
+    → isAachen tariff new ≡ true → charge ≡ charge′
 paid-one {tariff} {counts} {area} {old} {paid} {new = cover} right s s′ covers aachen = is s ∙ sym (is s′)
   where
     is : {c : ℕ} → BicycleSays tariff counts area old paid c → c ≡ payment tariff counts cover paid
     is b =
         let same = cover-one right (b .covers) covers in
-        per-trip-one (b .per-trip (ap (isAachen tariff counts) same ∙ aachen)) ∙ ap (λ (x : ℕ). payment tariff counts x paid) same
+        per-trip-one (b .per-trip (ap (isAachen tariff) same ∙ aachen)) ∙ ap (λ (x : ℕ). payment tariff counts x paid) same
 
 -- The words say one book of bytes alone.
 module _ {tariff : List ℕ} {counts : Counts} (t : FaultlessTariff tariff counts) {w : List ℕ} {window : Window} {checkout : ℕ} {ride : Ride} where

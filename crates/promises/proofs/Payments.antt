@@ -84,7 +84,7 @@ module _ {tariff : List ℕ} {counts : Counts} {checkout k : ℕ} (few : k < 10)
             let takes = says .covered k on in
             let same = cover-one t (takes .covers) (cover-says t (ride .area) (coverWord w k) (ok .area) known) in
             let new : takes .new ≡ newCover tariff counts (ride .area) (c .cover) = same ∙ ap (newCover tariff counts (ride .area)) (are .cover) in
-            let (cover, paid) = by-kind takes (isAachen tariff counts (takes .new)) refl in
+            let (cover, paid) = by-kind takes (isAachen tariff (takes .new)) refl in
             rw (lt-ltb k (ride .party .bicycles) on, ← new) (record { cover = cover; payments = paid })
         | no off ↦
             let past : ride .party .bicycles ≤ k = omega arith in
@@ -96,7 +96,7 @@ module _ {tariff : List ℕ} {counts : Counts} {checkout k : ℕ} (few : k < 10)
       by-kind :
           {charge cover′ paid′ : ℕ}
           (takes : BicycleTakes tariff counts (ride .area) charge (coverWord (inWindow (window .current) book) k) (paidWord (inWindow (window .current) book) k) cover′ paid′)
-          (aachen : Bool) → isAachen tariff counts (takes .new) ≡ aachen
+          (aachen : Bool) → isAachen tariff (takes .new) ≡ aachen
           → (cover′ ≡ 1 + takes .new) × (paid′ ≡ totalOf (cond aachen (charge ∷ c .charged) (c .charged)))
       by-kind takes true e = (takes .cover-is, takes .payments .grows e ∙ omega (arith, are .payments))
       by-kind takes false e = (takes .cover-is, takes .payments .stays (λ is. false≢true (sym e ∙ is)) ∙ are .payments)

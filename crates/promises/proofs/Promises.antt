@@ -81,8 +81,8 @@ module _ (tariff : List ℕ) (counts : Counts) (read : Read tariff counts) (ride
     -- at most the second-class cap, a child's where the rider is one.
     pub caps-never-passed :
         (x : ℕ) → x < counts .areas
-        → AtMost (allTotal tree x rides) (allCap (areaAt tariff counts x) (isChild rider))
-        × AtMost (secondTotal tree x rides) (secondCap (areaAt tariff counts x) (isChild rider))
+        → AtMost (allTotal tree x rides) (allCap (areaAt tariff x) (isChild rider))
+        × AtMost (secondTotal tree x rides) (secondCap (areaAt tariff x) (isChild rider))
     caps-never-passed = promise-three .caps-hold
 
     -- A charge below its price leaves one of that ride's caps exactly full. `es` are the rides before it, `later` those after it.

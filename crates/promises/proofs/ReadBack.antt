@@ -58,7 +58,7 @@ module _ {tariff : List ℕ} {counts : Counts} {book : List ℕ} {ride : Ride} (
   rider-right : (rider : ℕ) → AmountInRange (amountFor (isChild rider) rider)
   rider-right rider =
       record {
-        price = omega (arith, says .makes-up, price-most (areaAt tariff counts (ride .area)) ride (isChild rider) (priceable ok));
+        price = omega (arith, says .makes-up, price-most (areaAt tariff (ride .area)) ride (isChild rider) (priceable ok));
         cut =
             record {
               unnamed = says .none;

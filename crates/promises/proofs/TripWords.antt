@@ -42,22 +42,22 @@ use Rattle.promises.specs.TripWords.{
 
 module _ {tariff : List ℕ} {counts : Counts} (t : FaultlessTariff tariff counts) where
   -- the state has level 0
-  state-level : {a : ℕ} → a < counts .areas → levelOf tariff counts (parentOf tariff counts (parentOf tariff counts a)) ≡ 0
+  state-level : {a : ℕ} → a < counts .areas → levelOf tariff (parentOf tariff (parentOf tariff a)) ≡ 0
   state-level {a} h =
       let one = above-of t a h in
-      let two = above-of t (parentOf tariff counts a) (parent-there t a h) in
+      let two = above-of t (parentOf tariff a) (parent-there t a h) in
       omega (arith, one .level, one .level-up, two .level-up)
 
   -- a region that contains an area is the area itself or the one above it
-  module _ {a r : ℕ} (h : a < counts .areas) (level : levelOf tariff counts r ≡ 1) (inside : liesWithin tariff counts a r ≡ true) where
-    own-region : (levelOf tariff counts a ≡ 2 → parentOf tariff counts a ≡ r) × ((levelOf tariff counts a ≡ 2 → ⊥) → a ≡ r)
+  module _ {a r : ℕ} (h : a < counts .areas) (level : levelOf tariff r ≡ 1) (inside : liesWithin tariff a r ≡ true) where
+    own-region : (levelOf tariff a ≡ 2 → parentOf tariff a ≡ r) × ((levelOf tariff a ≡ 2 → ⊥) → a ≡ r)
     own-region =
         let up = above-of t a h .level-up in
         let top = state-level h in
-        within-cases tariff counts a r inside
-        (λ is. (λ city. absurd (omega (arith, city, ap (levelOf tariff counts) is, level)), λ other. is))
-        (λ is. (λ city. is, λ other. absurd (other (omega (arith, up, ap (levelOf tariff counts) is, level)))))
-        (λ is. absurd (omega (arith, top, ap (levelOf tariff counts) is, level)))
+        within-cases tariff a r inside
+        (λ is. (λ city. absurd (omega (arith, city, ap (levelOf tariff) is, level)), λ other. is))
+        (λ is. (λ city. is, λ other. absurd (other (omega (arith, up, ap (levelOf tariff) is, level)))))
+        (λ is. absurd (omega (arith, top, ap (levelOf tariff) is, level)))
 
   -- ---- The factor.
 
@@ -67,7 +67,7 @@ module _ {tariff : List ℕ} {counts : Counts} (t : FaultlessTariff tariff count
     region-only a b =
         let first = own-region h (a .level) (a .contains-one) in
         let second = own-region h (b .level) (b .contains-one) in
-        elim (ℕ-discrete (levelOf tariff counts one) 2) [
+        elim (ℕ-discrete (levelOf tariff one) 2) [
           | yes city ↦ sym (first .0 city) ∙ second .0 city
           | no more ↦ sym (first .1 more) ∙ second .1 more
         ]
@@ -79,51 +79,51 @@ module _ {tariff : List ℕ} {counts : Counts} (t : FaultlessTariff tariff count
     holds-only (the-state none) (the-state none′) = refl
 
     pub factor-only : {f f′ : Factor} → FactorForBoth tariff counts one other f → FactorForBoth tariff counts one other f′ → f ≡ f′
-    factor-only a b = a .is ∙ ap (λ (r : ℕ). factorAt tariff counts (wideAreas tariff counts r)) (holds-only (a .holds) (b .holds)) ∙ sym (b .is)
+    factor-only a b = a .is ∙ ap (λ (r : ℕ). factorAt tariff counts (wideAreas tariff r)) (holds-only (a .holds) (b .holds)) ∙ sym (b .is)
 
     -- The region of the smallest area that contains both is it.
-    holds-smallest : other < counts .areas → HoldsForBoth tariff counts one other (regionOf tariff counts (smallestOf tariff counts one other))
+    holds-smallest : other < counts .areas → HoldsForBoth tariff counts one other (regionOf tariff (smallestOf tariff one other))
     unfolding regionOf
-    holds-smallest h′ = go (ℕ-discrete (levelOf tariff counts area) 2) (ℕ-discrete (levelOf tariff counts area) 1)
+    holds-smallest h′ = go (ℕ-discrete (levelOf tariff area) 2) (ℕ-discrete (levelOf tariff area) 1)
       where
         area : ℕ
-        area = smallestOf tariff counts one other
+        area = smallestOf tariff one other
 
         go :
-            Dec (levelOf tariff counts (smallestOf tariff counts one other) ≡ 2) → Dec (levelOf tariff counts (smallestOf tariff counts one other) ≡ 1)
+            Dec (levelOf tariff (smallestOf tariff one other) ≡ 2) → Dec (levelOf tariff (smallestOf tariff one other) ≡ 1)
             → HoldsForBoth tariff counts one other
-            (cond (eqb (levelOf tariff counts (smallestOf tariff counts one other)) 2) (parentOf tariff counts (smallestOf tariff counts one other))
-            (smallestOf tariff counts one other))
+            (cond (eqb (levelOf tariff (smallestOf tariff one other)) 2) (parentOf tariff (smallestOf tariff one other))
+            (smallestOf tariff one other))
         go (yes city) _ =
             let s = smallest t one other h h′ in
-            let a = smallestOf tariff counts one other in
+            let a = smallestOf tariff one other in
             let there : a < counts .areas = rw (← s .value) (s .there) in
-            let up = within-parent tariff counts a (parentOf tariff counts a) refl in
-            rw (eq-eqb (levelOf tariff counts a) 2 city)
+            let up = within-parent tariff a (parentOf tariff a) refl in
+            rw (eq-eqb (levelOf tariff a) 2 city)
             (the-region
             (record {
               there = parent-there t a there;
               level = omega (arith, above-of t a there .level-up, city);
-              contains-one = within-trans t one a (parentOf tariff counts a) h (s .one) up;
-              contains-other = within-trans t other a (parentOf tariff counts a) h′ (s .other) up;
+              contains-one = within-trans t one a (parentOf tariff a) h (s .one) up;
+              contains-other = within-trans t other a (parentOf tariff a) h′ (s .other) up;
             }))
         go (no more) (yes region) =
             let s = smallest t one other h h′ in
-            let a = smallestOf tariff counts one other in
-            rw (ne-eqb (levelOf tariff counts a) 2 more)
+            let a = smallestOf tariff one other in
+            rw (ne-eqb (levelOf tariff a) 2 more)
             (the-region (record { there = s .there; level = region; contains-one = s .one; contains-other = s .other }))
         go (no more) (no less) =
             let s = smallest t one other h h′ in
-            let a = smallestOf tariff counts one other in
+            let a = smallestOf tariff one other in
             let above = above-of t a (s .there) in
             let state : a ≡ 0 = above .state-only (omega (arith, above .level, more, less)) in
-            rw (ne-eqb (levelOf tariff counts a) 2 more, state)
+            rw (ne-eqb (levelOf tariff a) 2 more, state)
             (the-state
             (λ region both.
             let inside = s .least region (both .contains-one) (both .contains-other) in
             let most = within-most t a region (s .there) inside in
             let same : region ≡ a = omega (arith, most, state) in
-            less (ap (levelOf tariff counts) (sym same) ∙ both .level)))
+            less (ap (levelOf tariff) (sym same) ∙ both .level)))
 
 -- The factor of a trip is that of its two parts, wherever it is broken.
 pub factor-of-parts :
@@ -138,7 +138,7 @@ factor-of-parts {tariff} {counts} {bytes} {n} riding c inside =
     record {
       whose = _;
       holds = holds-smallest t one other;
-      is = ap (λ (a : ℕ). factorAt tariff counts (wideAreas tariff counts (regionOf tariff counts a))) (sym (parts-area riding c inside));
+      is = ap (λ (a : ℕ). factorAt tariff counts (wideAreas tariff (regionOf tariff a))) (sym (parts-area riding c inside));
     }
 
 -- ---- First class.
@@ -148,17 +148,17 @@ module _ {tariff : List ℕ} {counts : Counts} {bytes : List ℕ} (trip : Trip) 
   t = faultless tariff counts (riding .read)
 
   -- a marked town is a city
-  town-city : {a : ℕ} → a < counts .areas → MarkedTown tariff counts a → levelOf tariff counts a ≡ 2
+  town-city : {a : ℕ} → a < counts .areas → MarkedTown tariff counts a → levelOf tariff a ≡ 2
   unfolding townAt
-  town-city {a} h marked = by-kind (isAachen tariff counts a) refl
+  town-city {a} h marked = by-kind (isAachen tariff a) refl
     where
-      ranged : isAachen tariff counts a ≡ true → MarkedTown tariff counts a → levelOf tariff counts a ≡ 2
+      ranged : isAachen tariff a ≡ true → MarkedTown tariff counts a → levelOf tariff a ≡ 2
       ranged is (base-dropped e) =
-          let range = rw (area-aachen tariff counts a is, e, area-level tariff counts a) at (t .area a h .kind) in range .2
+          let range = rw (area-aachen tariff a is, e, area-level tariff a) at (t .area a h .kind) in range .2
       ranged is (km-dropped e) =
-          let range = rw (area-aachen tariff counts a is, e, area-level tariff counts a) at (t .area a h .kind) in range .2
+          let range = rw (area-aachen tariff a is, e, area-level tariff a) at (t .area a h .kind) in range .2
 
-      by-kind : (is : Bool) → isAachen tariff counts a ≡ is → levelOf tariff counts a ≡ 2
+      by-kind : (is : Bool) → isAachen tariff a ≡ is → levelOf tariff a ≡ 2
       by-kind true is = ranged is marked
       by-kind false is = absurd (none marked)
         where
@@ -167,11 +167,11 @@ module _ {tariff : List ℕ} {counts : Counts} {bytes : List ℕ} (trip : Trip) 
           none (km-dropped e) = let z : _≡_ {A = ℕ} 0 1 = cc (rw is at e) in omega arith
 
   -- what lies within a city is the city
-  city-alone : {a city : ℕ} → a < counts .areas → levelOf tariff counts city ≡ 2 → liesWithin tariff counts a city ≡ true → a ≡ city
+  city-alone : {a city : ℕ} → a < counts .areas → levelOf tariff city ≡ 2 → liesWithin tariff a city ≡ true → a ≡ city
   city-alone {a} {city} h level inside =
-      within-cases tariff counts a city inside (λ is. is)
-      (λ is. absurd (omega (arith, above-of t a h .level, above-of t a h .level-up, ap (levelOf tariff counts) is, level)))
-      (λ is. absurd (omega (arith, state-level t h, ap (levelOf tariff counts) is, level)))
+      within-cases tariff a city inside (λ is. is)
+      (λ is. absurd (omega (arith, above-of t a h .level, above-of t a h .level-up, ap (levelOf tariff) is, level)))
+      (λ is. absurd (omega (arith, state-level t h, ap (levelOf tariff) is, level)))
 
   -- so where the trip's area is a marked town, its first part's is, or it is the trip's only ride
   part-too :

@@ -20,7 +20,7 @@ use Rattle.settle.specs.Outcome.{oneMore}
 -- a ride counts in a rider's sums of an area: the rider is on the trip, and the ride's area is that area or lies within it
 pub record CountsIn (tariff : List ℕ) (counts : Counts) (ride : Ride) (rider area : ℕ) : Type 0 where
   pub on-trip : carries (ride .party) rider ≡ true
-  pub inside : liesWithin tariff counts (ride .area) area ≡ true
+  pub inside : liesWithin tariff (ride .area) area ≡ true
 
 -- a sum takes an amount where something holds, and stays elsewhere
 pub record Takes (here : Type 0) (amount old new : ℕ) : Type 0 where
@@ -40,7 +40,7 @@ pub record BicycleTakes (tariff : List ℕ) (counts : Counts) (area charge old p
   pub new : ℕ
   pub cover-is : cover′ ≡ 1 + new
   pub covers : CoverSays tariff counts area old new
-  pub payments : Takes (isAachen tariff counts new ≡ true) charge paid paid′
+  pub payments : Takes (isAachen tariff new ≡ true) charge paid paid′
 
 -- the book after a ride charged in a window. w stands for the words that count: the book's own in the open window, a fresh book's, which
 -- are all 0, in the next. Word 0: trips in the window with this one; 1: opening minute; 2: last check-out. The rider's own charge is added

@@ -30,7 +30,7 @@ cycledOn tariff counts k part before =
     let new = newCover tariff counts (part .ride .area) (before .cover) in
     record {
       cover = 1 + new;
-      charged = cond (isAachen tariff counts new) (bicycleChargeOf (part .ride) (part .charges) k ∷ before .charged) (before .charged);
+      charged = cond (isAachen tariff new) (bicycleChargeOf (part .ride) (part .charges) k ∷ before .charged) (before .charged);
     }
 
 -- with some parts

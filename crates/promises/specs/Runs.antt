@@ -84,7 +84,7 @@ pub data PaysInTurn (tariff : List ℕ) (counts : Counts) (k : ℕ) : ℕ → �
   pays-on :
       {part : Part} {parts : List Part} {old paid between paid-between old′ paid′ : ℕ} → k < part .ride .party .bicycles
       → (takes : BicycleTakes tariff counts (part .ride .area) (bicycleChargeOf (part .ride) (part .charges) k) old paid between paid-between)
-      → (isAachen tariff counts (takes .new) ≡ true
+      → (isAachen tariff (takes .new) ≡ true
       → RidePays tariff counts (takes .new) paid (bicycleChargeOf (part .ride) (part .charges) k) paid-between)
       → PaysInTurn tariff counts k between paid-between parts old′ paid′ → PaysInTurn tariff counts k old paid (part ∷ parts) old′ paid′
   pays-off :

@@ -18,9 +18,9 @@ use Rattle.fare.specs.Towns.{MarkedTown, SomeRide}
 -- a region that contains two areas
 pub record RegionOfBoth (tariff : List ℕ) (counts : Counts) (one other region : ℕ) : Type 0 where
   pub there : region < counts .areas
-  pub level : levelOf tariff counts region ≡ 1
-  pub contains-one : liesWithin tariff counts one region ≡ true
-  pub contains-other : liesWithin tariff counts other region ≡ true
+  pub level : levelOf tariff region ≡ 1
+  pub contains-one : liesWithin tariff one region ≡ true
+  pub contains-other : liesWithin tariff other region ≡ true
 
 -- the region containing both, or the state where none does
 pub data HoldsForBoth (tariff : List ℕ) (counts : Counts) (one other : ℕ) : ℕ → Type 0 where
@@ -31,7 +31,7 @@ pub data HoldsForBoth (tariff : List ℕ) (counts : Counts) (one other : ℕ) : 
 pub record FactorForBoth (tariff : List ℕ) (counts : Counts) (one other : ℕ) (factor : Factor) : Type 0 where
   pub whose : ℕ
   pub holds : HoldsForBoth tariff counts one other whose
-  pub is : factor ≡ factorAt tariff counts (wideAreas tariff counts whose)
+  pub is : factor ≡ factorAt tariff counts (wideAreas tariff whose)
 
 -- ---- First class.
 

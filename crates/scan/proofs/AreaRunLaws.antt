@@ -89,7 +89,7 @@ module _ (b : List ℕ) (run : Run) (kind : ℕ) where
       let end : areaEnd b (run .at) ≡ at = omega (arith, ap longOf (facts .kind-is)) in (
         record {
           passed = rw end at (passed-area b (run .at) soFar (next .passed) kind (next .here));
-          due = rw (due-is, next .due, place) (sym (wide-next (levelOf b soFar) (soFar .areas)));
+          due = rw (due-is, next .due, place) (sym (wide-next (levelOf b) (soFar .areas)));
           some = omega arith;
           no-factor = facts .here .no-factor;
           no-stop = facts .here .no-stop;

@@ -136,9 +136,9 @@ module _ (n : ℕ) (b : List ℕ) (there : n ≤ length b) where
           | yes earlier ↦
               let there : f .parent < mostAreas = omega arith in
               let parent = first-fields (f .parent) there in
-              let level : levelOf (take n b) soFar (f .parent) ≡ levelOf b soFar (f .parent) = ap (λ (g : AreaFields). g .level) parent in
-              let flat : flatOf (take n b) soFar (f .parent) ≡ flatOf b soFar (f .parent) = ap (λ (g : AreaFields). g .«bicycle_flat») parent in
-              let kinds : kindOf (take n b) soFar (f .parent) ≡ kindOf b soFar (f .parent) =
+              let level : levelOf (take n b) (f .parent) ≡ levelOf b (f .parent) = ap (λ (g : AreaFields). g .level) parent in
+              let flat : flatOf (take n b) (f .parent) ≡ flatOf b (f .parent) = ap (λ (g : AreaFields). g .«bicycle_flat») parent in
+              let kinds : kindOf (take n b) (f .parent) ≡ kindOf b (f .parent) =
               rw (first-places (f .parent) (omega arith)) (first-kind (f .parent) there)
               in
               rw (level, flat, kinds)
@@ -147,7 +147,7 @@ module _ (n : ℕ) (b : List ℕ) (there : n ≤ length b) where
 
     first-due : (soFar : Counts) → soFar .areas ≤ mostAreas → factorsDue (take n b) soFar ≡ factorsDue b soFar
     first-due soFar few =
-        wide-same (levelOf (take n b) soFar) (levelOf b soFar) (soFar .areas)
+        wide-same (levelOf (take n b)) (levelOf b) (soFar .areas)
         (λ i h. ap (λ (g : AreaFields). g .level) (first-fields i (omega arith)))
 
   module _ (at : ℕ) (soFar : Counts) (fits : at + longestRecord ≤ n) (few : soFar .areas ≤ mostAreas) (wide : (areaSize + longMore) * mostAreas ≤ n) where

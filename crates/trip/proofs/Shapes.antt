@@ -1,14 +1,14 @@
 -- A trip record at a place, case by case: each way through `shapeAt`; and 5, in the rules' words: the slice is no trip exactly when one
 -- of them says so.
 -- Assumes nothing.
-use Prim.Native.Nat.{ℕ, _+_, _≤_, _<_}
+use Prim.Native.Nat.{ℕ, _+_, _≤_}
 use native.Mathlib.Omega.{arith}
 use native.Mathlib.Decide.{ℕ-discrete}
 use mathlib.Core.Path.{_≡_, refl, sym, ap, _∙_}
 use mathlib.Core.Logic.{_↔_}
 use mathlib.Core.Bool.{Bool, true, false, cond, not, _||_, false≢true, or-true}
 use mathlib.Core.List.{List}
-use borrow.Author.Tests.{eqb-false, ltb-true, ltb-false, eqb-true, not-true, eq-eqb, ne-eqb, lt-ltb, le-ltb}
+use borrow.Author.Tests.{eqb-false, ltb-true, ltb-false, eqb-true, not-true, eq-eqb, ne-eqb, lt-ltb}
 use lib.ListN.{length}
 use lib.Dec.{eqb, ltb}
 use Rattle.wire.specs.Frame.{frameAt}
@@ -95,11 +95,6 @@ module _ (b : List ℕ) (at : ℕ) where
     where
       meant : Stands b at (shape.Stops n) → TripAt b at n
       meant (trip facts) = facts
-
-  pub trip-given : (n : ℕ) → TripAt b at n → shapeAt b at ≡ shape.Stops n
-  trip-given n t =
-      own-shape b at tripKind (bodySize n) n (t .frame) (le-ltb (bodySize n) (bodySize 0) (omega arith)) (sym (t .count))
-      (eq-eqb (bodySize n) (bodySize n) refl)
 
   -- None is given exactly when the frame is broken, the kind not 7, or the body under 20 or not 20 + 2n.
   pub no-trip-at : shapeAt b at ≡ shape.NoTrip ↔ NoTripAt b at

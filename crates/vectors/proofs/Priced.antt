@@ -14,6 +14,6 @@ use Rattle.prices.specs.Contracts.{Priceable}
 
 pub priceable :
     (tariff : List ℕ) (counts : Counts) (ride : Ride) (area : Area) → Read tariff counts → RideIs counts ride ride
-    → area ≡ areaAt tariff counts (ride .area) → Priceable area ride
+    → area ≡ areaAt tariff (ride .area) → Priceable area ride
 priceable tariff counts ride area read is here =
     record { ranges = rw here (faultless tariff counts read .area (ride .area) (is .there)); minutes = is .minutes; km = is .km }

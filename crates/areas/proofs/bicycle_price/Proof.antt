@@ -22,7 +22,7 @@ area-place-requires c κs = there (c .before)
 bicycle-price-at-requires : tie.Need-bicycle-price-at-requires
 bicycle-price-at-requires c κs =
     let start = c .before .before in
-    let kind = kindOf (start .args .tariff .now) (start .args .counts) (start .args .number) in
+    let kind = kindOf (start .args .tariff .now) (start .args .number) in
     omega (arith, c .area-place .ensures, there start .inside, long-is kind (eqb-true kind aachenKind (start .pre .2)))
 
 cast-t6 : tie.Need-cast-t6
@@ -31,7 +31,7 @@ cast-t6 c = search needs
 returns : tie.Need-returns
 returns c =
     let start = c .before .before .before in
-    let value : c .bicycle-price-at .result ≡ bicyclePriceOf (start .args .tariff .now) (start .args .counts) (start .args .number) =
+    let value : c .bicycle-price-at .result ≡ bicyclePriceOf (start .args .tariff .now) (start .args .number) =
     c .bicycle-price-at .ensures ∙ rw (c .before .area-place .ensures)
     in
     record {

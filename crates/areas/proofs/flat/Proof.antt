@@ -26,7 +26,7 @@ returns : tie.Need-returns
 unfolding areaOf areaAt
 returns c =
     let start = c .before .before .before in
-    let value : c .flat-at .result ≡ flatOf (start .args .tariff .now) (start .args .counts) (start .args .number) =
+    let value : c .flat-at .result ≡ flatOf (start .args .tariff .now) (start .args .number) =
     c .flat-at .ensures ∙ rw (c .before .area-place .ensures)
     in
     record {

@@ -25,7 +25,7 @@ cast-result c = search needs
 returns : tie.Need-returns
 returns c =
     let start = c .before .before .before in
-    let value : c .parent-at .result ≡ parentOf (start .args .tariff .now) (start .args .counts) (start .args .number) =
+    let value : c .parent-at .result ≡ parentOf (start .args .tariff .now) (start .args .number) =
     c .parent-at .ensures ∙ rw (c .before .area-place .ensures)
     in
     record {

@@ -15,7 +15,7 @@ returns : tie.Need-returns
 returns c =
     let start = c .before .before in
     smallest-own (tariff start) (start .args .a) (start .args .b) (start .pre .1 .0)
-    (within-self (start .args .tariff .now) (start .args .counts) (start .args .b) (start .args .a) (sym (c .if1 .taken)))
+    (within-self (start .args .tariff .now) (start .args .b) (start .args .a) (sym (c .if1 .taken)))
 
 returns-2 : tie.Need-returns-2
 returns-2 c =
@@ -30,7 +30,7 @@ returns-3 : tie.Need-returns-3
 returns-3 c =
     let start = c .before .before .before .before .before in
     smallest-own (tariff start) (start .args .a) (start .args .b) (start .pre .1 .0)
-    (within-parent (start .args .tariff .now) (start .args .counts) (start .args .b) (start .args .a)
+    (within-parent (start .args .tariff .now) (start .args .b) (start .args .a)
     (sym (c .before .parent .ensures .value) ∙ c .if3 .taken))
 
 parent-requires-2 : tie.Need-parent-requires-2

@@ -25,7 +25,7 @@ kind-at-requires c κs = omega (arith, c .area-place .ensures, there (c .before 
 
 -- the area's kind, and that it is read
 abbrev own : tie.Start → ℕ
-own c = kindOf (c .args .tariff .now) (c .args .counts) (c .args .number)
+own c = kindOf (c .args .tariff .now) (c .args .number)
 
 kind : (c : tie.After-kind-at) → c .kind-at .result ≡ own (c .before .before .before)
 kind c = c .kind-at .ensures ∙ ap (kindAt (c .before .before .before .args .tariff .now)) (c .before .area-place .ensures)

@@ -46,7 +46,7 @@ wide-with-requires c κs =
     area-there (start .args .tariff .now) (start .args .counts) (c .before .before .loop .i)
     (start .pre .0, omega (arith, start .pre .1, c .before .loop-test .taken))
     in
-    let most = wide-most (levelOf (start .args .tariff .now) (start .args .counts)) (c .before .before .loop .i) in
+    let most = wide-most (levelOf (start .args .tariff .now)) (c .before .before .loop .i) in
     omega (arith, c .before .before .loop .inv .0, most, there .few)
 
 area-end-requires : tie.Need-area-end-requires Inv-loop μ-loop

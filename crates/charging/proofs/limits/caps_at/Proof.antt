@@ -13,7 +13,7 @@ use Rattle.charging.proofs.limits.caps_at.Statement.{statement}
 use Rattle.charging.proofs.limits.caps_at.Tie as tie
 
 abbrev area : (c : tie.After-limits) → Area
-area c = let a = c .before .before .args in areaAt (a .tariff .now) (a .counts) (a .at)
+area c = let a = c .before .before .args in areaAt (a .tariff .now) (a .at)
 
 ranges : (c : tie.After-limits) → AreaRanges (area c)
 ranges c = let p = c .before .before .pre in faultless _ _ (p .0) .area _ (p .1)

@@ -72,7 +72,7 @@ wide-with-requires : tie.Need-wide-with-requires
 wide-with-requires c κs =
     let start = c .before .before .before .before .before .before .before in
     let soFar = start .args .run .«so_far» in
-    omega (arith, start .pre .due, wide-most (levelOf (start .args .b .now) soFar) (soFar .areas), start .pre .passed .reached .few)
+    omega (arith, start .pre .due, wide-most (levelOf (start .args .b .now)) (soFar .areas), start .pre .passed .reached .few)
 
 returns : tie.Need-returns
 returns c =

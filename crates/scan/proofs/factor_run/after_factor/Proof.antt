@@ -16,7 +16,7 @@ add-t5 : tie.Need-add-t5
 add-t5 c =
     let start = c .before .before .before in
     let soFar = start .args .run .«so_far» in
-    let most = wide-most (levelOf (start .args .b .now) soFar) (soFar .areas) in
+    let most = wide-most (levelOf (start .args .b .now)) (soFar .areas) in
     omega (arith, factor-entry _ _ _ (start .pre .here) .few, most, start .pre .passed .reached .few)
 
 returns : tie.Need-returns
