@@ -15,7 +15,7 @@ use Rattle.layout.specs.Scan.{Read}
 use Rattle.layout.specs.Contracts.{AreaThere}
 use Rattle.layout.proofs.Entries.{AreaEntry, FactorEntry, StopEntry, area-entry, factor-entry, stop-entry}
 use Rattle.layout.proofs.Places.{bits-cut, place-is, place-before}
-use Rattle.layout.proofs.Passed.{finished, few-long, few-factors, few-stops}
+use Rattle.layout.proofs.FaultlessUntil.{finished, few-long, few-factors, few-stops}
 use Rattle.layout.proofs.PlaceLaws.{state-level}
 use Rattle.areas.proofs.Values.{area-ranges, area-rank, factor-ranges, stop-ranges}
 use Rattle.areas.proofs.Within.{area-aachen}

@@ -16,7 +16,7 @@ use Rattle.calendar.specs.Stamps.{isDate, isClock, isStamp, localMinute,
 use Rattle.calendar.specs.Moments.{
   isMoment,
   momentMinute,
-  Passed,
+  Elapsed,
   takenOff,
   yearsPassed,
   monthsPassed,
@@ -33,7 +33,7 @@ use Rattle.calendar.proofs.Order.{within}
 -- ---- Taken off one by one, the whole ones are the only count whose days fit.
 
 -- what is taken off and what is left are the whole, fewer than `end` are taken off, and the one begun has not passed
-record Fits (daysOf sum : ℕ → ℕ) (end total : ℕ) (p : Passed) : Type 0 where
+record Fits (daysOf sum : ℕ → ℕ) (end total : ℕ) (p : Elapsed) : Type 0 where
   few : p .whole < end
   all : sum (p .whole) + p .left ≡ total
   begun : p .left < daysOf (p .whole)
@@ -181,13 +181,13 @@ module _ (n : ℕ) (in-range : n ≤ lastMinute) where
       fits _ daysOfYears (λ j. refl) 100 0 (n / dayMinutes) 100 (n / dayMinutes) refl (zero-add _)
       (omega (arith, years-days 100 (le-refl 100)))
 
-  abbrev years : Passed
+  abbrev years : Elapsed
   years = yearsPassed (n / dayMinutes)
 
   abbrev leap-year : Bool
   leap-year = leap (2000 + years .whole)
 
-  abbrev months : Passed
+  abbrev months : Elapsed
   months = monthsPassed leap-year (years .left)
 
   months-fit : Fits (λ months. monthDays leap-year (suc months)) (daysOfMonths leap-year) 12 (years .left) months

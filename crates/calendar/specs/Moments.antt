@@ -17,23 +17,23 @@ unfoldable pub momentMinute : Moment → ℕ
 momentMinute m = dayMinutes * dayNumber (m .year) (m .month) (m .day) + 60 * m .hour + m .minute
 
 -- the years or months that have passed whole, and the days that are left
-pub record Passed : Type 0 where
+pub record Elapsed : Type 0 where
   pub whole : ℕ
   pub left : ℕ
 
 -- n have passed and d days are left: as long as the next one has passed whole too, its days are taken off; at most `more` of them
-unfoldable pub takenOff : (ℕ → ℕ) → ℕ → ℕ → ℕ → Passed
+unfoldable pub takenOff : (ℕ → ℕ) → ℕ → ℕ → ℕ → Elapsed
 takenOff daysOf zero n d = record { whole = n; left = d }
 takenOff daysOf (suc more) n d =
     cond (ltb d (daysOf n)) record { whole = n; left = d }
     (takenOff daysOf more (suc n) (d - daysOf n))
 
 -- the years from 2000 on that have passed after some days, taken off year by year; 100 are counted
-unfoldable pub yearsPassed : ℕ → Passed
+unfoldable pub yearsPassed : ℕ → Elapsed
 yearsPassed days = takenOff (λ years. daysOfMonths (leap (2000 + years)) 12) 100 0 days
 
 -- the months of a year that have passed after some of its days, taken off month by month
-unfoldable pub monthsPassed : Bool → ℕ → Passed
+unfoldable pub monthsPassed : Bool → ℕ → Elapsed
 monthsPassed leapYear days = takenOff (λ months. monthDays leapYear (suc months)) 12 0 days
 
 -- The moment of a minute number: of the days since 2000-01-01 the years that have passed are taken off, and of what is left the months; the

@@ -4,7 +4,7 @@ use Prim.Native.Nat.{ℕ, zero, suc, _/_, _≤_, _<_}
 use native.Mathlib.Omega.{arith}
 use mathlib.Core.Path.{_≡_}
 use mathlib.Core.List.{_++_}
-use Rattle.text.specs.Words.{bytes, digit, decimal}
+use Rattle.text.specs.Texts.{bytes, digit, decimal}
 use Rattle.text.proofs.Decimal.{none-in, some-in}
 use Rattle.csv.specs.Text.{twoDigits, fourDigits}
 

@@ -12,7 +12,7 @@ use Rattle.reader.specs.declared.Head.{Head}
 use Rattle.reader.specs.declared.Whose.the-variants.{Unsaid, Of}
 use Rattle.reader.specs.declared.Amount.{Amount}
 use Rattle.reader.specs.Reading.{whoseAt, readAt}
-use Rattle.text.specs.Words.{bytes, digit, digitsIn, decimal}
+use Rattle.text.specs.Texts.{bytes, digit, digitsIn, decimal}
 use Rattle.csv.specs.Text.{
   columns,
   header,

@@ -7,7 +7,7 @@ use mathlib.Core.List.{List, _++_, append-assoc}
 use borrow.Author.Tests.{eq-eqb, ne-eqb, le-leb, lt-leb}
 use Rattle.caps.specs.declared.Cut.{Cut}
 use Rattle.trip.specs.declared.Party.{Party}
-use Rattle.text.specs.Words.{bytes, decimal}
+use Rattle.text.specs.Texts.{bytes, decimal}
 use Rattle.csv.specs.Text.{columns, riderText, offText, capText, refusedText}
 use Rattle.csv.specs.Contracts.{cutColumns}
 

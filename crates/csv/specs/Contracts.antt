@@ -14,7 +14,7 @@ use Rattle.reader.specs.declared.Whose.{Whose}
 use Rattle.reader.specs.Fields.{chargesOf}
 use Rattle.reader.specs.Reading.{headAt}
 use Rattle.reader.specs.Contracts.{ReadableAt}
-use Rattle.text.specs.Words.{bytes, decimal}
+use Rattle.text.specs.Texts.{bytes, decimal}
 use Rattle.text.specs.Contracts.{Behind}
 use Rattle.csv.specs.declared.turns.Turn.{Turn}
 use Rattle.csv.specs.declared.turns.Turn.the-variants.{More, On, Over}

@@ -17,7 +17,7 @@ use Rattle.reader.specs.declared.Whose.the-variants.{Unsaid, Of}
 use Rattle.reader.specs.declared.Amount.{Amount}
 use Rattle.reader.specs.Fields.{Fields, headIn, whoseIn, chargesOf, amountOf}
 use Rattle.reader.specs.Reading.{Reading, refused, told, readAt, brokenFrame}
-use Rattle.text.specs.Words.{bytes, digit, decimal}
+use Rattle.text.specs.Texts.{bytes, digit, decimal}
 
 -- ---- A line: the record's number, each further column behind a comma, and the line's end.
 

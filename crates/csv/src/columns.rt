@@ -5,7 +5,7 @@ use text::fours::put_small;
 ghost use Prim.Native.Nat.{_+_, _≤_};
 ghost use mathlib.Core.List.{[], _∷_, _++_};
 ghost use lib.ListN.{length};
-ghost use Rattle.text.specs.Words.{decimal};
+ghost use Rattle.text.specs.Texts.{decimal};
 ghost use Rattle.text.specs.Contracts.{Behind};
 ghost use Rattle.csv.specs.Text.{twoDigits, fourDigits, momentText};
 

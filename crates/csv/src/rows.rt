@@ -16,7 +16,7 @@ ghost use lib.ListN.{length};
 ghost use Rattle.calendar.specs.Stamps.{lastMinute};
 ghost use Rattle.calendar.specs.Moments.{momentOf};
 ghost use Rattle.statement.specs.Record.{mostCharges};
-ghost use Rattle.text.specs.Words.{bytes};
+ghost use Rattle.text.specs.Texts.{bytes};
 ghost use Rattle.text.specs.Contracts.{Behind};
 ghost use Rattle.csv.specs.Text.{header, momentText, riderText, payerText, isPerson, rowText, refusedText};
 ghost use Rattle.csv.specs.Contracts.{headColumns, cutColumns, mostRow};

@@ -4,4 +4,4 @@ pub mod Wide
 pub mod WrongValues
 pub mod Entries
 pub mod Turns
-pub mod Passed
+pub mod FaultlessUntil

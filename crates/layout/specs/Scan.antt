@@ -109,7 +109,7 @@ abbrev pub Read : List ℕ → Counts → Type 0
 Read b counts = readTariff b ≡ Faultless counts
 
 -- every record before a place that so many areas, factor records and stops reach is faultless
-pub record Passed (b : List ℕ) (at : ℕ) (soFar : Counts) : Type 0 where
+pub record FaultlessUntil (b : List ℕ) (at : ℕ) (soFar : Counts) : Type 0 where
   pub reached : Reached b at soFar
   pub area : (i : ℕ) → i < soFar .areas → entryAt b (areaPlace b i) (areasBefore b i) ≡ Area (kindOf b i)
   pub factor : (k : ℕ) → k < soFar .factors → entryAt b (factorPlace soFar k) (factorsBefore soFar k) ≡ Factor
@@ -117,7 +117,7 @@ pub record Passed (b : List ℕ) (at : ℕ) (soFar : Counts) : Type 0 where
 
 -- the first faulty record, or the place of a record that is due and missing: all before it is faultless, and it is not
 pub record FirstFault (b : List ℕ) (number at : ℕ) (soFar : Counts) : Type 0 where
-  pub passed : Passed b at soFar
+  pub passed : FaultlessUntil b at soFar
   pub faulty : entryAt b at soFar ≡ Faulty number
 
 -- kind, body length, order and number of an area record are right

@@ -4,7 +4,7 @@ use mathlib.Core.Path.{_≡_}
 use mathlib.Core.Bool.{Bool, true}
 use mathlib.Core.List.{List, [], _∷_, _++_}
 use lib.ListN.{length, take}
-use Rattle.text.specs.Words.{bytes, decimal}
+use Rattle.text.specs.Texts.{bytes, decimal}
 use Rattle.text.specs.Contracts.{Behind}
 use Rattle.layout.specs.declared.Counts.{Counts}
 use Rattle.roll.specs.declared.Line.{Line}

@@ -1,7 +1,7 @@
 -- A part's line in two, for the fast way of short.rt, which puts a number with the blank behind it. Only that way goes by them.
 use Prim.Native.Nat.{ℕ, _<_}
 use mathlib.Core.List.{List, _++_}
-use Rattle.text.specs.Words.{bytes, decimal}
+use Rattle.text.specs.Texts.{bytes, decimal}
 
 -- the trip's number, the area and the kilometres
 abbrev pub frontText : ℕ → ℕ → ℕ → List ℕ

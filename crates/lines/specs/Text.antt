@@ -1,7 +1,7 @@
 -- docs/RULES.md, section 16 (R16.2, R16.6, R16.7): what the program prints, byte for byte.
 use Prim.Native.Nat.{ℕ, _+_}
 use mathlib.Core.List.{List, [], _∷_, _++_}
-use Rattle.text.specs.Words.{bytes, decimal}
+use Rattle.text.specs.Texts.{bytes, decimal}
 use Rattle.roll.specs.declared.Entry.{Entry}
 use Rattle.roll.specs.declared.Line.{Line}
 use Rattle.roll.specs.declared.Line.the-variants.{Charged, Both, Refused}

@@ -5,7 +5,7 @@ use text::fours::put_small;
 ghost use Prim.Native.Nat.{_+_, _≤_};
 ghost use mathlib.Core.List.{_++_};
 ghost use lib.ListN.{length};
-ghost use Rattle.text.specs.Words.{bytes, decimal};
+ghost use Rattle.text.specs.Texts.{bytes, decimal};
 ghost use Rattle.text.specs.Contracts.{Behind};
 
 // A blank, and a number behind it.

@@ -14,7 +14,7 @@ ghost use mathlib.Core.Bool.{true, false};
 ghost use lib.ListN.{length};
 ghost use Rattle.roll.specs.declared.Line.the-variants.{Refused};
 ghost use Rattle.deciding.specs.Contracts.{Ready};
-ghost use Rattle.roll.specs.Contracts.{Room, lineCents, mostLineCents};
+ghost use Rattle.roll.specs.Contracts.{StatementRoom, lineCents, mostLineCents};
 ghost use Rattle.lines.specs.Contracts.{mostTurn, Counting, LineTaken, Turned};
 
 // The room that a turn takes at most: the lines of two parts, and the tail behind them.
@@ -82,7 +82,7 @@ pub fn take_turn(
     place: usize,
     tally: Tally,
 ) -> Turn
-    requires { ⌜ Ready (now tariff) counts (now book) × ((place + mostTurn ≤ length (now out)) × (Counting tally × Room (now statement))) ⌝ }
+    requires { ⌜ Ready (now tariff) counts (now book) × ((place + mostTurn ≤ length (now out)) × (Counting tally × StatementRoom (now statement))) ⌝ }
     ensures { λ r. ⌜ Turned (now (tariff .entry)) counts (now (book .entry)) (now (piece .entry)) more tally
         (now (out .entry)) place (now (book .exit)) (now (out .exit)) r ⌝ }
 {

@@ -13,7 +13,7 @@ use Rattle.caps.proofs.Climb.{within-there}
 use Rattle.layout.specs.declared.Counts.{Counts}
 use Rattle.layout.specs.Layout.{longestTariff}
 use Rattle.areas.specs.Areas.{FaultlessTariff}
-use Rattle.layout.specs.Scan.{Passed, FaultSays}
+use Rattle.layout.specs.Scan.{FaultlessUntil, FaultSays}
 use Rattle.layout.specs.Scan as scan
 use Rattle.areas.proofs.Faultless.{faultless}
 use Rattle.scan.proofs.Faults.{fault-exactly, fault-number, fault-most}
@@ -402,7 +402,7 @@ module _ (tariff book bytes : List ℕ) (room : ℕ) where
       NoCondition tariff book bytes room → (new : List ℕ) × (parts : List Part) × (settled tariff book bytes room ≡ accepted new parts)
   accepts none = go (settled tariff book bytes room) refl
     where
-      no-fault-says : (n place : ℕ) (soFar : Counts) → Passed tariff place soFar → FaultSays tariff place soFar n → ⊥
+      no-fault-says : (n place : ℕ) (soFar : Counts) → FaultlessUntil tariff place soFar → FaultSays tariff place soFar n → ⊥
       no-fault-says n place soFar passed (scan.one e w) =
           none .no-broken-frame (record { place = place; soFar = soFar; passed = passed; wrong = w })
       no-fault-says n place soFar passed (scan.two e w) =

@@ -19,5 +19,5 @@ pub mod ReadBack
 pub mod Exported
 pub mod InRow
 pub mod Numbers
-pub mod TripWords
+pub mod TripInWords
 pub mod Payments

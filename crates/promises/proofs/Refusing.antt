@@ -13,7 +13,7 @@ use lib.Dec.{eqb, ltb}
 use Rattle.layout.specs.declared.Counts.{Counts}
 use Rattle.layout.specs.declared.Reading.{Reading}
 use Rattle.layout.specs.declared.Reading.the-variants.{Fault, Faultless}
-use Rattle.layout.specs.Scan.{readTariff, Passed, FaultSays, Read}
+use Rattle.layout.specs.Scan.{readTariff, FaultlessUntil, FaultSays, Read}
 use Rattle.scan.proofs.Faults.{first-fault, fault-says, fault-exactly}
 use Rattle.trip.specs.Record.{classAt, levelAt, partyAt, countAt}
 use Rattle.trip.specs.Moments.{checkinOf, checkoutOf}
@@ -154,7 +154,7 @@ module _ (tariff : List ℕ) (counts : Counts) (read : Read tariff counts) where
   unfolding countsOf
   counts-are = rw (read, countsOf)
 
-  pub no-fault : (n place : ℕ) (soFar : Counts) → Passed tariff place soFar → FaultSays tariff place soFar n → ⊥
+  pub no-fault : (n place : ℕ) (soFar : Counts) → FaultlessUntil tariff place soFar → FaultSays tariff place soFar n → ⊥
   no-fault n place soFar passed says =
       let e = fault-exactly tariff n place .1 (soFar, passed, says) in
       let z : _≡_ {A = ℕ} 0 1 = cc in

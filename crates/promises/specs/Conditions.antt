@@ -9,7 +9,7 @@ use Rattle.caps.specs.declared.Name.{Name}
 use Rattle.caps.specs.Named.{capNamed, sumNamed, FullOrPassed}
 use Rattle.layout.specs.declared.Counts.{Counts}
 use Rattle.layout.specs.declared.Reading.the-variants.{Fault, Faultless}
-use Rattle.layout.specs.Scan.{readTariff, Passed, FirstFault, BrokenFrame, OutOfPlace, WrongValue, FaultSays, Read}
+use Rattle.layout.specs.Scan.{readTariff, FaultlessUntil, FirstFault, BrokenFrame, OutOfPlace, WrongValue, FaultSays, Read}
 use Rattle.trip.specs.Record.{countAt, classAt, levelAt, partyAt}
 use Rattle.trip.specs.Moments.{checkinOf, checkoutOf}
 use Rattle.trip.specs.Trips.{tripOf}
@@ -72,7 +72,7 @@ tripWindow book bytes = windowOf book (checkinOf bytes) (checkoutOf bytes)
 pub record FirstFaulty (tariff : List ℕ) (way : ℕ → Counts → Type 0) : Type 0 where
   pub place : ℕ
   pub soFar : Counts
-  pub passed : Passed tariff place soFar
+  pub passed : FaultlessUntil tariff place soFar
   pub wrong : way place soFar
 
 -- 10: check-in before the book's last check-out (word 0 not 0)

@@ -8,5 +8,5 @@ pub mod Cases
 pub mod Books
 pub mod Exported
 pub mod Numbers
-pub mod TripWords
+pub mod TripInWords
 pub mod Payments

@@ -23,7 +23,7 @@ use Rattle.settle.proofs.Ways.{faultless-way}
 use Rattle.roll.specs.declared.Line.{Line}
 use Rattle.roll.specs.declared.Line.the-variants.{Refused}
 use Rattle.roll.specs.Lines.{partEntry, lineOf}
-use Rattle.roll.specs.Contracts.{Room, entryIn, Readable, lineIn, LineIn, SettledLine}
+use Rattle.roll.specs.Contracts.{StatementRoom, entryIn, Readable, lineIn, LineIn, SettledLine}
 
 -- A record says what is said of its part.
 entry-is :
@@ -113,7 +113,7 @@ settled-readable tariff book trip room told is =
 -- ---- What settling a record of a roll tells.
 
 module _ {tariff : List ℕ} {counts : Counts} {book : List ℕ} (trip : List ℕ) {book′ statement statement′ : List ℕ} {r : Answer} (ready : Ready tariff counts book)
-    (room : Room statement) (lent : NextSettled tariff counts book trip statement book′ statement′ r) where
+    (room : StatementRoom statement) (lent : NextSettled tariff counts book trip statement book′ statement′ r) where
   o : ToldSound (settledUnder tariff counts book trip largestStatement) (counts .areas) book book′ statement statement′ r
   o =
       subst (λ (bytes : ℕ). ToldSound (settledUnder tariff counts book trip bytes) (counts .areas) book book′ statement statement′ r) room lent

@@ -41,8 +41,8 @@ pub record Fresh (book : List ℕ) : Type 0 where
   pub sound-book : (areas : ℕ) → sound book areas ≡ true
 
 -- room for every record's statement
-abbrev pub Room : List ℕ → Type 0
-Room statement = length statement ≡ largestStatement
+abbrev pub StatementRoom : List ℕ → Type 0
+StatementRoom statement = length statement ≡ largestStatement
 
 -- what the record at a place of a statement says
 unfoldable pub entryIn : List ℕ → ℕ → Entry

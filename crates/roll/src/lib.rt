@@ -18,7 +18,7 @@ ghost use mathlib.Core.Path.{_≡_};
 ghost use Rattle.statement.specs.Contracts.{RecordAt};
 ghost use Rattle.deciding.specs.Contracts.{Ready};
 ghost use Rattle.roll.specs.Pieces.{unfinished};
-ghost use Rattle.roll.specs.Contracts.{Fresh, Room, EntryIn, Readable, LineIn, SettledLine, Stepped};
+ghost use Rattle.roll.specs.Contracts.{Fresh, StatementRoom, EntryIn, Readable, LineIn, SettledLine, Stepped};
 
 // At most so many records of a roll are settled.
 pub const MOST_RECORDS: u32 = 65_535;
@@ -63,7 +63,7 @@ pub fn fresh_book() -> [u8; SIZE]
 
 // Room for a record's statement.
 pub fn statement_room() -> [u8; LARGEST_STATEMENT]
-    ensures { λ r. ⌜ Room r ⌝ }
+    ensures { λ r. ⌜ StatementRoom r ⌝ }
 {
     [0u8; LARGEST_STATEMENT]
 }
@@ -104,7 +104,7 @@ fn settle_line(
     trip: &[u8],
     statement: &mut [u8],
 ) -> Line
-    requires { ⌜ Ready (now tariff) counts (now book) × Room (now statement) ⌝ }
+    requires { ⌜ Ready (now tariff) counts (now book) × StatementRoom (now statement) ⌝ }
     ensures { λ r. ⌜ SettledLine (now (tariff .entry)) (counts .areas) (now (book .entry)) (now (trip .entry)) (now (statement .entry)) (now (book .exit))
         (now (statement .exit)) r ⌝ }
 {
@@ -135,7 +135,7 @@ pub fn next(
     more: bool,
     statement: &mut [u8],
 ) -> Step
-    requires { ⌜ Ready (now tariff) counts (now book) × Room (now statement) ⌝ }
+    requires { ⌜ Ready (now tariff) counts (now book) × StatementRoom (now statement) ⌝ }
     ensures { λ r. ⌜ Stepped (now (tariff .entry)) (counts .areas) (now (book .entry)) (now (piece .entry)) more (now (statement .entry)) (now (book .exit))
         (now (statement .exit)) r ⌝ }
 {

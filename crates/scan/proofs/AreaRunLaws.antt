@@ -24,7 +24,7 @@ use Rattle.scan.specs.AreaRuns.{AreasPassed, AreaNext, KindFound}
 use Rattle.scan.proofs.Words.{four-word}
 use Rattle.layout.proofs.Places.{place-is}
 use Rattle.layout.proofs.Entries.{kinds-area, area-frame, area-is-due, area-holds, area-entry}
-use Rattle.layout.proofs.Passed.{at-area, passed-area}
+use Rattle.layout.proofs.FaultlessUntil.{at-area, passed-area}
 use Rattle.layout.proofs.Wide.{wide-next}
 
 -- The length and the kind of an area record as one number: 27 and 1, or 40 and 8.

@@ -23,7 +23,7 @@ use Rattle.layout.specs.Scan.{entryAt}
 use Rattle.scan.specs.FactorRuns.{FactorsPassed, FactorNext}
 use Rattle.scan.proofs.Words.{four-word}
 use Rattle.layout.proofs.Entries.{factorDue, factor-frame, factor-is-due, factor-entry}
-use Rattle.layout.proofs.Passed.{passed-factor}
+use Rattle.layout.proofs.FaultlessUntil.{passed-factor}
 
 -- what the tests before a record is looked at tell: one is still due, and there is room for it
 pub due-and-room : (b : List ℕ) (run : Run) → ltb (run .«so_far» .factors) (run .due) && leb factorSize (length b - run .at) ≡ true

@@ -9,9 +9,9 @@ use mathlib.Core.List.{List}
 use Rattle.layout.specs.declared.Counts.{Counts}
 use Rattle.layout.specs.declared.Reading.the-variants.{Fault}
 use Rattle.layout.specs.Layout.{longestTariff}
-use Rattle.layout.specs.Scan.{readTariff, Passed, FirstFault, BrokenFrame, OutOfPlace, WrongValue, FaultSays, one, two, three}
+use Rattle.layout.specs.Scan.{readTariff, FaultlessUntil, FirstFault, BrokenFrame, OutOfPlace, WrongValue, FaultSays, one, two, three}
 use Rattle.layout.proofs.Entries.{fault-entry, fault-given}
-use Rattle.layout.proofs.Passed.{Ends, fault, ends, at-fault, early}
+use Rattle.layout.proofs.FaultlessUntil.{Ends, fault, ends, at-fault, early}
 
 -- A fault that is given is the first: every record before its place is faultless, and what stands there has that fault.
 pub first-fault :
@@ -25,7 +25,7 @@ first-fault b number at e = met (rw e at (ends b))
 pub fault-exactly :
     (b : List ℕ) (number at : ℕ)
     → (readTariff b ≡ Fault number at)
-    ↔ ((soFar : Counts) × Passed b at soFar × FaultSays b at soFar number)
+    ↔ ((soFar : Counts) × FaultlessUntil b at soFar × FaultSays b at soFar number)
 fault-exactly b number at = (
   λ e. let (soFar, first) = first-fault b number at e in (soFar, first .passed, fault-entry b at soFar number (first .faulty)),
   λ w. at-fault b number at (w .0) (record { passed = w .1; faulty = fault-given b at (w .0) (w .2) }),

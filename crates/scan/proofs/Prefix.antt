@@ -36,7 +36,7 @@ use Rattle.layout.specs.Layout.{
 }
 use Rattle.layout.specs.Fields.{areaFields, longFields, factorFields, stopFields}
 use Rattle.layout.specs.Rules.{placeRight, levelOf, flatOf, kindOf, factorsDue}
-use Rattle.layout.specs.Scan.{areaEntry, factorEntry, stopEntry, entryAt, readTariff, Passed}
+use Rattle.layout.specs.Scan.{areaEntry, factorEntry, stopEntry, entryAt, readTariff, FaultlessUntil}
 use Rattle.layout.proofs.Entries.{
   KindCase,
   of-area,
@@ -53,7 +53,7 @@ use Rattle.layout.proofs.Entries.{
 }
 use Rattle.layout.proofs.Places.{place-is, long-few}
 use Rattle.layout.proofs.Wide.{wide-same}
-use Rattle.layout.proofs.Passed.{Ends, fault, finish, ends, at-fault, few-factors, few-stops, early}
+use Rattle.layout.proofs.FaultlessUntil.{Ends, fault, finish, ends, at-fault, few-factors, few-stops, early}
 
 -- ---- What stands at a place is decided by the longest record's bytes from there on, and by the areas before it.
 
@@ -191,8 +191,8 @@ module _ (n : ℕ) (b : List ℕ) (there : n ≤ length b) where
 
 -- ---- The places that faultless records reach lie early enough.
 
-module _ (n : ℕ) (b : List ℕ) (there : n ≤ length b) (wide : decidingBytes ≤ n) (at : ℕ) (soFar : Counts) (p : Passed b at soFar) where
-  first-passed : Passed (take n b) at soFar
+module _ (n : ℕ) (b : List ℕ) (there : n ≤ length b) (wide : decidingBytes ≤ n) (at : ℕ) (soFar : Counts) (p : FaultlessUntil b at soFar) where
+  first-passed : FaultlessUntil (take n b) at soFar
   first-passed =
       let few = p .reached .few in
       let few-of = few-stops b at soFar p in

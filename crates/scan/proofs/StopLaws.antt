@@ -18,11 +18,11 @@ use Rattle.layout.specs.Layout.{stopBody, stopSize, mostStops, moreStops}
 use Rattle.layout.specs.Fields.{stopFields}
 use Rattle.layout.specs.Rules.{factorsDue, stopRight}
 use Rattle.scan.specs.Contracts.{stopStands, StopsStand}
-use Rattle.layout.specs.Scan.{entryAt, Passed}
+use Rattle.layout.specs.Scan.{entryAt, FaultlessUntil}
 use Rattle.layout.specs.declared.Entry.the-variants.{Stop}
 use Rattle.wire.proofs.Tests.{told}
 use Rattle.layout.proofs.Entries.{stop-frame, stop-is-due, stop-holds}
-use Rattle.layout.proofs.Passed.{passed-stop}
+use Rattle.layout.proofs.FaultlessUntil.{passed-stop}
 
 -- None is asked for; one stands; so many, and so many from where they end; of so many, fewer.
 module _ (b : List ℕ) (from areas : ℕ) where
@@ -70,7 +70,7 @@ module _ (b : List ℕ) where
   -- Where all before a place is faultless, it is so past the stops that stand there too.
   pub passed-stops :
       (n at : ℕ) (soFar : Counts) → 0 < soFar .areas → soFar .factors ≡ factorsDue b soFar → at + stopSize * n ≤ length b
-      → soFar .stops + n ≤ mostStops → StopsStand b at (soFar .areas) n → Passed b at soFar → Passed b (at + stopSize * n) (moreStops soFar n)
+      → soFar .stops + n ≤ mostStops → StopsStand b at (soFar .areas) n → FaultlessUntil b at soFar → FaultlessUntil b (at + stopSize * n) (moreStops soFar n)
   passed-stops zero at soFar some all fits few s p = simp unary-clauses p
   passed-stops (suc n) at soFar some all fits few s p =
       let before =

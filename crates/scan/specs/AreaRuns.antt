@@ -11,11 +11,11 @@ use Rattle.layout.specs.declared.Entry.the-variants.{Area}
 use Rattle.layout.specs.Layout.{commonKind, aachenKind, areaBodyOf}
 use Rattle.layout.specs.Fields.{areaFields, longFields}
 use Rattle.layout.specs.Rules.{factorsDue, pricesRight, capsRight, money, ticketsRight, longRight}
-use Rattle.layout.specs.Scan.{entryAt, Passed}
+use Rattle.layout.specs.Scan.{entryAt, FaultlessUntil}
 
 -- every record before a place is faultless, and all are areas
 pub record AreasPassed (b : List ℕ) (run : Run) : Type 0 where
-  pub passed : Passed b (run .at) (run .«so_far»)
+  pub passed : FaultlessUntil b (run .at) (run .«so_far»)
   pub due : run .due ≡ factorsDue b (run .«so_far»)
   pub some : 0 < run .«so_far» .areas
   pub no-factor : run .«so_far» .factors ≡ 0
@@ -23,7 +23,7 @@ pub record AreasPassed (b : List ℕ) (run : Run) : Type 0 where
 
 -- every record before a place is faultless, and so is the area there
 pub record AreaNext (b : List ℕ) (run : Run) (kind : ℕ) : Type 0 where
-  pub passed : Passed b (run .at) (run .«so_far»)
+  pub passed : FaultlessUntil b (run .at) (run .«so_far»)
   pub due : run .due ≡ factorsDue b (run .«so_far»)
   pub here : entryAt b (run .at) (run .«so_far») ≡ Area kind
 

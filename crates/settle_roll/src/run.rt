@@ -16,7 +16,7 @@ use streams::flow::read_more;
 use streams::output::write;
 ghost use mathlib.Core.Path.{_≡_};
 ghost use Rattle.layout.specs.Scan.{Read};
-ghost use Rattle.roll.specs.Contracts.{Room};
+ghost use Rattle.roll.specs.Contracts.{StatementRoom};
 ghost use Rattle.settle_roll.specs.Contracts.{Running, wentOn, StepTaken, Begun};
 
 // How far a run has come: its buffers, and the records so far.
@@ -59,7 +59,7 @@ fn take_step(
     statement: &mut [u8],
     run: Run,
 ) -> Next
-    requires { ⌜ Running (now tariff) counts (now book) (now input) (now out) run × Room (now statement) ⌝ }
+    requires { ⌜ Running (now tariff) counts (now book) (now input) (now out) run × StatementRoom (now statement) ⌝ }
     ensures { λ r. ⌜ StepTaken (now (tariff .entry)) counts run (now (book .entry)) (now (input .entry)) (now (out .entry))
         (now (book .exit)) (now (input .exit)) (now (out .exit)) r ⌝ }
 {
@@ -102,7 +102,7 @@ fn settle_all(
     statement: &mut [u8],
     first: Run,
 )
-    requires { ⌜ Begun (now tariff) counts (now book) (now input) (now out) first × Room (now statement) ⌝ }
+    requires { ⌜ Begun (now tariff) counts (now book) (now input) (now out) first × StatementRoom (now statement) ⌝ }
 {
     let mut run = first;
     loop {

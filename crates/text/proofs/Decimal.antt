@@ -10,7 +10,7 @@ use mathlib.Core.List.{List, [], _∷_, _++_, append-assoc}
 use borrow.Author.Tests.{ne-eqb}
 use lib.ListN.{length, drop, set}
 use lib.Seq.{drop-cons, drop-set-lt, getD-set-same, lt-length-set}
-use Rattle.text.specs.Words.{digit, digitsIn, decimal}
+use Rattle.text.specs.Texts.{digit, digitsIn, decimal}
 
 -- ---- The digits of a number.
 

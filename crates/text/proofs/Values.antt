@@ -5,7 +5,7 @@ use native.Mathlib.Omega.{arith}
 use native.Mathlib.Decide.{decLt}
 use mathlib.Core.Path.{_≡_, refl, sym, ap, _∙_}
 use mathlib.Core.List.{List, [], _∷_, _++_}
-use Rattle.text.specs.Words.{digit, digitsIn, decimal}
+use Rattle.text.specs.Texts.{digit, digitsIn, decimal}
 use Rattle.text.proofs.Decimal.{none-in, some-in}
 
 -- a number read on, digit by digit

@@ -9,7 +9,7 @@ use mathlib.Core.List.{List, [], _∷_, _++_, append-assoc, append-nil}
 use lib.ListN.{length, take, drop, length-drop}
 use lib.Seq.{drop-append-le}
 use lib.Count.{trailingZeros, under}
-use Rattle.text.specs.Words.{digit, decimal}
+use Rattle.text.specs.Texts.{digit, decimal}
 use Rattle.text.specs.Fours.{four, twoFours, wordOf, firstBytes}
 use Rattle.text.proofs.Decimal.{one-digit, last-digit}
 

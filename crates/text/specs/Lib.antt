@@ -1,3 +1,3 @@
-pub mod Words
+pub mod Texts
 pub mod Contracts
 pub mod Fours

@@ -4,7 +4,7 @@ use crate::fours::put_small;
 ghost use Prim.Native.Nat.{_+_, _≤_};
 ghost use mathlib.Core.List.{[], _∷_, _++_};
 ghost use lib.ListN.{length};
-ghost use Rattle.text.specs.Words.{decimal};
+ghost use Rattle.text.specs.Texts.{decimal};
 ghost use Rattle.text.specs.Contracts.{Behind};
 
 pub fn put_byte(out: &mut [u8], place: usize, byte: u8) -> usize

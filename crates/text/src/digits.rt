@@ -2,7 +2,7 @@
 // it has put begins.
 ghost use Prim.Native.Nat.{_≤_};
 ghost use lib.ListN.{length};
-ghost use Rattle.text.specs.Words.{decimal};
+ghost use Rattle.text.specs.Texts.{decimal};
 ghost use Rattle.text.specs.Contracts.{Before};
 
 // A number of 32 bits has 10 digits at most.

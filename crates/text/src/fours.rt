@@ -8,7 +8,7 @@ ghost use mathlib.Core.Path.{_≡_};
 ghost use Prim.Native.Nat.{_+_, _≤_, _<_};
 ghost use mathlib.Core.List.{[], _∷_, _++_};
 ghost use lib.ListN.{length};
-ghost use Rattle.text.specs.Words.{decimal};
+ghost use Rattle.text.specs.Texts.{decimal};
 ghost use Rattle.text.specs.Fours.{four, twoFours, wordOf, firstBytes};
 ghost use Rattle.text.specs.Contracts.{Behind};
 

@@ -9,17 +9,17 @@ use borrow.Author.Needs.{needs}
 use lib.ListN.{length}
 use Rattle.layout.specs.Layout.{longBits}
 use Rattle.layout.specs.Rules.{factorsDue}
-use Rattle.layout.specs.Scan.{entryAt, Passed}
+use Rattle.layout.specs.Scan.{entryAt, FaultlessUntil}
 use Rattle.layout.specs.declared.Entry.the-variants.{Area, Factor, Stop}
 use Rattle.layout.proofs.Entries.{stop-entry}
-use Rattle.layout.proofs.Passed.{passed-none, passed-stop, at-end, at-fault}
+use Rattle.layout.proofs.FaultlessUntil.{passed-none, passed-stop, at-end, at-fault}
 use Rattle.scan.proofs.StopLaws.{passed-stops}
 use Rattle.layout.proofs.Wide.{wide-none}
 use Rattle.scan.proofs.read_tariff.Statement.{statement}
 use Rattle.scan.proofs.read_tariff.Tie as tie
 
 abbrev Inv-loop : tie.InvT-loop
-Inv-loop tariff at₀ soFar₀ due₀ at soFar due = Passed tariff at soFar × (due ≡ factorsDue tariff soFar)
+Inv-loop tariff at₀ soFar₀ due₀ at soFar due = FaultlessUntil tariff at soFar × (due ≡ factorsDue tariff soFar)
 
 abbrev μ-loop : tie.MeasureT-loop
 μ-loop tariff at₀ soFar₀ due₀ at soFar due = length tariff - at

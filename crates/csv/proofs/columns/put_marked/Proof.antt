@@ -1,7 +1,7 @@
 -- `columns::put_marked` meets its contract: the mark, the tens, the ones.
 -- Assumes nothing.
 use borrow.Author.Needs.{needs}
-use Rattle.text.specs.Words.{digit}
+use Rattle.text.specs.Texts.{digit}
 use Rattle.csv.specs.Text.{twoDigits}
 use Rattle.csv.proofs.columns.put_marked.Statement.{statement}
 use Rattle.csv.proofs.columns.put_marked.Tie as tie

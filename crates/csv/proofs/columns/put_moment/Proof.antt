@@ -1,7 +1,7 @@
 -- `columns::put_moment` meets its contract: the six texts stand one behind another.
 -- Assumes nothing.
 use borrow.Author.Needs.{needs}
-use Rattle.text.specs.Words.{bytes}
+use Rattle.text.specs.Texts.{bytes}
 use Rattle.csv.specs.Text.{momentText}
 use Rattle.text.proofs.Puts.{behind-join}
 use Rattle.csv.proofs.columns.put_moment.Statement.{statement}

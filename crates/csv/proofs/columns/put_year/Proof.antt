@@ -1,7 +1,7 @@
 -- `columns::put_year` meets its contract: four digits, each what a tenth more of the year leaves.
 -- Assumes nothing.
 use borrow.Author.Needs.{needs}
-use Rattle.text.specs.Words.{digit}
+use Rattle.text.specs.Texts.{digit}
 use Rattle.csv.specs.Text.{fourDigits}
 use Rattle.csv.proofs.columns.put_year.Statement.{statement}
 use Rattle.csv.proofs.columns.put_year.Tie as tie

@@ -4,7 +4,7 @@ use borrow.Author.Needs.{needs}
 use borrow.Author.Tests.{not-true, not-false}
 use native.Mathlib.Omega.{arith}
 use mathlib.Core.Path.{sym}
-use Rattle.text.specs.Words.{bytes}
+use Rattle.text.specs.Texts.{bytes}
 use Rattle.text.proofs.Puts.{behind-join, behind-same}
 use Rattle.csv.proofs.Lines.{untold, nothing-off, some-off}
 use Rattle.csv.proofs.rows.put_cut.Statement.{statement}

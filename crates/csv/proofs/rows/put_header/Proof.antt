@@ -1,7 +1,7 @@
 -- `rows::put_header` meets its contract: the bytes put are the header's.
 -- Assumes nothing.
 use borrow.Author.Needs.{needs}
-use Rattle.text.specs.Words.{bytes}
+use Rattle.text.specs.Texts.{bytes}
 use Rattle.csv.specs.Text.{header}
 use Rattle.csv.proofs.rows.put_header.Statement.{statement}
 use Rattle.csv.proofs.rows.put_header.Tie as tie

@@ -5,7 +5,7 @@ use native.Mathlib.Omega.{arith}
 use mathlib.Core.Path.{ap}
 use mathlib.Core.List.{_++_}
 use Rattle.calendar.specs.declared.Moment.{Moment}
-use Rattle.text.specs.Words.{bytes}
+use Rattle.text.specs.Texts.{bytes}
 use Rattle.csv.specs.Text.{momentText}
 use Rattle.text.proofs.Puts.{behind-join, behind-same}
 use Rattle.csv.proofs.rows.put_opening.Statement.{statement}

@@ -5,7 +5,7 @@ use native.Mathlib.Omega.{arith}
 use mathlib.Core.Path.{sym, ap}
 use mathlib.Core.List.{_++_}
 use Rattle.reader.specs.declared.Whose.{Whose}
-use Rattle.text.specs.Words.{bytes}
+use Rattle.text.specs.Texts.{bytes}
 use Rattle.csv.specs.Text.{payerText}
 use Rattle.text.proofs.Puts.{behind-same}
 use Rattle.csv.proofs.rows.put_payer.Statement.{statement}

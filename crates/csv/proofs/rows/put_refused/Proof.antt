@@ -2,7 +2,7 @@
 -- Assumes nothing.
 use borrow.Author.Needs.{needs}
 use native.Mathlib.Omega.{arith}
-use Rattle.text.specs.Words.{bytes}
+use Rattle.text.specs.Texts.{bytes}
 use Rattle.text.proofs.Puts.{behind-join, behind-same}
 use Rattle.csv.proofs.Lines.{refused-groups}
 use Rattle.csv.proofs.rows.put_refused.Statement.{statement}

@@ -4,7 +4,7 @@ use borrow.Author.Needs.{needs}
 use native.Mathlib.Omega.{arith}
 use mathlib.Core.Path.{sym, ap}
 use mathlib.Core.List.{_++_}
-use Rattle.text.specs.Words.{bytes}
+use Rattle.text.specs.Texts.{bytes}
 use Rattle.text.proofs.Puts.{behind-same}
 use Rattle.csv.proofs.Lines.{holder, adult, child, bicycle}
 use Rattle.csv.proofs.rows.put_rider.Statement.{statement}

@@ -4,7 +4,7 @@ use borrow.Author.Needs.{needs}
 use native.Mathlib.Omega.{arith}
 use mathlib.Core.List.{_++_}
 use Rattle.calendar.specs.Moments.{momentOf}
-use Rattle.text.specs.Words.{bytes, decimal}
+use Rattle.text.specs.Texts.{bytes, decimal}
 use Rattle.csv.specs.Text.{columns, momentText, payerText, isPerson, offText, capText, rowText}
 use Rattle.text.proofs.Puts.{behind-join, behind-same}
 use Rattle.csv.proofs.Lines.{row-groups}

@@ -3,7 +3,7 @@
 use borrow.Author.Needs.{needs}
 use native.Mathlib.Omega.{arith}
 use mathlib.Core.Path.{refl}
-use Rattle.text.specs.Words.{bytes}
+use Rattle.text.specs.Texts.{bytes}
 use Rattle.text.proofs.Puts.{behind-join, behind-same}
 use Rattle.csv.proofs.rows.put_start.Statement.{statement}
 use Rattle.csv.proofs.rows.put_start.Tie as tie

@@ -2,7 +2,7 @@
 -- Assumes nothing.
 use native.Mathlib.Omega.{arith}
 use borrow.Author.Needs.{needs}
-use Rattle.text.specs.Words.{bytes, decimal}
+use Rattle.text.specs.Texts.{bytes, decimal}
 use Rattle.text.proofs.Puts.{behind-join, behind-same}
 use Rattle.lines.specs.Text.{spaced}
 use Rattle.lines.proofs.Puts.{halves-groups}

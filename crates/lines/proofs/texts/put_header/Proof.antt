@@ -1,7 +1,7 @@
 -- `texts::put_header` meets its contract: the bytes put are the header's.
 -- Assumes nothing.
 use borrow.Author.Needs.{needs}
-use Rattle.text.specs.Words.{bytes}
+use Rattle.text.specs.Texts.{bytes}
 use Rattle.lines.specs.Text.{header}
 use Rattle.lines.proofs.texts.put_header.Statement.{statement}
 use Rattle.lines.proofs.texts.put_header.Tie as tie

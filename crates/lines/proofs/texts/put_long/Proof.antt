@@ -3,7 +3,7 @@
 use borrow.Author.Needs.{needs}
 use native.Mathlib.Omega.{arith}
 use mathlib.Core.List.{_++_}
-use Rattle.text.specs.Words.{bytes, decimal}
+use Rattle.text.specs.Texts.{bytes, decimal}
 use Rattle.lines.specs.Text.{spaced}
 use Rattle.text.proofs.Puts.{behind-join, behind-same}
 use Rattle.lines.proofs.Puts.{entry-groups}

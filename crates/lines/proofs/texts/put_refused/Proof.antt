@@ -2,7 +2,7 @@
 -- Assumes nothing.
 use borrow.Author.Needs.{needs}
 use native.Mathlib.Omega.{arith}
-use Rattle.text.specs.Words.{bytes, decimal}
+use Rattle.text.specs.Texts.{bytes, decimal}
 use Rattle.lines.specs.Text.{lineText}
 use Rattle.text.proofs.Puts.{behind-join, behind-same}
 use Rattle.lines.proofs.Puts.{refused-groups}

@@ -10,7 +10,7 @@ use Rattle.layout.specs.Layout.{longOf, mostAreas, oneArea}
 use Rattle.layout.specs.Rules.{levelOf}
 use Rattle.layout.proofs.Places.{long-most, bits-below}
 use Rattle.layout.proofs.Entries.{area-entry}
-use Rattle.layout.proofs.Passed.{passed-area}
+use Rattle.layout.proofs.FaultlessUntil.{passed-area}
 use Rattle.layout.proofs.Wide.{wide-most}
 use Rattle.scan.proofs.AreaRunLaws.{passed-on}
 use Rattle.scan.proofs.area_run.after_area.Statement.{statement}

@@ -6,7 +6,7 @@ use mathlib.Core.Path.{_≡_, refl}
 use borrow.Author.Needs.{needs}
 use lib.ListN.{length}
 use Rattle.streams.specs.Flows.{outputSize, InRange, left}
-use Rattle.roll.specs.Contracts.{Room}
+use Rattle.roll.specs.Contracts.{StatementRoom}
 use Rattle.lines.specs.Contracts.{mostTurn}
 use Rattle.settle_roll.specs.Contracts.{Running, recordsLeft}
 use Rattle.settle_roll.proofs.Turns.{on-by, writing-by, last-by, counting-by, counting-writing}
@@ -15,7 +15,7 @@ use Rattle.settle_roll.proofs.run.settle_all.Tie as tie
 
 abbrev Inv-loop : tie.InvT-loop
 Inv-loop tariff counts book₀ input₀ out₀ statement₀ run₀ book input out statement run =
-    Running tariff counts book input out run × (length book ≡ length book₀) × Room statement
+    Running tariff counts book input out run × (length book ≡ length book₀) × StatementRoom statement
 
 abbrev μ-loop : tie.MeasureT-loop
 μ-loop tariff counts book₀ input₀ out₀ statement₀ run₀ book input out statement run = left recordsLeft (run .flow) (record { book = book; tally = run .tally })

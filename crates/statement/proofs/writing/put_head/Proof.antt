@@ -91,10 +91,10 @@ module _ {M : Type 1} (𝓤 : URA M) (H : Heap 𝓤) (A : Atoms 𝓤) (W : Given
   abbrev a : Arg
   a = (x, (place, (long, (opening, (area, (km, (minutes, (adults, (children, (bicycles, tt))))))))))
 
-  abbrev Passed : Type 0
-  Passed = List Val × (List Val × (List Val × (List Val × (List Val × (List Val × (List Val × (List Val × (List Val × (List Val × Unit {0})))))))))
+  abbrev Handed : Type 0
+  Handed = List Val × (List Val × (List Val × (List Val × (List Val × (List Val × (List Val × (List Val × (List Val × (List Val × Unit {0})))))))))
 
-  abbrev vals : Passed
+  abbrev vals : Handed
   vals = (s ∷ [], (vint w64 place ∷ [], (vint w16 long ∷ [], (vint w32 opening ∷ [], (vint w8 area ∷ [], (vint w16 km ∷ [], (vint w16 minutes ∷ [], (vint w8 adults ∷ [], (vint w8 children ∷ [], (vint w8 bicycles ∷ [], tt))))))))))
 
   abbrev Post : Val → SProp 𝓤

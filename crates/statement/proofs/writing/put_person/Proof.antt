@@ -89,10 +89,10 @@ module _ {M : Type 1} (𝓤 : URA M) (H : Heap 𝓤) (A : Atoms 𝓤) (W : Given
   abbrev a : Arg
   a = (x, (place, (amount, (reduction, (area, (class, tt))))))
 
-  abbrev Passed : Type 0
-  Passed = List Val × (List Val × (List Val × (List Val × (List Val × (List Val × Unit {0})))))
+  abbrev Handed : Type 0
+  Handed = List Val × (List Val × (List Val × (List Val × (List Val × (List Val × Unit {0})))))
 
-  abbrev vals : Passed
+  abbrev vals : Handed
   vals = (s ∷ [], (vint w64 place ∷ [], (vint w32 amount ∷ [], (vint w32 reduction ∷ [], (vint w8 area ∷ [], (vint w8 class ∷ [], tt))))))
 
   abbrev Post : Val → SProp 𝓤

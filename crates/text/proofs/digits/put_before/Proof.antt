@@ -7,7 +7,7 @@ use mathlib.Core.Path.{_≡_, refl, sym, ap, _∙_}
 use mathlib.Core.List.{_++_}
 use lib.ListN.{length, drop, length-set}
 use borrow.Author.Needs.{needs}
-use Rattle.text.specs.Words.{decimal}
+use Rattle.text.specs.Texts.{decimal}
 use Rattle.text.proofs.Decimal.{digits, set-behind, last-put, more-put, all-put, DigitsLeft, digit-put}
 use Rattle.text.proofs.digits.put_before.Statement.{statement}
 use Rattle.text.proofs.digits.put_before.Tie as tie

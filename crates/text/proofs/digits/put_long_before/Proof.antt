@@ -6,7 +6,7 @@ use native.Mathlib.Omega.{arith}
 use mathlib.Core.Path.{_≡_, refl, _∙_}
 use mathlib.Core.List.{_++_}
 use lib.ListN.{length, drop, length-set}
-use Rattle.text.specs.Words.{decimal}
+use Rattle.text.specs.Texts.{decimal}
 use Rattle.text.proofs.Decimal.{long-put, DigitsLeft, digit-put, long-left}
 use Rattle.text.proofs.digits.put_long_before.Statement.{statement}
 use Rattle.text.proofs.digits.put_long_before.Tie as tie

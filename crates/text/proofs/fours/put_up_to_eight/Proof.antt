@@ -4,7 +4,7 @@ use Prim.Native.Nat.{_+_, _*_, _/_, _%_}
 use native.Mathlib.Omega.{arith}
 use mathlib.Core.Path.{_≡_, ap, _∙_}
 use borrow.Author.Needs.{needs}
-use Rattle.text.specs.Words.{decimal}
+use Rattle.text.specs.Texts.{decimal}
 use Rattle.text.proofs.Puts.{shorter, behind-same}
 use Rattle.text.proofs.Zeros.{eight-few, eight-text}
 use Rattle.text.proofs.fours.put_up_to_eight.Statement.{statement}

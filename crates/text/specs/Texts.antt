@@ -1,4 +1,4 @@
--- Words and numbers, byte for byte.
+-- Texts and numbers, byte for byte.
 use Prim.Native.Nat.{ℕ, zero, suc, _+_, _/_, _%_}
 use Prim.Native.Char.{code}
 use Prim.Native.String as string

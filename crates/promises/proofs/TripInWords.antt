@@ -28,7 +28,7 @@ use Rattle.fare.proofs.Stops.{area-of-stops}
 use Rattle.fare.proofs.Breaks.{broken-between}
 use Rattle.fare.proofs.PartLaws.{parts-area, one-ride, two-rides}
 use Rattle.fare.proofs.TownLaws.{refused-says, said-refused}
-use Rattle.promises.specs.TripWords.{
+use Rattle.promises.specs.TripInWords.{
   RegionOfBoth,
   HoldsForBoth,
   the-region,

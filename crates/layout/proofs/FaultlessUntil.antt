@@ -34,14 +34,14 @@ use Rattle.layout.specs.Layout.{
   moreStops,
 }
 use Rattle.layout.specs.Rules.{levelOf, kindOf, factorsDue}
-use Rattle.layout.specs.Scan.{entryAt, readFrom, readTariff, Passed, FirstFault}
+use Rattle.layout.specs.Scan.{entryAt, readFrom, readTariff, FaultlessUntil, FirstFault}
 use Rattle.layout.proofs.Places.{place-none, place-next, bits-next, long-none, place-is, long-few, long-fewer}
 use Rattle.layout.proofs.PlaceLaws.{state-kind}
 use Rattle.layout.proofs.Turns.{turn-end, turn-fault, turn-area, turn-factor, turn-stop}
 use Rattle.layout.proofs.Entries.{area-entry, factor-entry, stop-entry, end-entry}
 use Rattle.layout.proofs.Wide.{wide-most}
 
-pub passed-none : (b : List ℕ) → Passed b 0 (areasBefore b 0)
+pub passed-none : (b : List ℕ) → FaultlessUntil b 0 (areasBefore b 0)
 passed-none b =
     record {
       reached = record { place = omega (arith, long-none b); inside = omega arith; few = omega arith; longs = refl };
@@ -50,13 +50,13 @@ passed-none b =
       stop = below-none _;
     }
 
-module _ (b : List ℕ) (at : ℕ) (soFar : Counts) (p : Passed b at soFar) where
+module _ (b : List ℕ) (at : ℕ) (soFar : Counts) (p : FaultlessUntil b at soFar) where
   -- an area stands where those before it end
   pub at-area : (kind : ℕ) → entryAt b at soFar ≡ Area kind → at ≡ areaPlace b (soFar .areas)
   at-area kind e =
       let facts = area-entry b at soFar kind e in omega (arith, ap ones (p .reached .longs), place-is b (soFar .areas))
 
-  pub passed-area : (kind : ℕ) → entryAt b at soFar ≡ Area kind → Passed b (areaEnd b at) (oneArea soFar kind)
+  pub passed-area : (kind : ℕ) → entryAt b at soFar ≡ Area kind → FaultlessUntil b (areaEnd b at) (oneArea soFar kind)
   passed-area kind e =
       let facts = area-entry b at soFar kind e in
       let here = at-area kind e in
@@ -75,7 +75,7 @@ module _ (b : List ℕ) (at : ℕ) (soFar : Counts) (p : Passed b at soFar) wher
         stop = λ j h. absurd (omega arith);
       }
 
-  pub passed-factor : entryAt b at soFar ≡ Factor → Passed b (at + factorSize) (moreFactors soFar 1)
+  pub passed-factor : entryAt b at soFar ≡ Factor → FaultlessUntil b (at + factorSize) (moreFactors soFar 1)
   passed-factor e =
       let facts = factor-entry b at soFar e in
       let here : at ≡ factorPlace soFar (soFar .factors) = omega arith in
@@ -86,7 +86,7 @@ module _ (b : List ℕ) (at : ℕ) (soFar : Counts) (p : Passed b at soFar) wher
         stop = λ j h. absurd (omega arith);
       }
 
-  pub passed-stop : entryAt b at soFar ≡ Stop → Passed b (at + stopSize) (moreStops soFar 1)
+  pub passed-stop : entryAt b at soFar ≡ Stop → FaultlessUntil b (at + stopSize) (moreStops soFar 1)
   passed-stop e =
       let facts = stop-entry b at soFar e in
       record {
@@ -103,7 +103,7 @@ most (suc n) bound each = each n (omega arith)
 
 -- Not all areas are of kind 8, and at most so many factor records as are due and 1,000 stops go before a place, so it lies at 14,523 or
 -- before: where 32 areas, 31 of kind 8, with a factor record each and 1,000 stops end.
-module _ (b : List ℕ) (at : ℕ) (soFar : Counts) (p : Passed b at soFar) where
+module _ (b : List ℕ) (at : ℕ) (soFar : Counts) (p : FaultlessUntil b at soFar) where
   pub few-long : 0 < soFar .areas → ones (soFar .longs) < soFar .areas
   few-long some =
       let first = area-entry b (areaPlace b 0) (areasBefore b 0) (kindOf b 0) (p .area 0 some) in
@@ -175,7 +175,7 @@ comes-first : (b : List ℕ) → Comes b 0 (areasBefore b 0)
 unfolding readTariff
 comes-first b = record { turns = length b; same = refl; enough = omega arith }
 
-comes : (b : List ℕ) (at : ℕ) (soFar : Counts) → Passed b at soFar → Comes b at soFar
+comes : (b : List ℕ) (at : ℕ) (soFar : Counts) → FaultlessUntil b at soFar → Comes b at soFar
 comes b at soFar p =
     let areas =
     after-many b (areaPlace b) (areasBefore b) (soFar .areas)
@@ -208,7 +208,7 @@ comes b at soFar p =
     (rw first-stop at factors))
 
 -- Where all before is faultless, the end gives the counts, and a fault is what is given.
-pub at-end : (b : List ℕ) (at : ℕ) (soFar : Counts) → Passed b at soFar → entryAt b at soFar ≡ End
+pub at-end : (b : List ℕ) (at : ℕ) (soFar : Counts) → FaultlessUntil b at soFar → entryAt b at soFar ≡ End
     → readTariff b ≡ Faultless soFar
 at-end b at soFar p e =
     let c = comes b at soFar p in
@@ -222,17 +222,17 @@ at-fault b number at soFar f =
 -- What the reading of a tariff ends with: its first fault, or its end.
 pub data Ends (b : List ℕ) : Reading → Type 0 where
   fault : {number at : ℕ} (soFar : Counts) → FirstFault b number at soFar → Ends b (Fault number at)
-  finish : {counts : Counts} (at : ℕ) → Passed b at counts → entryAt b at counts ≡ End
+  finish : {counts : Counts} (at : ℕ) → FaultlessUntil b at counts → entryAt b at counts ≡ End
       → Ends b (Faultless counts)
 
 reads :
-    (turns : ℕ) (b : List ℕ) (at : ℕ) (soFar : Counts) → Passed b at soFar → length b < at + turns
+    (turns : ℕ) (b : List ℕ) (at : ℕ) (soFar : Counts) → FaultlessUntil b at soFar → length b < at + turns
     → Ends b (readFrom turns b at soFar)
 reads zero b at soFar p enough = absurd (omega arith)
 reads (suc turns) b at soFar p enough = go (reads turns b) (entryAt b at soFar) refl
   where
     go :
-        ((at′ : ℕ) (soFar′ : Counts) → Passed b at′ soFar′ → length b < at′ + turns → Ends b (readFrom turns b at′ soFar′))
+        ((at′ : ℕ) (soFar′ : Counts) → FaultlessUntil b at′ soFar′ → length b < at′ + turns → Ends b (readFrom turns b at′ soFar′))
         → (entry : Entry) → entryAt b at soFar ≡ entry → Ends b (readFrom (suc turns) b at soFar)
     go on End is = rw (turn-end turns b at soFar is) (finish at p is)
     go on (Area kind) is =
@@ -257,10 +257,10 @@ ends b = reads (suc (length b)) b 0 (areasBefore b 0) (passed-none b) (omega ari
 -- The counts are given at the tariff's end, every record before it faultless, an area among them, and each factor record that is due.
 pub finished :
     (b : List ℕ) (counts : Counts) → readTariff b ≡ Faultless counts
-    → Passed b (length b) counts × (0 < counts .areas) × (counts .factors ≡ factorsDue b counts)
+    → FaultlessUntil b (length b) counts × (0 < counts .areas) × (counts .factors ≡ factorsDue b counts)
 finished b counts e = meant (rw e at (ends b))
   where
-    meant : Ends b (Faultless counts) → Passed b (length b) counts × (0 < counts .areas) × (counts .factors ≡ factorsDue b counts)
+    meant : Ends b (Faultless counts) → FaultlessUntil b (length b) counts × (0 < counts .areas) × (counts .factors ≡ factorsDue b counts)
     meant (finish at p is) =
         let (over, some, all) = end-entry b at counts is in
         let here : at ≡ length b = omega arith in
