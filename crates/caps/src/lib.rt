@@ -35,36 +35,40 @@ pub const NO_AREA: u8 = 255;
 
 pub const NO_CLASS: u8 = 0;
 
-// Larger than any amount and any sum together.
+// Cents in 64 bits, among which is a number larger than any amount and any sum together.
+struct WideCents(u64);
+
 const NO_LIMIT: u64 = 8_589_934_592;
 
 // A cap as a plain number, so that what it has left is a difference, and the least of it is found without a branch.
-fn limit_of(cap: Cap) -> u64
-    ensures { λ r. ⌜ r ≡ limitOf cap ⌝ }
+fn limit_of(cap: Cap) -> WideCents
+    ensures { λ r. ⌜ r .0 ≡ limitOf cap ⌝ }
 {
     match cap {
-        Cap::NoCap => NO_LIMIT,
-        Cap::UpTo(most) => most.0 as u64,
+        Cap::NoCap => WideCents(NO_LIMIT),
+        Cap::UpTo(most) => WideCents(most.0 as u64),
     }
 }
 
 // What a cap has left over a sum: 0 if passed already.
-fn left_of(cap: Cap, sum: Cents) -> u64
-    ensures { λ r. ⌜ LeftBy cap (sum .0) r ⌝ }
+fn left_of(cap: Cap, sum: Cents) -> WideCents
+    ensures { λ r. ⌜ LeftBy cap (sum .0) (r .0) ⌝ }
 {
-    let most = limit_of(cap);
+    let limit = limit_of(cap);
+    let most = limit.0;
     let spent = sum.0 as u64;
-    if most <= spent { 0 } else { most - spent }
+    let left = if most <= spent { 0 } else { most - spent };
+    WideCents(left)
 }
 
 // A cap that leaves no more than the least so far takes the name: so of caps that leave equally little the one that is looked at last keeps it.
-fn under(rest: Rest, left: u64, area: u8, class: u8) -> Rest
-    ensures { λ r. ⌜ RestWith rest left area class r ⌝ }
+fn under(rest: Rest, left: WideCents, area: u8, class: u8) -> Rest
+    ensures { λ r. ⌜ RestWith rest (left .0) area class r ⌝ }
 {
     let amount = rest.amount;
-    if left <= amount.0 as u64 {
+    if left.0 <= amount.0 as u64 {
         Rest {
-            amount: Cents(left as u32),
+            amount: Cents(left.0 as u32),
             name: Name {
                 area: area,
                 class: class,

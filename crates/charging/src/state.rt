@@ -138,13 +138,13 @@ fn state_bicycles(
     let own = terms_of(tariff, counts, at);
     let mut last = Found {
         cover: NEVER_FOUND,
-        paid: 0,
+        paid: Cents(0),
         amount: Cents(0),
     };
     let mut next = place;
     for i in 0..count {
         let found = get_in(book, current, cover(i)) as usize;
-        let before = get_in(book, current, payments(i));
+        let before = Cents(get_in(book, current, payments(i)));
         last = charge_found(tariff, counts, earlier, own, at, last, found, before);
         let amount = last.amount;
         next = write_charge(statement, next, amount);

@@ -32,8 +32,8 @@ paidAfter tariff counts (Part before) old paid = paidWith tariff counts (newCove
 pub record WordsAfter (tariff : List ℕ) (counts : Counts) (earlier : Earlier) (old paid : ℕ) (r : Words) : Type 0 where
   pub cover : r .cover ≡ coverAfter tariff counts earlier old
   pub known : r .cover ≤ counts .areas
-  pub payments : r .paid ≡ paidAfter tariff counts earlier old paid
-  pub range : r .paid ≤ mostPaid
+  pub payments : r .paid .0 ≡ paidAfter tariff counts earlier old paid
+  pub range : r .paid .0 ≤ mostPaid
 
 pub record NewCover (tariff : List ℕ) (counts : Counts) (area old r : ℕ) : Type 0 where
   pub value : r ≡ newCover tariff counts area old
@@ -68,16 +68,16 @@ chargeFound tariff counts earlier area old paid =
 
 -- what is held of the bicycle before: the charge is that of its words, if they are any bicycle's
 pub record FoundRight (tariff : List ℕ) (counts : Counts) (earlier : Earlier) (area : ℕ) (found : Found) : Type 0 where
-  pub right : found .cover ≤ counts .areas → found .amount .0 ≡ chargeFound tariff counts earlier area (found .cover) (found .paid)
+  pub right : found .cover ≤ counts .areas → found .amount .0 ≡ chargeFound tariff counts earlier area (found .cover) (found .paid .0)
 
 pub record FoundAs (tariff : List ℕ) (counts : Counts) (earlier : Earlier) (area old paid : ℕ) (found : Found) : Type 0 where
   pub cover : found .cover ≡ old
-  pub payments : found .paid ≡ paid
+  pub payments : found .paid .0 ≡ paid
   pub charge : found .amount .0 ≡ chargeFound tariff counts earlier area old paid
 
 -- the words that a ride in an area leaves a bicycle
 pub record WordsWith (tariff : List ℕ) (counts : Counts) (area old paid : ℕ) (r : Words) : Type 0 where
   pub cover : r .cover ≡ 1 + newCover tariff counts area old
   pub known : r .cover ≤ counts .areas
-  pub payments : r .paid ≡ paidWith tariff counts (newCover tariff counts area old) paid
-  pub range : r .paid ≤ mostPaid
+  pub payments : r .paid .0 ≡ paidWith tariff counts (newCover tariff counts area old) paid
+  pub range : r .paid .0 ≤ mostPaid

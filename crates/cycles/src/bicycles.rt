@@ -30,28 +30,29 @@ fn new_cover(tariff: &[u8], counts: Counts, at: usize, old: usize) -> usize
 }
 
 // What a bicycle pays for a ride where its covering area is of kind 8: the smaller of the area's price per trip and what its cap has left.
-fn payment(terms: Terms, paid: u32) -> Cents
-    ensures { λ r. ⌜ r .0 ≡ payBy terms paid ⌝ }
+fn payment(terms: Terms, paid: Cents) -> Cents
+    ensures { λ r. ⌜ r .0 ≡ payBy terms (paid .0) ⌝ }
 {
     let price = terms.price;
     let cap = terms.flat;
-    if cap.0 <= paid {
+    if cap.0 <= paid.0 {
         Cents(0)
-    } else if price.0 <= cap.0 - paid {
+    } else if price.0 <= cap.0 - paid.0 {
         price
     } else {
-        Cents(cap.0 - paid)
+        Cents(cap.0 - paid.0)
     }
 }
 
 // A bicycle's payments after a ride, by its covering area then: in kind 8 what it pays is added.
-fn paid_with(terms: Terms, paid: u32) -> u32
-    requires { ⌜ (terms .flat .0 ≤ mostMoney) × (paid ≤ mostPaid) ⌝ }
-    ensures { λ r. ⌜ r ≡ paidBy terms paid ⌝ }
+fn paid_with(terms: Terms, paid: Cents) -> Cents
+    requires { ⌜ (terms .flat .0 ≤ mostMoney) × (paid .0 ≤ mostPaid) ⌝ }
+    ensures { λ r. ⌜ r .0 ≡ paidBy terms (paid .0) ⌝ }
 {
     if terms.aachen {
         let more = payment(terms, paid);
-        paid + more.0
+        let after = paid.0 + more.0;
+        Cents(after)
     } else {
         paid
     }
@@ -77,10 +78,10 @@ pub fn charge_bicycle(
     own: Terms,
     at: usize,
     old: usize,
-    paid: u32,
+    paid: Cents,
 ) -> Cents
     requires { ⌜ Read (now tariff) counts × (TermsOf (now tariff) counts at own × ((at < counts .areas) × (old ≤ counts .areas))) ⌝ }
-    ensures { λ r. ⌜ BicycleCharge (now (tariff .entry)) counts at old paid (r .0) ⌝ }
+    ensures { λ r. ⌜ BicycleCharge (now (tariff .entry)) counts at old (paid .0) (r .0) ⌝ }
 {
     let new = new_cover(tariff, counts, at, old);
     let terms = terms_by(tariff, counts, own, at, new);
@@ -98,7 +99,7 @@ pub fn charge_bicycle(
 // A bicycle's two words: 1 + its covering area's number, or 0 for none, and its payments.
 pub struct Words {
     pub cover: usize,
-    pub paid: u32,
+    pub paid: Cents,
 }
 
 // The words that a ride in an area leaves a bicycle.
@@ -108,10 +109,10 @@ pub fn words_with(
     own: Terms,
     at: usize,
     old: usize,
-    paid: u32,
+    paid: Cents,
 ) -> Words
-    requires { ⌜ Read (now tariff) counts × (TermsOf (now tariff) counts at own × ((at < counts .areas) × ((old ≤ counts .areas) × (paid ≤ mostPaid)))) ⌝ }
-    ensures { λ r. ⌜ WordsWith (now (tariff .entry)) counts at old paid r ⌝ }
+    requires { ⌜ Read (now tariff) counts × (TermsOf (now tariff) counts at own × ((at < counts .areas) × ((old ≤ counts .areas) × (paid .0 ≤ mostPaid)))) ⌝ }
+    ensures { λ r. ⌜ WordsWith (now (tariff .entry)) counts at old (paid .0) r ⌝ }
 {
     let new = new_cover(tariff, counts, at, old);
     let terms = terms_by(tariff, counts, own, at, new);
@@ -123,9 +124,15 @@ pub fn words_with(
 }
 
 // The words after an earlier part, by those in the book.
-pub fn words_after(tariff: &[u8], counts: Counts, earlier: Earlier, old: usize, paid: u32) -> Words
-    requires { ⌜ Read (now tariff) counts × (EarlierThere counts earlier × ((old ≤ counts .areas) × (paid ≤ mostPaid))) ⌝ }
-    ensures { λ r. ⌜ WordsAfter (now (tariff .entry)) counts earlier old paid r ⌝ }
+pub fn words_after(
+    tariff: &[u8],
+    counts: Counts,
+    earlier: Earlier,
+    old: usize,
+    paid: Cents,
+) -> Words
+    requires { ⌜ Read (now tariff) counts × (EarlierThere counts earlier × ((old ≤ counts .areas) × (paid .0 ≤ mostPaid))) ⌝ }
+    ensures { λ r. ⌜ WordsAfter (now (tariff .entry)) counts earlier old (paid .0) r ⌝ }
 {
     match earlier {
         Earlier::Nothing => Words { cover: old, paid },

@@ -13,7 +13,7 @@ ghost use Rattle.cycles.specs.Contracts.{EarlierThere, TermsOf, FoundRig
 // A bicycle's two words as they were found, and its charge.
 pub struct Found {
     pub cover: usize,
-    pub paid: u32,
+    pub paid: Cents,
     pub amount: Cents,
 }
 
@@ -29,13 +29,14 @@ pub fn charge_found(
     at: usize,
     last: Found,
     cover: usize,
-    paid: u32,
+    paid: Cents,
 ) -> Found
     requires { ⌜ Read (now tariff) counts × (TermsOf (now tariff) counts at own × ((at < counts .areas) × (EarlierThere counts earlier
-        × ((cover ≤ counts .areas) × ((paid ≤ mostPaid) × FoundRight (now tariff) counts earlier at last))))) ⌝ }
-    ensures { λ r. ⌜ FoundAs (now (tariff .entry)) counts earlier at cover paid r ⌝ }
+        × ((cover ≤ counts .areas) × ((paid .0 ≤ mostPaid) × FoundRight (now tariff) counts earlier at last))))) ⌝ }
+    ensures { λ r. ⌜ FoundAs (now (tariff .entry)) counts earlier at cover (paid .0) r ⌝ }
 {
-    if (cover == last.cover) & (paid == last.paid) {
+    let before = last.paid;
+    if (cover == last.cover) & (paid.0 == before.0) {
         return last;
     }
     let words = words_after(tariff, counts, earlier, cover, paid);

@@ -167,10 +167,11 @@ fn cover_bicycles(tariff: &[u8], counts: Counts, book: &mut [u8], at: usize, cou
         let place = cover(i);
         let old = get(book, place) as usize;
         let paying = payments(i);
-        let before = get(book, paying);
+        let before = Cents(get(book, paying));
         let after = words_with(tariff, counts, own, at, old, before);
         put(book, place, after.cover as u32);
-        put(book, paying, after.paid);
+        let paid = after.paid;
+        put(book, paying, paid.0);
     }
 }
 

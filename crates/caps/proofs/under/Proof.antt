@@ -14,7 +14,7 @@ cast-t9 : tie.Need-cast-t9
 cast-t9 c = search needs
 
 returns : tie.Need-returns
-returns c = record { value = rw (le-leb _ _ (c .if1 .taken)); less = c .if1 .taken; rest-range = omega arith }
+returns c = record { value = rw (le-leb _ _ (c .before .if1 .taken)); less = c .before .if1 .taken; rest-range = omega arith }
 
 returns-2 : tie.Need-returns-2
 returns-2 c = record { value = rw (lt-leb _ _ (c .if1 .left)); less = le-refl _; rest-range = omega arith }

@@ -74,12 +74,12 @@ put-requires c κs = let s = c .before .before .before .before .before .before .
 
 put-requires-2 : tie.Need-put-requires-2 Inv-loop μ-loop
 put-requires-2 c κs =
-    let s = c .before .before .before .before .before .before .before .before .before in
-    (ap length (c .before .before .before .put .ensures) ∙ size-put _ _ _ ∙ s .before .before .before .before .before .loop .inv .size, s .payments .ensures .1)
+    let s = c .before .before .before .before .before .before .before .before .before .before in
+    (ap length (c .before .before .before .before .put .ensures) ∙ size-put _ _ _ ∙ s .before .before .before .before .before .loop .inv .size, s .payments .ensures .1)
 
 -- a turn, from its end
 abbrev turn : tie.After-slice-known3 Inv-loop μ-loop → tie.In-loop Inv-loop μ-loop
-turn c = c .before .before .before .before .before .before .before .before .before .before .before .before .before .before .before .before
+turn c = c .before .before .before .before .before .before .before .before .before .before .before .before .before .before .before .before .before
 
 add-i : tie.Need-add-i Inv-loop μ-loop
 add-i c = omega (arith, turn c .loop-test .taken, turn c .before .before .before .before .before .before .pre .few)
@@ -89,7 +89,7 @@ loop-less c = omega (arith, turn c .loop-test .taken)
 
 loop-again : tie.Need-loop-again Inv-loop μ-loop
 loop-again c =
-    let put = c .before .before .before .before .before .before in
+    let put = c .before .before .before .before .before .before .before in
     let after = put .before .before .before .words-with .ensures in
     let s = put .before .before .before .before in
     bicycles-turn (turn c .before .loop .inv) (turn c .loop-test .taken) (s .before .before .before .before .before .cover .ensures .0)

@@ -11,15 +11,15 @@ use Rattle.cycles.proofs.found.charge_found.Tie as tie
 
 returns : tie.Need-returns
 returns c =
-    let a = c .before .before .before .before .args in
-    let p = c .before .before .before .before .pre .1 .1 .1 .1 in
-    let old = eqb-true (a .cover) (a .last .cover) (both-left (eqb (a .cover) (a .last .cover)) (eqb (a .paid) (a .last .paid)) (c .if1 .taken)) in
-    let paid = eqb-true (a .paid) (a .last .paid) (both-right (eqb (a .cover) (a .last .cover)) (eqb (a .paid) (a .last .paid)) (c .if1 .taken)) in
+    let a = c .before .before .before .before .before .before .args in
+    let p = c .before .before .before .before .before .before .pre .1 .1 .1 .1 in
+    let old = eqb-true (a .cover) (a .last .cover) (both-left (eqb (a .cover) (a .last .cover)) (eqb (a .paid .0) (a .last .paid .0)) (c .if1 .taken)) in
+    let paid = eqb-true (a .paid .0) (a .last .paid .0) (both-right (eqb (a .cover) (a .last .cover)) (eqb (a .paid .0) (a .last .paid .0)) (c .if1 .taken)) in
     record { cover = sym old; payments = sym paid; charge = rw (old, paid) (p .1 .1 .right (omega (arith, old, p .0))) }
 
 words-after-requires : tie.Need-words-after-requires
 words-after-requires c κs =
-    let p = c .before .before .before .before .pre in (p .0, (p .1 .1 .1 .0, (p .1 .1 .1 .1 .0, p .1 .1 .1 .1 .1 .0)))
+    let p = c .before .before .before .before .before .before .pre in (p .0, (p .1 .1 .1 .0, (p .1 .1 .1 .1 .0, p .1 .1 .1 .1 .1 .0)))
 
 charge-bicycle-requires : tie.Need-charge-bicycle-requires
 charge-bicycle-requires c κs = search needs
