@@ -151,7 +151,7 @@
  * milecopper_version and what the scripts say all come from these lines. */
 #define MILECOPPER_VERSION_MAJOR 0
 #define MILECOPPER_VERSION_MINOR 14
-#define MILECOPPER_VERSION_PATCH 2
+#define MILECOPPER_VERSION_PATCH 3
 #define MILECOPPER_VERSION_AS_TEXT(major, minor, patch) #major "." #minor "." #patch
 #define MILECOPPER_VERSION_AS_WRITTEN(major, minor, patch) MILECOPPER_VERSION_AS_TEXT(major, minor, patch)
 #define MILECOPPER_VERSION \
