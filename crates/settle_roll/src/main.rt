@@ -22,7 +22,7 @@ fn print_fault(number: u8, at: usize) {
 }
 
 // A refused tariff gives its one line; under any other the roll is settled.
-fn settle_under(tariff: &[u8]) {
+fn settle_or_refuse(tariff: &[u8]) {
     match read_tariff(tariff) {
         Reading::Fault { number, at } => print_fault(number, at),
         Reading::Faultless(counts) => settle_roll(tariff, counts),
@@ -36,5 +36,5 @@ fn main() {
         return;
     }
     let bytes = got.bytes;
-    settle_under(&tariff[..bytes]);
+    settle_or_refuse(&tariff[..bytes]);
 }

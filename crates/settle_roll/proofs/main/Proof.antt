@@ -19,11 +19,11 @@ returns c = search needs
 array-share-prefix-tariff : tie.Need-array-share-prefix-tariff
 array-share-prefix-tariff c = search needs
 
-slice-aggregate-settle-under : tie.Need-slice-aggregate-settle-under
-slice-aggregate-settle-under c = sym (length-take-le _ _ (omega arith))
+slice-aggregate-settle-or-refuse : tie.Need-slice-aggregate-settle-or-refuse
+slice-aggregate-settle-or-refuse c = sym (length-take-le _ _ (omega arith))
 
-settle-under-requires : tie.Need-settle-under-requires
-settle-under-requires c κs = search needs
+settle-or-refuse-requires : tie.Need-settle-or-refuse-requires
+settle-or-refuse-requires c κs = search needs
 
 returns-2 : tie.Need-returns-2
 returns-2 c = search needs
@@ -36,6 +36,6 @@ main-spec =
     load-tariff-requires
     returns
     array-share-prefix-tariff
-    slice-aggregate-settle-under
-    settle-under-requires
+    slice-aggregate-settle-or-refuse
+    settle-or-refuse-requires
     returns-2)

@@ -1,9 +1,9 @@
--- `settle_under` is safe: the roll is settled where the tariff was read without fault.
+-- `settle_or_refuse` is safe: the roll is settled where the tariff was read without fault.
 -- Assumes nothing.
 use mathlib.Core.Path.{sym, _∙_}
 use borrow.Author.Needs.{needs}
-use Rattle.settle_roll.proofs.settle_under.Statement.{statement}
-use Rattle.settle_roll.proofs.settle_under.Tie as tie
+use Rattle.settle_roll.proofs.settle_or_refuse.Statement.{statement}
+use Rattle.settle_roll.proofs.settle_or_refuse.Tie as tie
 
 read-tariff-requires : tie.Need-read-tariff-requires
 read-tariff-requires c κs = search needs
@@ -26,8 +26,8 @@ returns c = search needs
 returns-2 : tie.Need-returns-2
 returns-2 c = search needs
 
-pub settle-under-spec : {M : Type 1} → statement M
-settle-under-spec =
+pub settle-or-refuse-spec : {M : Type 1} → statement M
+settle-or-refuse-spec =
     tie.close
     (tie.spec
     read-tariff-requires
