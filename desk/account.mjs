@@ -1,10 +1,8 @@
 // A member's account: trips settled one after another on the member's book, and what they come to, window by window.
 // Every amount is the library's. What is added up here is compared with the book's own words after each trip.
 import { clockOf } from './clock.mjs';
-import { momentIn, putTrip } from './trips.mjs';
-
-/** The minutes of a window. */
-export const WINDOW = 1440;
+import { WINDOW, inForce } from './editions.mjs';
+import { hasStops, momentIn, putTrip, takeStops } from './trips.mjs';
 
 // ---- The book's words (docs/FORMAT.md, "The book")
 
@@ -21,6 +19,13 @@ const secondIn = (view, rider, area) => word(view, 3 + 64 * rider + 2 * area);
 const allIn = (view, rider, area) => word(view, 3 + 64 * rider + 2 * area + 1);
 const coverIn = (view, bicycle) => word(view, 1347 + bicycle);
 const paymentsIn = (view, bicycle) => word(view, 1357 + bicycle);
+const editionIn = (view) => word(view, 1367);
+
+/** The number of the edition that the book's window is under; 0 in a fresh one. */
+export const bookEdition = (book) => editionIn(viewOf(book));
+
+/** The areas that the book's words are of; of a fresh one, or one that is damaged, the first edition's. */
+const areasOf = (view, editions) => (editions[editionIn(view) - 1] ?? editions[0]).areas;
 
 /** When the book's last trip ended; null in a fresh one. */
 export function lastCheckOut(book) {
@@ -112,29 +117,47 @@ export class Disagreement extends Error {
 
 /**
  * Settles a member's trips, which come in order, on the book, and makes entries of them. `inPeriod` says which of them
- * count; the others came before. Each is priced once, on the book that its window began in.
+ * count; the others came before. Each is priced once, on the book that its window began in. One whose stops are not all
+ * in the edition that settles it is told to `note(trip, key, values)`, and is none of the entries.
  */
-export function settleMember({ engine, tariff, zone, name, book, trips, inPeriod }) {
+export function settleMember({ engine, tariff, zone, name, book, trips, inPeriod, note }) {
     const open = engine.open(tariff.bytes, book, putTrip);
-    const account = { name, view: open.view(), windows: [], clock: clockOf(zone), areas: tariff.areas };
+    const account = { name, view: open.view(), windows: [], clock: clockOf(zone), editions: tariff.editions };
+    const areas = areasOf(account.view, tariff.editions);
     account.opening = tripsIn(account.view) === 0 ? null : openingIn(account.view);
-    account.paid = PARTY.map((_, slot) => paidByBook(account.view, tariff.areas, slot));
+    account.paid = PARTY.map((_, slot) => paidByBook(account.view, areas, slot));
+    const entries = [];
     for (const entry of trips) {
-        const sums = sumsBefore(account, entry);
-        const answer = open.settle(entry);
+        const edition = editionFor(account, entry);
+        if (tariff.editions.length > 1 && !hasStops(entry, edition, (...told) => note(entry, ...told))) continue;
+        if (entry.edition !== edition) takeStops(entry, edition);
         entry.inPeriod = inPeriod(entry);
-        entry.accepted = answer.accepted;
-        if (answer.accepted) accept(account, entry, answer.records.map(partOf), sums);
-        else entry.refusal = { number: answer.refusal.number, place: answer.refusal.place };
-        putInWindow(account, entry);
+        settleEntry(account, open, entry);
+        entries.push(entry);
     }
-    closeWindow(account, sumsOf(account.view, account.areas));
-    return { name, entries: trips, windows: account.windows, book: open.book() };
+    closeWindow(account, sumsOf(account.view, areasOf(account.view, account.editions)));
+    return { name, entries, windows: account.windows, book: open.book() };
+}
+
+/** The number of the edition that settles a trip: the book's while its window is open, else by the check-in. */
+function editionFor({ opening, view, editions }, { checkIn, checkOut }) {
+    const belongs = opening !== null && checkOut.minute <= opening + WINDOW;
+    return belongs ? editionIn(view) : inForce(editions, checkIn.minute).number;
+}
+
+function settleEntry(account, open, entry) {
+    const sums = sumsBefore(account, entry);
+    const answer = open.settle(entry);
+    entry.accepted = answer.accepted;
+    if (answer.accepted) accept(account, entry, answer.records.map(partOf), sums);
+    else entry.refusal = { number: answer.refusal.number, place: answer.refusal.place };
+    putInWindow(account, entry);
 }
 
 /** The sums of the window that a trip ends, since it checks out when that is over (R9.2); null of any other trip. */
-function sumsBefore({ opening, view, areas }, { checkOut }) {
-    return opening !== null && checkOut.minute > opening + WINDOW ? sumsOf(view, areas) : null;
+function sumsBefore({ opening, view, editions }, { checkOut }) {
+    const over = opening !== null && checkOut.minute > opening + WINDOW;
+    return over ? sumsOf(view, areasOf(view, editions)) : null;
 }
 
 function accept(account, entry, parts, sums) {
@@ -155,10 +178,15 @@ function accept(account, entry, parts, sums) {
 
 const placeOf = ({ file, line }) => `${file}:${line}`;
 
-/** The window, the last check-out, and what every rider and bicycle has paid in it: the book has to say the same. */
-function agree({ name, view, paid, areas }, entry) {
+/**
+ * The window, its edition, the last check-out, and what every rider and bicycle has paid in it: the book has to say the
+ * same.
+ */
+function agree({ name, view, paid, editions }, entry) {
     if (openingIn(view) !== entry.window) throw new Disagreement(name, `opening, ${placeOf(entry)}`);
+    if (editionIn(view) !== entry.edition) throw new Disagreement(name, `edition, ${placeOf(entry)}`);
     if (lastCheckOutIn(view) !== entry.checkOut.minute) throw new Disagreement(name, `check-out, ${placeOf(entry)}`);
+    const areas = areasOf(view, editions);
     for (let slot = 0; slot < paid.length; slot += 1) {
         const due = paidByBook(view, areas, slot);
         if (paid[slot] === due) continue;
@@ -177,8 +205,11 @@ function putInWindow({ windows, clock }, entry) {
     else windows.push(windowFrom(clock, opening, entry));
 }
 
+/** A window has the edition that its first trip opened it under; the group without an opening has none. */
 function windowFrom(clock, opening, entry) {
-    return { opening, openingLocal: opening === null ? null : momentIn(clock, opening), entries: [entry], sums: [] };
+    if (opening === null) return { opening, openingLocal: null, edition: null, entries: [entry], sums: [] };
+    const openingLocal = momentIn(clock, opening);
+    return { opening, openingLocal, edition: entry.edition, entries: [entry], sums: [] };
 }
 
 function openAt(window, minute) {

@@ -1,24 +1,29 @@
-// The books file: the members' books at the end of a period, what in the tariff they depend on, and the trips that they
-// are of. Closing writes it, once a period; everything else reads it. A book's words that are 0 are left out.
+// The books file: the members' books at the end of a period, what in each edition of the tariff they depend on, and the
+// trips that they are of. Closing writes it, once a period; everything else reads it. A book's words that are 0 are
+// left out.
+import { FIRST_DAY, isLaterDay } from './editions.mjs';
 import { textIn } from './encoding.mjs';
 import { BOOK_BYTES } from './engine.mjs';
 import { areKept, keptLines, stopWords } from './kept.mjs';
 import { isPeriod } from './months.mjs';
 import { structureOf } from './tariff.mjs';
 
-const MARK = 'milecopper books 2';
-const OLD_MARK = 'milecopper books 1'; // knows the hash of the whole tariff alone, and no trips
+const MARK = 'milecopper books 3';
+const ONE_EDITION = 'milecopper books 2'; // knows one edition, and its books have no word for it
+const NO_TRIPS = 'milecopper books 1'; // neither; and of the tariff the hash alone, and no trips
+const FORMS = [MARK, ONE_EDITION, NO_TRIPS];
 const WORDS = BOOK_BYTES / 4;
+const EDITION_WORD = WORDS - 1; // the last: the number of the window's edition
 
 // ---- Reading
 
 /**
- * What a file says: {period, books: member → book, tariff}, where `tariff` is the hash of the whole tariff. The present
- * form says besides `areas`, how many there were, `structure` and `values`, the hashes of what they mean and of what
- * stands in them; `before`, the month of the books that these went on from, or null; `trips`, member → all trips that
- * were settled from there on (`keptLines`), and `stopIds`, the ids of the words of their stops; `association`, {name,
- * contact} of whoever closed the month, or null. Of the older form these are undefined. Null, and a mistake, for any
- * other file.
+ * What a file says: {period, books: member → book, editions}, where `editions` has of each that there was {tariff}, the
+ * hash of its tariff. Forms from the second on say besides of each `from`, its day; `areas`, how many there were;
+ * `structure` and `values`, the hashes of what they mean and of what stands in them; and `stopIds`, the ids of the
+ * words of its stops. Of the whole they say `before`, the month of the books that these went on from, or null; `trips`,
+ * member → all trips that were settled from there on (`keptLines`); `association`, {name, contact} of whoever closed
+ * the month, or null. Of the oldest form these are undefined. Null, and a mistake, for any other file.
  */
 export function readBooks(file, mistakes) {
     const text = textIn(file, mistakes);
@@ -29,26 +34,39 @@ export function readBooks(file, mistakes) {
 export function parsedBooks(text) {
     try {
         const said = JSON.parse(text);
-        const { form, tariff, period, members } = said;
-        const books = new Map(members.map(({ member, words }) => [member, bookOf(words)]));
-        const whole = isHash(tariff) && isPeriod(period) && books.size === members.length;
+        const { form, period, members } = said;
+        const books = new Map(members.map(({ member, words }) => [member, bookOf(words, form)]));
+        const editions = editionsIn(said);
+        const whole = FORMS.includes(form) && isPeriod(period) && books.size === members.length && editions !== null;
         const right = [...books].every(([member, book]) => typeof member === 'string' && book !== null);
         if (!whole || !right) return null;
-        if (form === OLD_MARK) return { period, tariff, books };
-        const more = form === MARK ? presentForm(said) : null;
-        return more && { period, tariff, books, ...more };
+        if (form === NO_TRIPS) return { period, books, editions };
+        const more = keptIn(said, editions);
+        return more && { period, books, editions, ...more };
     } catch {
         return null;
     }
 }
 
-function presentForm({ areas, structure, values, before, stops, members, period, association }) {
-    const right = Number.isInteger(areas) && areas > 0 && isHash(structure) && isHash(values);
+/** The editions that the file says it knows, one or two; null where they are not such. */
+function editionsIn({ form, tariff, areas, structure, values, stops, editions }) {
+    if (form === NO_TRIPS) return isHash(tariff) ? [{ tariff }] : null;
+    const only = { from: FIRST_DAY, tariff, areas, structure, values, stops };
+    const known = form === ONE_EDITION ? [only] : editions;
+    const right = ({ from, tariff: whole, areas: count, structure: meaning, values: prices, stops: ids }, i) => {
+        const day = i === 0 ? from === FIRST_DAY : isLaterDay(from);
+        const hashes = [whole, meaning, prices].every(isHash);
+        return day && hashes && Number.isInteger(count) && count > 0 && ids !== null && typeof ids === 'object';
+    };
+    if (known.length < 1 || known.length > 2 || !known.every(right)) return null;
+    return known.map(({ stops: stopIds, ...edition }) => ({ ...edition, stopIds }));
+}
+
+function keptIn({ before, members, period, association }, editions) {
     const inOrder = before === null || (isPeriod(before) && before < period);
-    const whole = members.every(({ trips }) => areKept(trips, stops));
-    const kept = { trips: new Map(members.map(({ member, trips }) => [member, trips])), stopIds: stops };
-    const said = { areas, structure, values, before, ...kept, association: senderIn(association) };
-    return right && inOrder && whole ? said : null;
+    const whole = members.every(({ trips }) => areKept(trips, editions));
+    const trips = new Map(members.map(({ member, trips: own }) => [member, own]));
+    return inOrder && whole ? { before, trips, association: senderIn(association) } : null;
 }
 
 /** Who the statements are from, where the file says so. */
@@ -66,16 +84,19 @@ export function closedIn({ bytes }) {
     return isPeriod(found) ? found : null;
 }
 
-function bookOf(words) {
+/** A book from its words. Those of older forms have none for the edition: in a window there was only one, the first. */
+function bookOf(words, form) {
     const book = new Uint8Array(BOOK_BYTES);
     const view = new DataView(book.buffer);
+    const end = form === MARK ? WORDS : EDITION_WORD;
     let last = -1;
     for (const [at, value] of words) {
-        const inside = Number.isInteger(at) && at > last && at < WORDS;
+        const inside = Number.isInteger(at) && at > last && at < end;
         if (!inside || !Number.isInteger(value) || value < 0 || value >= 2 ** 32) return null;
         view.setUint32(4 * at, value, true);
         last = at;
     }
+    if (form !== MARK && view.getUint32(0, true) !== 0) view.setUint32(4 * EDITION_WORD, 1, true);
     return book;
 }
 
@@ -88,20 +109,25 @@ function wordsIn(book) {
 }
 
 /** The file's text at the end of the result's period: a member a line, and behind it the trips, a line each. */
-export function booksText({ tariff, period, booksPeriod, books, members, association }) {
-    const words = stopWords(tariff.stops);
+export function booksText({ tariff: { editions }, period, booksPeriod, books, members, association }) {
+    const words = editions.map(({ stops }) => stopWords(stops));
     const entries = new Map(members.map((member) => [member.name, member.entries]));
     const lines = [...books].map(([member, book]) => {
         const head = JSON.stringify({ member, words: wordsIn(book) }).slice(0, -1);
         return `${head},"trips":[${keptLines(entries.get(member) ?? [], words).map((trip) => `\n${trip}`).join(',')}]}`;
     });
-    const { hash, areas, values, stops } = tariff;
-    const ids = Object.fromEntries(stops.map(({ id }, stop) => [words[stop], id]));
-    const head = { form: MARK, tariff: hash, areas: areas.length, structure: structureOf(areas), values };
+    const known = editions.map((edition, i) => JSON.stringify(editionHead(edition, words[i])));
     const sender = association && (association.name || association.contact) ? { association } : {};
-    const said = Object.entries({ ...head, period, before: booksPeriod, ...sender, stops: ids });
+    const said = Object.entries({ form: MARK, period, before: booksPeriod, ...sender });
     const top = said.map(([key, value]) => `"${key}": ${JSON.stringify(value)}`).join(',\n ');
-    return `{${top},\n "members": [\n${lines.join(',\n')}\n]}\n`;
+    const list = (name, own) => ` "${name}": [\n${own.join(',\n')}\n]`;
+    return `{${top},\n${list('editions', known)},\n${list('members', lines)}}\n`;
+}
+
+/** What books keep of an edition, by which they know it again. */
+function editionHead({ from, hash, areas, values, stops }, words) {
+    const ids = Object.fromEntries(stops.map(({ id }, stop) => [words[stop], id]));
+    return { from, tariff: hash, areas: areas.length, structure: structureOf(areas), values, stops: ids };
 }
 
 /** The name of a period's file. */

@@ -1,8 +1,9 @@
 // What an area's caps come to: the day cap, for all classes raised by the first-class surcharge, for a child reduced
 // (docs/RULES.md, R10.2 and R10.3). The library computes these amounts, not the desk: a trip cap is raised and reduced
 // in the same steps (R8.3, R8.5, R8.6), so the price of a trip under a trip cap as high as the day cap is the cap.
+import { FIRST_DAY } from './editions.mjs';
 import { BOOK_BYTES } from './engine.mjs';
-import { recordBytes } from './tariff.mjs';
+import { openingRecord, recordBytes } from './tariff.mjs';
 import { tripBytes } from './trips.mjs';
 
 const NO_DAY_CAP = 65535;
@@ -21,7 +22,7 @@ function areaCaps(engine, area) {
     };
 }
 
-/** A state with one stop, no day cap, and the area's day cap as its trip cap, flat for up to 1,440 minutes. */
+/** One edition: a state with one stop, no day cap, and the area's day cap as its trip cap, flat for 1,440 minutes. */
 function tariffWith({ dayCap, first, child }) {
     const [base, perKm, validity] = [10000, 0, 30];
     const state = [
@@ -30,7 +31,8 @@ function tariffWith({ dayCap, first, child }) {
     ];
     const factor = [[1, 1], [1, 0]];
     const stop = [[1, 0], [4, 0], [4, 0]];
-    return Uint8Array.from([...recordBytes(1, state), ...recordBytes(5, factor), ...recordBytes(2, stop)]);
+    const records = [recordBytes(1, state), recordBytes(5, factor), recordBytes(2, stop)];
+    return Uint8Array.from([openingRecord(FIRST_DAY), ...records].flatMap((record) => [...record]));
 }
 
 /** Three hours: six times the base price, which is the highest day cap, so that the trip cap is what counts. */

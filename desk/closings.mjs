@@ -1,7 +1,8 @@
 // Closed months: which books there are, from which of them the trips go on, whether those fit the tariff, which trips
 // of a closed month the books lack, and what speaks against closing a month now.
-import { WINDOW, openUntil } from './account.mjs';
+import { bookEdition, openUntil } from './account.mjs';
 import { closedIn, parsedBooks, readBooks } from './books.mjs';
+import { WINDOW } from './editions.mjs';
 import { decoded } from './encoding.mjs';
 import { notKept } from './kept.mjs';
 import { mistakeText } from './mistakes.mjs';
@@ -34,47 +35,66 @@ export function booksIn(desk, tariff, closings) {
     if (period !== null && books.period >= period) {
         mistakes.error(file.name, 1, 'booksClosed', { closed: books.period, period });
     }
-    if (tariff.hash) fitTariff(desk, tariff, books, file);
+    if (tariff.hash) fitEditions(desk, tariff.editions, books, file);
     return { ...books, file };
 }
 
 // ---- Books and tariff
 
 /**
- * A book knows areas by their numbers: under areas that mean something else it is useless. Under other prices and caps
- * it goes on where that is meant. Of the older form only the hash of the whole tariff is known.
+ * Each edition that the books know has to be there as it was. One that was added since leaves them as good as they
+ * were, and is told where trips that are closed would have been its own.
  */
-function fitTariff({ newTariff, zone, mistakes }, tariff, books, { name }) {
-    const { structure, values, areas, period } = books;
-    if (structure === undefined) {
-        if (books.tariff === tariff.hash) return null;
-        return mistakes.error(name, 1, 'booksOldTariff', { found: books.tariff, due: tariff.hash });
-    }
-    if (structureOf(tariff.areas.slice(0, areas)) !== structure) return mistakes.error(name, 1, 'booksTariff');
-    if (values === tariff.values) return null;
-    const end = startOf(zone, monthBehind(period));
-    const open = [...books.books].filter(([, book]) => openUntil(book) > end).map(([member]) => member);
+function fitEditions(desk, editions, books, { name }) {
+    const { newTariff, mistakes } = desk;
+    const known = books.editions.length;
+    if (known > editions.length) return mistakes.error(name, 1, 'booksEdition', { from: books.editions.at(-1).from });
+    const end = startOf(desk.zone, monthBehind(books.period));
+    const late = editions.slice(known).find(({ since }) => since < end);
+    if (late) mistakes.warning(name, 1, 'editionLate', { from: late.from, closed: books.period });
+    const changed = editions.filter((edition, i) => i < known && !isSame(mistakes, edition, books.editions[i], name));
+    if (changed.length === 0) return null;
+    const isOpen = (book) => openUntil(book) > end && changed.some(({ number }) => number === bookEdition(book));
+    const open = [...books.books].filter(([, book]) => isOpen(book)).map(([member]) => member);
     if (newTariff) return mistakes.note('warning', name, 1, 'newTariff', { open }); // no error if strict: it is meant
-    return mistakes.error(name, 1, 'booksPrices', { open });
+    const moved = changed.some(({ number, from }) => books.editions[number - 1].from !== from);
+    return mistakes.error(name, 1, 'booksPrices', { open, moved });
+}
+
+/**
+ * Whether an edition has the prices, caps and day that the books know, or is none that they can go on under, which is a
+ * mistake: a book knows areas by their numbers, and under areas that mean something else it is useless. Of the oldest
+ * form only the hash of the whole tariff is known.
+ */
+function isSame(mistakes, edition, { from, tariff, structure, values, areas }, name) {
+    if (structure === undefined) {
+        if (tariff !== edition.hash) mistakes.error(name, 1, 'booksOldTariff', { found: tariff, due: edition.hash });
+        return true;
+    }
+    if (structureOf(edition.areas.slice(0, areas)) !== structure) {
+        mistakes.error(name, 1, 'booksTariff', { areas: edition.files.areas });
+        return true;
+    }
+    return values === edition.values && from === edition.from;
 }
 
 // ---- Trips of closed months
 
 /** Those trips that are neither in the books already nor behind the period. */
-export function dueTrips(desk, books, closings, trips, { stops }) {
+export function dueTrips(desk, books, closings, trips, { editions }) {
     const { period } = desk;
     const closed = books?.period ?? '';
-    tellOld(desk, books, closings, trips.filter(({ month }) => month <= closed), stops);
+    tellOld(desk, books, closings, trips.filter(({ month }) => month <= closed), editions);
     return trips.filter(({ month }) => month > closed && (period === null || month <= period));
 }
 
 /** Names each trip of a closed month that its books lack; of books that keep no trips it tells how many there are. */
-function tellOld({ mistakes }, books, closings, old, stops) {
+function tellOld({ mistakes }, books, closings, old, editions) {
     const unknown = [];
     for (const [month, own] of byMonth(old)) {
         const kept = keepersOf(month, books, closings);
         if (kept === null) unknown.push(...own);
-        else for (const trip of notKept(own, kept, stops)) tellLate(mistakes, trip, kept.file.name);
+        else for (const trip of notKept(own, kept, editions)) tellLate(mistakes, trip, kept.file.name);
     }
     if (unknown.length === 0) return;
     const { file, line } = unknown[0];

@@ -73,8 +73,8 @@ async function orMistaken(language, make, say) {
 
 // ---- The call
 
-const TEXTS = ['areas', 'stops', 'members', 'period', 'format', 'out', 'language', 'member', 'today'];
-const LISTS = ['trips', 'books'];
+const TEXTS = ['members', 'period', 'format', 'out', 'language', 'member', 'today'];
+const LISTS = ['areas', 'stops', 'trips', 'books'];
 const MARKS = ['force', 'new-tariff', 'strict'];
 const OPTIONS = {
     ...Object.fromEntries(TEXTS.map((name) => [name, { type: 'string' }])),
@@ -156,8 +156,8 @@ function filesOf(call, found) {
     const { folder, words, language } = call;
     const inFolder = (names) => names.map((name) => path.join(folder, name));
     const places = {
-        areas: call.areas ? [call.areas] : inFolder(tablesIn(found, /^areas\.\w+$/, 'areas.csv')),
-        stops: call.stops ? [call.stops] : inFolder(tablesIn(found, /^stops\.\w+$/, 'stops.csv')),
+        areas: call.areas ?? inFolder(tablesIn(found, /^areas(-.*)?\.\w+$/, 'areas.csv')),
+        stops: call.stops ?? inFolder(tablesIn(found, /^stops(-.*)?\.\w+$/, 'stops.csv')),
         members: call.members ? [call.members] : inFolder(tablesIn(found, /^members\.\w+$/)),
         trips: call.trips ?? inFolder(tablesIn(found, /^trips/i, 'trips.csv')),
         books: call.books ?? inFolder(booksAmong(found)),
@@ -168,8 +168,7 @@ function filesOf(call, found) {
     if (unread.length > 0) throw new Mistaken(words.unread(unread));
     const apart = Object.fromEntries(read.map(([sort, files]) => [sort, toldApart(files)]));
     const named = call.books?.length === 1; // one that is named is meant, whatever it closes
-    const [[areas], [stops], [members]] = [apart.areas, apart.stops, apart.members];
-    return { areas, stops, members, trips: apart.trips, books: named ? apart.books[0] : apart.books };
+    return { ...apart, members: apart.members[0], books: named ? apart.books[0] : apart.books };
 }
 
 /** A folder's tables of such a name, in order, those that are saved as CSV as that; of none the one that is due. */

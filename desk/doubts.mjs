@@ -2,6 +2,7 @@
 // is found is told as warnings.
 import { DAY } from './clock.mjs';
 import { personFinder } from './names.mjs';
+import { stopsKey } from './trips.mjs';
 
 const LONG_MINUTES = 360;
 const NEAR_DAYS = 31;
@@ -77,8 +78,9 @@ function warnAmong(trips, several, mistakes) {
     }
 }
 
-function keyOf({ checkOut, from, via, to, class: travelClass, level, party: { adults, children, bicycles } }) {
-    return [checkOut.minute, from, ...via, to, travelClass, level, adults, children, bicycles].join();
+function keyOf(trip) {
+    const { checkOut, class: travelClass, level, party: { adults, children, bicycles } } = trip;
+    return [checkOut.minute, stopsKey(trip), travelClass, level, adults, children, bicycles].join();
 }
 
 // ---- Members

@@ -4,8 +4,8 @@
 import { refusalText } from './words.mjs';
 
 // The lengths of include/milecopper.h, which says what they are of.
-export const BOOK_BYTES = 5468;
-export const LARGEST_TARIFF_BYTES = 14523;
+export const BOOK_BYTES = 5472;
+export const LARGEST_TARIFF_BYTES = 29062;
 export const LARGEST_STATEMENT_BYTES = 532;
 export const LARGEST_FIELDS_BYTES = 324;
 
@@ -16,7 +16,7 @@ export const LONGEST_RECORD_BYTES = 1026;
 // The library's memory is one page that cannot grow, and a slice may be of any length. So at most these first bytes of
 // each are copied and their number given as its length. They decide: the answer is that of the whole slice.
 const DECIDING_BYTES = {
-    // Proved, `first-bytes-decide` in crates/scan/proofs/Prefix.antt: the largest tariff and one record too many.
+    // Proved, `first-file-decides` in crates/editions/proofs/Lengths.antt: the largest tariff and one record too many.
     tariff: LARGEST_TARIFF_BYTES + LONGEST_RECORD_BYTES,
     // A book of another length is refused whatever it holds.
     book: BOOK_BYTES + 1,

@@ -1,6 +1,6 @@
 // What is amiss in the files, by file and line, in words: both languages beside each other. Errors are what has to be
 // mended before anything is priced; warnings are what is priced as it stands and should be looked at.
-import { dayText, moneyText, monthText } from './words.mjs';
+import { dateText, dayText, editionText, moneyText, monthText } from './words.mjs';
 
 const meant = {
     de: (near) => (near ? `; war '${near}' gemeint?` : ''),
@@ -159,13 +159,23 @@ const TEXTS = {
             `${column} '${value}': mehrere Haltestellen heißen so; zu schreiben als ${ids.join(' oder ')}`,
         en: ({ column, value, ids }) => `${column} '${value}': several stops have this name; write ${ids.join(' or ')}`,
     },
+    otherStop: {
+        de: ({ column, value, edition, other }) =>
+            `${column} '${value}': diese Haltestelle hat nur die Fassung des Tarifs ${editionText(other, 'de')} ` +
+            `(${other.files.stops}), und die Fahrt wird nach der Fassung ${editionText(edition, 'de')} berechnet`,
+        en: ({ column, value, edition, other }) =>
+            `${column} '${value}': only the tariff's edition ${editionText(other, 'en')} has this stop ` +
+            `(${other.files.stops}), and the trip is priced by the edition ${editionText(edition, 'en')}`,
+    },
     tooManyStops: {
         de: ({ found }) => `via: mit Start und Ziel ${found} Haltestellen; mehr als 32 sind nicht erlaubt`,
         en: ({ found }) => `via: ${found} stops with the first and the last; more than 32 are not allowed`,
     },
     noArea: {
-        de: ({ column, value, near }) => `${column} '${value}': kein solches Gebiet${meant.de(near)}`,
-        en: ({ column, value, near }) => `${column} '${value}': no such area${meant.en(near)}`,
+        de: ({ column, value, near, areas }) =>
+            `${column} '${value}': kein solches Gebiet${areas ? ` in ${areas}` : ''}${meant.de(near)}`,
+        en: ({ column, value, near, areas }) =>
+            `${column} '${value}': no such area${areas ? ` in ${areas}` : ''}${meant.en(near)}`,
     },
     noLevel: {
         de: ({ value }) => `level '${value}': keine solche Preisstufe; es gibt K, A, B, C und D, oder leer`,
@@ -186,6 +196,38 @@ const TEXTS = {
         en: ({ column, value, line }) => `${column} '${value}': taken already in line ${line}`,
     },
     // the tariff
+    editionDay: {
+        de: ({ value }) =>
+            `'${value}' im Namen der Datei ist kein Tag ab 2000-01-02; die zweite Fassung des Tarifs hat dort den ` +
+            'Tag, ab dem sie gilt, wie areas-2026-06-01.csv',
+        en: ({ value }) =>
+            `'${value}' in the file's name is no day from 2000-01-02 on; the tariff's second edition has there the ` +
+            'day from which it is valid, like areas-2026-06-01.csv',
+    },
+    editionTwice: {
+        de: ({ day, other }) =>
+            day === null
+                ? `neben ${other} noch eine Datei ohne Tag im Namen; die zweite Fassung des Tarifs hat dort den Tag, ` +
+                  'ab dem sie gilt, wie areas-2026-06-01.csv'
+                : `zwei Dateien für die Fassung ab ${dateText(day, 'de')}: ${other} ist die andere`,
+        en: ({ day, other }) =>
+            day === null
+                ? `beside ${other} another file without a day in its name; the tariff's second edition has there the ` +
+                  'day from which it is valid, like areas-2026-06-01.csv'
+                : `two files for the edition from ${dateText(day, 'en')}: ${other} is the other one`,
+    },
+    editionThird: {
+        de: ({ second }) =>
+            `ein dritter Tag: der Tarif hat eine Fassung ab ${dateText('2000-01-01', 'de')} und eine ab ` +
+            `${dateText(second, 'de')}, und mehr als zwei Fassungen sind nicht erlaubt`,
+        en: ({ second }) =>
+            `a third day: the tariff has an edition from ${dateText('2000-01-01', 'en')} and one from ` +
+            `${dateText(second, 'en')}, and more than two editions are not allowed`,
+    },
+    stopsAlone: {
+        de: ({ day }) => `zu diesen Haltestellen gehören Gebiete desselben Tages, areas-${day}.csv, und die fehlen`,
+        en: ({ day }) => `these stops need areas of the same day, areas-${day}.csv, which are missing`,
+    },
     noState: {
         de: () => 'das erste Gebiet muss das Land sein (level state), und nur dieses',
         en: () => 'the first area has to be the state (level state), and no other may',
@@ -250,12 +292,28 @@ const TEXTS = {
             `books of ${monthText(period, 'en')} twice: ${other} and ${name}; only one file can count`,
     },
     booksTariff: {
-        de: () =>
+        de: ({ areas }) =>
             'die Bücher gehören zu einem anderen Tarif: seit dem Abschließen sind Zahl, Reihenfolge, id, level, ' +
-            'within oder kind der Gebiete anders. Gebiete behalten ihren Platz in areas.csv; neue kommen ans Ende',
-        en: () =>
+            `within oder kind der Gebiete anders. Gebiete behalten ihren Platz in ${areas}; neue kommen ans Ende`,
+        en: ({ areas }) =>
             'the books belong to another tariff: since the closing the number, order, id, level, within or kind of ' +
-            'areas have changed. Areas keep their place in areas.csv; new ones come at the end',
+            `areas have changed. Areas keep their place in ${areas}; new ones come at the end`,
+    },
+    booksEdition: {
+        de: ({ from }) =>
+            `die Bücher gehören zu einem anderen Tarif: sie kennen auch eine Fassung ab ${dateText(from, 'de')}, und ` +
+            `die fehlt (areas-${from}.csv)`,
+        en: ({ from }) =>
+            `the books belong to another tariff: they also know an edition from ${dateText(from, 'en')}, which is ` +
+            `missing (areas-${from}.csv)`,
+    },
+    editionLate: {
+        de: ({ from, closed }) =>
+            `die Fassung des Tarifs ab ${dateText(from, 'de')} war noch nicht da, als ${monthText(closed, 'de')} ` +
+            'abgeschlossen wurde: dessen Fahrten sind alle nach der Fassung davor berechnet',
+        en: ({ from, closed }) =>
+            `the tariff's edition from ${dateText(from, 'en')} was not there yet when ${monthText(closed, 'en')} was ` +
+            'closed: all trips up to then are priced by the edition before it',
     },
     booksOldTariff: {
         de: ({ found, due }) =>
@@ -266,12 +324,14 @@ const TEXTS = {
             'older form need areas.csv and stops.csv as they were, until the next closing',
     },
     booksPrices: {
-        de: ({ open }) =>
-            'seit dem Abschließen haben Gebiete andere Preise oder Deckel, oder neue kamen dazu. Ist das gewollt: ' +
-            `--new-tariff. ${mixed.de(open)}`,
-        en: ({ open }) =>
-            'since the closing areas have other prices or caps, or new ones were added. If that is meant: ' +
-            `--new-tariff. ${mixed.en(open)}`,
+        de: ({ open, moved }) =>
+            'seit dem Abschließen haben Gebiete andere Preise oder Deckel, oder neue kamen dazu' +
+            `${moved ? ', oder die zweite Fassung hat einen anderen Tag' : ''}. Ist das gewollt: --new-tariff. ` +
+            mixed.de(open),
+        en: ({ open, moved }) =>
+            'since the closing areas have other prices or caps, or new ones were added' +
+            `${moved ? ', or the second edition has another day' : ''}. If that is meant: --new-tariff. ` +
+            mixed.en(open),
     },
     newTariff: {
         de: ({ open }) => `neuer Tarif: Fahrten seit dem Abschließen haben die neuen Preise. ${mixed.de(open)}`,

@@ -4,6 +4,7 @@ import { capsOf } from './caps.mjs';
 import { clockOf } from './clock.mjs';
 import { booksIn, closingDoubts, closingsIn, dueTrips, warnOfLostWindows } from './closings.mjs';
 import { placeOf, warnOfNearBooks, warnOfNearMembers, warnOfSlips } from './doubts.mjs';
+import { dayInName, editionFiles } from './editions.mjs';
 import { BOOK_BYTES } from './engine.mjs';
 import { checkMembers, readMembers } from './members.mjs';
 import { Mistakes } from './mistakes.mjs';
@@ -16,9 +17,9 @@ import { reasonText } from './words.mjs';
 const NAMES = { areas: 'areas.csv', stops: 'stops.csv', trips: 'trips.csv', members: 'members.csv' };
 
 /**
- * Reads the files, each as bytes, as text or as {name, bytes}, and of trips one or several in a list; settles every
- * member's trips; makes the tables. All mistakes of all files are told at once, and with an error among them there are
- * no members and no tables.
+ * Reads the files, each as bytes, as text or as {name, bytes}, and of trips, areas and stops one or several in a list,
+ * of areas and stops those of the second edition by the day in their names; settles every member's trips; makes the
+ * tables. All mistakes of all files are told at once, and with an error among them there are no members and no tables.
  *
  * `period`, '2026-10': what counts. Trips before it are settled too, since a window may reach over the month's end;
  * what comes after it is not looked at. Null: all trips count. 'open': the month that is open, which the result names.
@@ -39,7 +40,7 @@ export function runDesk({ files, period: asked = null, zone = 'Europe/Berlin', l
     const desk = deskOf({ ...options, zone }, files, language);
     const tariff = tariffIn(desk);
     const roster = readMembers(desk.files.members, desk.mistakes);
-    const trips = readTrips(desk.files.trips, tariff.stops, zone, desk.mistakes);
+    const trips = readTrips(desk.files.trips, tariff.editions, zone, desk.mistakes);
     if (roster) checkMembers(trips, roster, desk.files.members, desk.mistakes);
     else warnOfNearMembers(desk, trips); // where it is said who is who, near names are two
     warnOfSlips(desk, trips, tripsByMember(trips));
@@ -73,9 +74,13 @@ export function runDesk({ files, period: asked = null, zone = 'Europe/Berlin', l
 /** The period that is asked for where it is to be the open month. */
 export const OPEN = 'open';
 
-function tariffOf({ engine, mistakes }, { bytes, hash, values, areas, stops }) {
-    const caps = mistakes.count('error') === 0 ? capsOf(engine, areas) : [];
-    return { bytes, hash, values, areas: areas ?? [], stops: stops ?? [], caps };
+/** What a result says of the tariff: its bytes and their hash, and each edition with the caps of its areas. */
+function tariffOf({ engine, mistakes }, { bytes, hash, editions }) {
+    const clean = mistakes.count('error') === 0;
+    const own = editions.map(({ areas, stops, ...edition }) => {
+        return { ...edition, areas: areas ?? [], stops: stops ?? [], caps: clean ? capsOf(engine, areas) : [] };
+    });
+    return { bytes, hash, editions: own };
 }
 
 const NOTHING = { members: [], wages: [], refused: 0, books: new Map() };
@@ -89,9 +94,15 @@ function deskOf(rest, given, language) {
 }
 
 function filesOf(files) {
-    const named = Object.entries(NAMES).map(([sort, name]) => [sort, fileOf(files[sort], name)]);
     const books = [files.books ?? []].flat().map((given) => fileOf(given, 'books'));
-    return { ...Object.fromEntries(named), trips: tripFilesOf(files.trips), books };
+    const [areas, stops] = [tariffFilesOf(files.areas, NAMES.areas), tariffFilesOf(files.stops, NAMES.stops)];
+    return { areas, stops, trips: tripFilesOf(files.trips), members: fileOf(files.members, NAMES.members), books };
+}
+
+/** The files of areas or of stops; where there is none of the first edition, the one that is missing. */
+function tariffFilesOf(given, name) {
+    const files = [given ?? []].flat().map((file) => fileOf(file, name));
+    return files.some((file) => dayInName(file.name) === null) ? files : [fileOf(null, name), ...files];
 }
 
 /** The files of trips, each with a name of its own; of none the one that is missing. */
@@ -113,12 +124,12 @@ function fileOf(given, name) {
 // ---- The tariff
 
 function tariffIn({ engine, files, mistakes }) {
-    const tariff = readTariff(files.areas, files.stops, mistakes);
+    const tariff = readTariff(editionFiles(files, mistakes), mistakes);
     if (tariff.bytes === null) return tariff;
     const answer = engine.checkTariff(tariff.bytes);
     if (!answer.accepted) {
         const { number, place } = answer.refusal;
-        const { file, line } = recordAt(tariff, place, files.areas.name);
+        const { file, line } = recordAt(tariff, place);
         mistakes.error(file, line, 'tariffRefused', { number, text: engine.refusalText(number, mistakes.language) });
     }
     return tariff;
@@ -144,11 +155,12 @@ function settleAll(desk, tariff, books, due) {
     const kept = new Map(books?.books ?? []);
     warnOfNearBooks(desk, [...kept.keys()], due);
     const inPeriod = ({ month }) => period === null || month === period;
+    const note = ({ file, line }, key, values) => mistakes.error(file, line, key, values);
     const members = [];
     let done = 0;
     for (const [name, own] of byName(tripsByMember(due), mistakes.language)) {
         const book = kept.get(name) ?? new Uint8Array(BOOK_BYTES);
-        const member = settleMember({ engine, tariff, zone, name, book, trips: own, inPeriod });
+        const member = settleMember({ engine, tariff, zone, name, book, trips: own, inPeriod, note });
         if (member.entries.some(({ refusal }) => refusal?.number === 4)) {
             return mistakes.error(books.file.name, 1, 'bookUnsound', { member: name });
         }
@@ -177,7 +189,7 @@ function warnOfRefused({ zone, mistakes, several }, tariff, member, book) {
         if (entry.accepted || !entry.inPeriod) continue;
         const note = (key, values) => mistakes.warning(entry.file, entry.line, key, values);
         const number = entry.refusal.number;
-        if (number !== 10) note('refused', { number, text: reasonText(entry, tariff, mistakes.language) });
+        if (number !== 10) note('refused', { number, text: reasonText(entry, tariff.editions, mistakes.language) });
         else if (last) note('overlaps', placeOf(last, several));
         else note('beforeBooks', { until: momentIn(clockOf(zone), lastCheckOut(book)).local.replace('T', ' ') });
     }

@@ -18,7 +18,8 @@ export function statementHtml(member, result, language, letter = null) {
 ${windows.slice(0, -1).map((window) => windowHtml(window, words)).join('\n')}
 <div class="end">${windowHtml(windows.at(-1), words)}
 <footer>${legendHtml(windows, words)}
-<p>${escaped(foot.tariff)}. ${escaped(foot.version)}.</p><p class="hash">${escaped(foot.hash)}</p></footer></div>
+<p>${[...foot.tariff, foot.version].map((line) => `${escaped(line)}.`).join(' ')}</p>
+<p class="hash">${escaped(foot.hash)}</p></footer></div>
 </div></article>`;
 }
 

@@ -2,11 +2,10 @@
 // are those of the entries; what is added up here are totals, and they have to be the wages'.
 import { Disagreement, centsOf } from './account.mjs';
 import { clockOf, dayOf, momentsOf } from './clock.mjs';
+import { WINDOW } from './editions.mjs';
 import { momentIn } from './trips.mjs';
-import { STATEMENT, capClassText, capText, classText, dayText, moneyText, monthText } from './words.mjs';
+import { STATEMENT, capClassText, capText, classText, dayText, editionText, moneyText, monthText } from './words.mjs';
 import { reasonText, riderText, seasonText } from './words.mjs';
-
-const WINDOW = 1440;
 
 /** Those members that have a statement: with a trip in the period. */
 export function membersOf({ members }) {
@@ -61,21 +60,31 @@ function ridersOf(entries) {
     return entries.flatMap(({ parts }) => (parts ?? []).flatMap((part) => part.riders));
 }
 
-function footOf({ language, words, result: { tariff, version } }) {
+/** `tariff` has a line for each edition. */
+function footOf(saying) {
+    const { language, words, result: { tariff, version } } = saying;
+    const line = (edition) => words.tariff(editionName(edition, saying), edition.areas.length, edition.stops.length);
     return {
-        tariff: words.tariff(tariff.areas[0].name, tariff.areas.length, tariff.stops.length),
+        tariff: tariff.editions.map(line),
         hash: `${words.hash}: ${tariff.hash}`,
         version: words.version(version),
         language,
     };
 }
 
+/** What an edition is called: by its state's name and, where there are several, by its days. */
+function editionName(edition, { language, words, result: { tariff } }) {
+    const [{ name }] = edition.areas;
+    return tariff.editions.length === 1 ? words.only(name) : words.edition(name, editionText(edition, language));
+}
+
 // ---- Windows
 
 function windowOf(window, saying) {
     const { language, words, result, clock } = saying;
-    const fills = fillsOf(window.sums, saying);
-    const caps = capsIn(window.entries, fills, saying);
+    const edition = result.tariff.editions[window.edition - 1] ?? null; // of trips without a window there is none
+    const fills = fillsOf(window.sums, edition, saying);
+    const caps = capsIn(window.entries, fills, edition, saying);
     const trips = window.entries.map((entry, i) => tripOf(entry, i + 1, { ...saying, caps }));
     const counts = window.entries.filter(({ inPeriod }) => inPeriod);
     const mixed = counts.length < window.entries.length;
@@ -90,18 +99,21 @@ function windowOf(window, saying) {
         ...common,
         heading: words.window(stampText(from, saying)),
         until: words.until(stampText(to, saying)),
-        notes: notesOf(window, to, saying),
+        notes: notesOf(window, edition, to, saying),
         drawn: { opening: window.opening, clock, trips, language },
     };
 }
 
-/** Why a window's caps may be fuller than its trips make them, and where its further trips are. */
-function notesOf({ opening, entries }, to, { language, words, result: { period } }) {
+/** Its edition; why a window's caps may be fuller than its trips make them; and where its further trips are. */
+function notesOf({ opening, entries }, edition, to, saying) {
+    const { language, words, result: { period, tariff } } = saying;
+    const several = tariff.editions.length > 1 ? [editionName(edition, saying)] : [];
     const first = entries.find(({ accepted }) => accepted);
     const earlier = !first || first.checkIn.minute > opening;
     const month = to.local.slice(0, 7);
     const later = period !== null && month > period;
-    return [...(earlier ? [words.earlier] : []), ...(later ? [words.later(monthText(month, language))] : [])];
+    const further = later ? [words.later(monthText(month, language))] : [];
+    return [...several, ...(earlier ? [words.earlier] : []), ...further];
 }
 
 // ---- Caps
@@ -110,7 +122,7 @@ const capKey = (area, capClass) => 2 * area - capClass; // in the tariff's order
 const letterOf = (i) => 'abcdefghijklmnopqrstuvwxyz'[i % 26].repeat(1 + Math.floor(i / 26));
 
 /** A window's caps, each once: how full every rider has it, and a letter where it took something off. */
-function capsIn(entries, fills, { language, result: { tariff } }) {
+function capsIn(entries, fills, edition, { language }) {
     const cuts = ridersOf(entries).filter(({ cap }) => cap).map(({ cap }) => ({ area: cap.area, capClass: cap.class }));
     const keyed = (caps) => new Map(caps.map((cap) => [capKey(cap.area, cap.capClass), cap]));
     const cutting = [...keyed(cuts).keys()].sort((one, other) => one - other);
@@ -118,23 +130,23 @@ function capsIn(entries, fills, { language, result: { tariff } }) {
     return all.map(([key, { area, capClass }]) => ({
         key,
         mark: cutting.includes(key) ? letterOf(cutting.indexOf(key)) : '',
-        words: capText(tariff.areas[area].name, capClass, language),
+        words: capText(edition.areas[area].name, capClass, language),
         fills: fills.filter((fill) => capKey(fill.area, fill.capClass) === key),
     }));
 }
 
 /** How full each rider has each cap. */
-function fillsOf(sums, saying) {
-    return sums.flatMap((rider) => rider.areas.flatMap((own) => areaFills(rider, own, saying)));
+function fillsOf(sums, edition, saying) {
+    return sums.flatMap((rider) => rider.areas.flatMap((own) => areaFills(rider, own, edition, saying)));
 }
 
 /** How full a rider has an area's caps; that of all classes only where first class was among the charges. */
-function areaFills(rider, { area, second, all }, { language, words, result: { tariff } }) {
-    const caps = tariff.caps[area]?.[rider.sort === 'child' ? 'child' : 'adult'];
+function areaFills(rider, { area, second, all }, { areas, caps: capsBy }, { language, words }) {
+    const caps = capsBy[area]?.[rider.sort === 'child' ? 'child' : 'adult'];
     if (!caps) return [];
     const fill = (capClass, sum, cap) => ({
         ...{ area, capClass, who: riderText(rider, language) },
-        name: `${tariff.areas[area].name}, ${capClassText(capClass, language)}`,
+        name: `${areas[area].name}, ${capClassText(capClass, language)}`,
         amount: words.of(moneyText(sum, language), moneyText(cap, language)),
         cap: moneyText(cap, language),
         share: Math.min(1, sum / cap),
@@ -147,7 +159,8 @@ function areaFills(rider, { area, second, all }, { language, words, result: { ta
 
 function tripOf(entry, number, saying) {
     const { language, words, result } = saying;
-    const stop = (index) => result.tariff.stops[index].name;
+    const edition = result.tariff.editions[entry.edition - 1];
+    const stop = (index) => edition.stops[index].name;
     const via = entry.via.length > 0 ? [words.via(entry.via.map(stop).join(', '))] : [];
     const level = entry.level === null ? [] : [words.level(entry.level)];
     const elsewhere = entry.inPeriod ? [] : [words.elsewhere(monthText(entry.checkIn.local.slice(0, 7), language))];
@@ -158,7 +171,7 @@ function tripOf(entry, number, saying) {
         where: `${stop(entry.from)} → ${stop(entry.to)}`,
         how: [...via, classText(entry.class, language), ...level, ...elsewhere].join(', '),
         refused: entry.accepted ? null : refusedText(entry, saying),
-        parts: (entry.parts ?? []).map((part, i) => partOf(entry, part, i, saying)),
+        parts: (entry.parts ?? []).map((part, i) => partOf(entry, part, i, edition, saying)),
     };
 }
 
@@ -166,7 +179,7 @@ function tripOf(entry, number, saying) {
 function refusedText(entry, { language, words, result: { tariff, tripFiles } }) {
     const { line, file } = entry;
     const place = words.place(line, tripFiles.length > 1 ? file : null);
-    return words.refused(reasonText(entry, tariff, language), place);
+    return words.refused(reasonText(entry, tariff.editions, language), place);
 }
 
 function stateOf({ accepted, parts }) {
@@ -174,14 +187,14 @@ function stateOf({ accepted, parts }) {
     return parts.some(({ riders }) => riders.some(({ off }) => off > 0)) ? 'cut' : 'priced';
 }
 
-function partOf(entry, { area, km, minutes, riders }, i, { language, words, caps, result: { tariff } }) {
+function partOf(entry, { area, km, minutes, riders }, i, { areas, stops }, { language, words, caps }) {
     const broken = entry.parts.length > 1;
-    const turn = broken ? farthestChange(entry, tariff.stops) : null;
+    const turn = broken ? farthestChange(entry, stops) : null;
     const [from, to] = i === 0 ? [entry.from, turn] : [turn, entry.to];
     const time = i === 0 ? [`${minutes} min`] : []; // a second part's minutes are the first one's
     return {
-        heading: broken ? words.part(i + 1, tariff.stops[from].name, tariff.stops[to].name) : null,
-        measure: [tariff.areas[area].name, `${km} km`, ...time].join(', '),
+        heading: broken ? words.part(i + 1, stops[from].name, stops[to].name) : null,
+        measure: [areas[area].name, `${km} km`, ...time].join(', '),
         riders: riders.map((rider) => ({
             who: riderText(rider, language),
             price: rider.price === null ? '' : moneyText(rider.price, language),
@@ -233,7 +246,7 @@ const WIDTH = 80;
 export function statementText(member, result, language) {
     const { title, counts, total, words, windows, foot } = statementOf(member, result, language);
     const head = [title, member.name, '='.repeat(WIDTH), amountLine(counts, `${words.total} ${total}`)];
-    const tail = ['-'.repeat(WIDTH), foot.tariff, foot.hash, foot.version];
+    const tail = ['-'.repeat(WIDTH), ...foot.tariff, foot.hash, foot.version];
     const lines = [...head, '', ...windows.flatMap((window) => [...windowLines(window, words), '']), ...tail];
     return `${lines.join('\n')}\n`.replaceAll('\u00a0', ' ');
 }

@@ -1,8 +1,10 @@
-// The tariff from areas.csv and stops.csv: its bytes (docs/FORMAT.md), and which line each of its records comes from.
+// The tariff from the files of its editions: its bytes (docs/FORMAT.md), and which line each of its records comes from.
 import { IN_HEADER, readTable } from './csv.mjs';
+import { sinceDay } from './editions.mjs';
 import { centsIn, noteTaken, wholeIn, wordIn } from './fields.mjs';
 import { sha256 } from './hash.mjs';
 import { nearest, tidy } from './names.mjs';
+import { remembered } from './remembered.mjs';
 
 const LEVELS = ['state', 'region', 'city'];
 const TICKETS = ['k', 'a', 'b', 'c', 'd'];
@@ -24,16 +26,25 @@ export const AREA_COLUMNS = {
 /** The columns of stops.csv. */
 export const STOP_COLUMNS = due(['id', 'name', 'area', 'x_m', 'y_m']);
 
-/** Reads both files. Null where a mistake in them leaves no tariff. */
-export function readTariff(areasFile, stopsFile, mistakes) {
+/**
+ * Reads the files of each edition (`editionFiles`). `editions` has of each {number, from, next, since, files, areas,
+ * stops}: the day and the minute from which it is valid, the day of the next one or null, and the names of its files.
+ * `bytes` is null where a mistake in them leaves no tariff; else each edition has besides the hashes of its own tariff
+ * and of what stands in its areas, `hash` and `values`, and `records` are those of all of them.
+ */
+export function readTariff(files, mistakes) {
     const before = mistakes.count('error');
-    const areaRows = readTable(areasFile, AREA_COLUMNS, mistakes);
-    const areas = areaRows && readAreas(areasFile.name, areaRows, mistakes);
-    const stopRows = readTable(stopsFile, STOP_COLUMNS, mistakes);
-    const stops = stopRows && readStops(stopsFile.name, stopRows, areas ?? [], mistakes);
-    if (!areas || !stops || mistakes.count('error') > before) return { areas, stops, bytes: null };
-    const { bytes, records, stopsAt } = tariffBytes(areasFile.name, areas, stopsFile.name, stops);
-    return { areas, stops, bytes, records, hash: sha256(bytes), values: sha256(bytes.subarray(0, stopsAt)) };
+    const stopsOf = remembered((file) => readStops(file, mistakes)); // both may have the same ones
+    const editions = files.map(({ from, areas: areasFile, stops: stopsFile }, i) => {
+        const areas = readAreas(areasFile, mistakes);
+        const names = { areas: areasFile.name, stops: stopsFile.name };
+        const shared = i > 0 && stopsFile === files[0].stops;
+        const stops = placedStops(stopsOf(stopsFile), areas ?? [], names, shared, mistakes);
+        const next = files[i + 1]?.from ?? null;
+        return { number: i + 1, from, next, since: sinceDay(from), files: names, areas, stops };
+    });
+    const whole = editions.every(({ areas, stops }) => areas && stops) && mistakes.count('error') === before;
+    return whole ? wholeTariff(editions) : { editions, bytes: null };
 }
 
 /**
@@ -74,11 +85,14 @@ function named(file, rows, own, mistakes) {
 
 // ---- Areas
 
-function readAreas(file, rows, mistakes) {
-    const areas = named(file, rows, true, mistakes); // a statement names areas by name alone
+/** The areas of a file, in order; null where no row can be read. */
+function readAreas(file, mistakes) {
+    const rows = readTable(file, AREA_COLUMNS, mistakes);
+    if (rows === null) return null;
+    const areas = named(file.name, rows, true, mistakes); // a statement names areas by name alone
     const find = directory(areas);
     rows.forEach((row, i) => {
-        const note = (key, values) => mistakes.error(file, row.line, key, values);
+        const note = (key, values) => mistakes.error(file.name, row.line, key, values);
         const area = areas[i];
         area.level = levelOf(row, i, note);
         area.kind = Number(wordIn(row, 'kind', ['1', '8'], note, '1'));
@@ -169,19 +183,32 @@ function aachenOf(row, area, note) {
 
 // ---- Stops
 
-function readStops(file, rows, areas, mistakes) {
-    const stops = named(file, rows, false, mistakes); // of a name that several have, a trip has to say the id
-    const find = directory(areas);
-    rows.forEach((row, i) => {
-        const note = (key, values) => mistakes.error(file, row.line, key, values);
-        const text = tidy(row.area);
-        const area = find(text)[0];
-        if (text === '') note('blank', { column: 'area' });
-        else if (!area) note('noArea', { column: 'area', value: text, near: nearThing(text, areas) });
+/** The stops of a file, in order, each with what it says of its area; null where no row can be read. */
+function readStops(file, mistakes) {
+    const rows = readTable(file, STOP_COLUMNS, mistakes);
+    if (rows === null) return null;
+    const stops = named(file.name, rows, false, mistakes); // of a name that several have, a trip has to say the id
+    return rows.map((row, i) => {
+        const note = (key, values) => mistakes.error(file.name, row.line, key, values);
+        const areaText = tidy(row.area);
+        if (areaText === '') note('blank', { column: 'area' });
         const [x, y] = ['x_m', 'y_m'].map((column) => wholeIn(row, column, 0, 1000000, note));
-        Object.assign(stops[i], { area: area?.index, x, y });
+        return { ...stops[i], areaText, x, y };
     });
-    return stops;
+}
+
+/** The stops with the numbers of their areas. `shared`: they are the first edition's, and these are other areas. */
+function placedStops(stops, areas, files, shared, mistakes) {
+    const find = directory(areas);
+    const place = (stop) => {
+        const { areaText: value, line } = stop;
+        const area = find(value)[0];
+        if (area || value === '') return { ...stop, area: area?.index };
+        const values = { column: 'area', value, near: nearThing(value, areas), areas: shared ? files.areas : null };
+        mistakes.error(files.stops, line, 'noArea', values);
+        return stop;
+    };
+    return stops && stops.map(place);
 }
 
 // ---- Bytes
@@ -221,22 +248,44 @@ function stopRecord(stop) {
     return recordBytes(2, [[1, stop.area], [4, stop.x], [4, stop.y]]);
 }
 
-/** All records in order, and for each its place, file and line; and where the stops begin. */
-function tariffBytes(areasName, areas, stopsName, stops) {
-    const records = [];
-    const bytes = [];
-    const put = (record, file, line) => {
-        records.push({ at: bytes.length, file, line });
-        bytes.push(...record);
-    };
-    for (const area of areas) put(areaRecord(area), areasName, area.line);
-    for (const area of areas) if (area.level !== 'city') put(factorRecord(area), areasName, area.line);
-    const stopsAt = bytes.length;
-    for (const stop of stops) put(stopRecord(stop), stopsName, stop.line);
-    return { bytes: Uint8Array.from(bytes), records, stopsAt };
+/** The record that opens an edition: the day from which it is valid, '2026-06-01'. */
+export function openingRecord(from) {
+    const [year, month, day] = from.split('-').map(Number);
+    return recordBytes(9, [[2, year], [1, month], [1, day]]);
 }
 
-/** The file and line of the record at a refusal's place; the last one's, where the tariff ends too early. */
-export function recordAt(tariff, place, areasName) {
-    return tariff.records.findLast(({ at }) => at <= place) ?? { file: areasName, line: 1 };
+const joined = (records) => Uint8Array.from(records.flatMap(({ bytes }) => [...bytes]));
+
+/** The records of an edition's tariff, each with file and line: those of its areas, and its stops. */
+function recordsOf({ areas, stops, files }) {
+    const of = (file, things, make) => things.map((thing) => ({ bytes: make(thing), file, line: thing.line }));
+    const factors = areas.filter(({ level }) => level !== 'city');
+    const values = [...of(files.areas, areas, areaRecord), ...of(files.areas, factors, factorRecord)];
+    return { values, stops: of(files.stops, stops, stopRecord) };
+}
+
+/** All editions one behind another: the bytes, and for each record its place, file and line. */
+function wholeTariff(editions) {
+    const own = editions.map(recordsOf);
+    const hashed = editions.map((edition, i) => {
+        const { values, stops } = own[i];
+        return { ...edition, hash: sha256(joined([...values, ...stops])), values: sha256(joined(values)) };
+    });
+    const all = editions.flatMap(({ from, files }, i) => {
+        const opening = { bytes: openingRecord(from), file: files.areas, line: 1, opens: i + 1 };
+        return [opening, ...own[i].values, ...own[i].stops];
+    });
+    const bytes = joined(all);
+    let end = 0;
+    const records = all.map(({ bytes: { length }, ...record }) => ({ at: (end += length) - length, ...record }));
+    return { editions: hashed, bytes, hash: sha256(bytes), records };
+}
+
+/**
+ * The file and line of the record at a refusal's place; the last one's, where the tariff ends too early. So it is told
+ * of the first edition, too: where the second begins, something of the first is missing.
+ */
+export function recordAt({ records }, place) {
+    const found = records.findLastIndex(({ at }) => at <= place);
+    return records[records[found].opens === 2 ? found - 1 : found];
 }

@@ -1,6 +1,7 @@
 // Trips from trips.csv: names become stops, clock times minutes, and each is made a trip record (docs/FORMAT.md).
 import { clockOf, dayOf, momentOf, monthOf, offsetText, timeOf, tripTimes } from './clock.mjs';
 import { readTable } from './csv.mjs';
+import { inForce, possibleAt } from './editions.mjs';
 import { wholeIn, wordIn } from './fields.mjs';
 import { tidy } from './names.mjs';
 import { remembered } from './remembered.mjs';
@@ -16,23 +17,22 @@ export const TRIP_COLUMNS = {
 };
 
 /**
- * The trips of all files, in the files' order and by line. `stops` is null where the stops could not be read: names are
- * then not looked for. A row with a mistake is none of the trips.
+ * The trips of all files, in the files' order and by line. Where the stops of an edition could not be read, `stops` is
+ * null there: names are then not looked for. A row with a mistake is none of the trips.
  */
-export function readTrips(files, stops, zone, mistakes) {
-    const clock = clockOf(zone);
-    const stopIn = stopFinder(stops);
-    return files.flatMap((file) => tripsIn(file, stopIn, clock, mistakes));
+export function readTrips(files, editions, zone, mistakes) {
+    const sheet = { clock: clockOf(zone), editions, stopIn: stopFinder(editions) };
+    return files.flatMap((file) => tripsIn(file, sheet, mistakes));
 }
 
-function tripsIn(file, stopIn, clock, mistakes) {
+function tripsIn(file, sheet, mistakes) {
     const take = (row) => {
         let right = true;
         const note = (key, values) => {
             right = false;
             return mistakes.error(file.name, row.line, key, values);
         };
-        const trip = readTrip(file.name, row, stopIn, clock, note);
+        const trip = readTrip(file.name, row, sheet, note);
         return right ? trip : null;
     };
     return readTable(file, TRIP_COLUMNS, mistakes, take) ?? [];
@@ -40,59 +40,116 @@ function tripsIn(file, stopIn, clock, mistakes) {
 
 const tidied = remembered(tidy);
 
-function readTrip(file, row, stopIn, clock, note) {
+function readTrip(file, row, { clock, editions, stopIn }, note) {
     const member = tidied(row.member);
     if (member === '') note('blank', { column: 'member' });
     const { checkIn, checkOut, month } = timesIn(row, clock, note);
-    const via = viaIn(row, stopIn, note);
-    const from = endIn(row, 'from', stopIn, note);
-    const to = endIn(row, 'to', stopIn, note);
+    const names = namesIn(row, stopIn, editionsAt(editions, checkIn), note);
     const [travelClass, level, party] = [classIn(row, note), levelIn(row, note), partyIn(row, note)];
-    const none = undefined; // what settling puts into a trip has its place from the start: each is of one form and size
-    return {
-        file, line: row.line, member, checkIn, checkOut, month, from, to, via, class: travelClass, level, party,
+    const none = undefined; // what is put into a trip later has its place from the start: each is of one form and size
+    const trip = {
+        file, line: row.line, member, checkIn, checkOut, month, names, edition: none, from: none, to: none, via: none,
+        class: travelClass, level, party,
         inPeriod: none, accepted: none, refusal: none, window: none, cents: none, parts: none,
     };
+    if (checkIn) takeStops(trip, inForce(editions, checkIn.minute).number);
+    return trip;
 }
 
 // ---- Stops
 
-const NO_CHANGES = Object.freeze([]);
-
-function viaIn(row, stopIn, note) {
-    if (row.via === '') return NO_CHANGES;
-    const texts = row.via.split('|').filter((text) => tidied(text) !== '');
-    if (texts.length + 2 > MOST_STOPS) note('tooManyStops', { found: texts.length + 2 });
-    return texts.map((text) => stopIn('via', text, note));
+/** The editions that may settle a trip, the one in force at its check-in last; all, where that is not known. */
+function editionsAt(editions, checkIn) {
+    return editions.length === 1 || !checkIn ? editions : possibleAt(editions, checkIn.minute);
 }
 
-/** The stop at a trip's beginning or end. */
-function endIn(row, column, stopIn, note) {
-    return row[column] === '' ? note('blank', { column }) : stopIn(column, row[column], note);
+const NO_CHANGES = Object.freeze([]);
+
+/** What the row's stops are in each edition. One that is in none of those that may settle the trip is a mistake. */
+function namesIn(row, stopIn, editions, note) {
+    const find = (column, text) => {
+        const name = stopIn(text);
+        const lacking = editions.every(({ number }) => name.faults[number - 1]);
+        if (lacking) tellFault(name, column, editions.at(-1).number, note);
+        return name;
+    };
+    const via = row.via === '' ? NO_CHANGES : changesIn(row, find, note);
+    const end = (column) => (row[column] === '' ? note('blank', { column }) : find(column, row[column]));
+    return { from: end('from'), via, to: end('to') };
+}
+
+function changesIn(row, find, note) {
+    const texts = row.via.split('|').filter((text) => tidied(text) !== '');
+    if (texts.length + 2 > MOST_STOPS) note('tooManyStops', { found: texts.length + 2 });
+    return texts.map((text) => find('via', text));
+}
+
+function tellFault({ faults }, column, edition, note) {
+    const { key, values } = faults[edition - 1];
+    note(key, { column, ...values });
+}
+
+const numberIn = (edition) => (name) => name?.numbers[edition - 1] ?? null;
+
+/** Gives the trip the numbers that its stops have in an edition. */
+export function takeStops(trip, edition) {
+    const { from, via, to } = trip.names;
+    const number = numberIn(edition);
+    trip.edition = edition;
+    trip.from = number(from);
+    trip.via = via.length === 0 ? NO_CHANGES : via.map(number);
+    trip.to = number(to);
+}
+
+/** The numbers that a trip's stops have in an edition, from the first to the last; null for one that it lacks. */
+export function stopsIn({ names: { from, via, to } }, edition) {
+    return [from, ...via, to].map(numberIn(edition));
+}
+
+/** What tells the stops of a trip from another's, whatever words they were written in and whichever edition it has. */
+export function stopsKey({ names: { from, via, to } }) {
+    return [from, ...via, to].map(({ numbers }) => numbers.join('/')).join();
+}
+
+/** Tells of each stop of the trip that the edition lacks; whether it has all of them. */
+export function hasStops({ names: { from, via, to } }, edition, note) {
+    const lacking = [['from', from], ...via.map((name) => ['via', name]), ['to', to]];
+    const told = lacking.filter(([, { faults }]) => faults[edition - 1]);
+    for (const [column, name] of told) tellFault(name, column, edition, note);
+    return told.length === 0;
 }
 
 const MOST_SUGGESTIONS = 500; // looking for near names takes time, and a file with more unknown ones is of other stops
+const NOT_LOOKED_FOR = { numbers: NO_CHANGES, faults: NO_CHANGES };
 
-/** Finds a stop's number by id or name, each text once. */
-function stopFinder(stops) {
-    if (!stops) return () => null;
-    const find = directory(stops);
+/**
+ * Finds a stop by id or name, each text once: `numbers` has its number in each edition, and `faults`, where it has
+ * none, what is amiss there as the key and the values of a mistake.
+ */
+function stopFinder(editions) {
+    if (editions.some(({ stops }) => !stops)) return () => NOT_LOOKED_FOR;
+    const finders = editions.map(({ stops }) => directory(stops));
+    const all = editions.flatMap(({ stops }) => stops);
     let unknown = 0;
     const near = (text) => {
         unknown += 1;
-        return unknown <= MOST_SUGGESTIONS ? nearThing(text, stops) : null;
+        return unknown <= MOST_SUGGESTIONS ? nearThing(text, all) : null;
     };
-    const answers = remembered((text) => answerFor(tidy(text), find(tidy(text)), near));
-    return (column, text, note) => {
-        const answer = answers(text);
-        return answer.key ? note(answer.key, { column, ...answer.values }) : answer.index;
-    };
+    return remembered((text) => {
+        const value = tidy(text);
+        const found = finders.map((find) => find(value));
+        const known = editions.filter((_, i) => found[i].length > 0);
+        const none = known.length === 0 ? { key: 'noStop', values: { value, near: near(value) } } : null;
+        const fault = (own, i) => none ?? faultOf(value, own, editions[i], known[0]);
+        return { numbers: found.map((own) => (own.length === 1 ? own[0].index : null)), faults: found.map(fault) };
+    });
 }
 
-function answerFor(value, found, near) {
-    if (found.length === 1) return { index: found[0].index };
+/** What is amiss with what was found in an edition, where another one knows the stop. */
+function faultOf(value, found, edition, other) {
+    if (found.length === 1) return null;
     if (found.length > 1) return { key: 'manyStops', values: { value, ids: found.map(({ id }) => id) } };
-    return { key: 'noStop', values: { value, near: near(value) } };
+    return { key: 'otherStop', values: { value, edition, other } };
 }
 
 // ---- Times

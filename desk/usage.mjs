@@ -2,7 +2,7 @@
 
 export const USAGE = `usage: ./milecopper check|settle|statement|wages|close [FOLDER] [--period 2026-10|open]
                     [--format csv|json] [--out FOLDER] [--member NAME] [--language de|en]
-                    [--areas FILE] [--stops FILE] [--trips FILE]... [--books FILE]...
+                    [--areas FILE]... [--stops FILE]... [--trips FILE]... [--books FILE]...
                     [--members FILE] [--strict] [--new-tariff] [--force] [--today 2026-11-03]
 `;
 
@@ -19,7 +19,9 @@ Im Ordner (ohne Angabe: hier) liegen areas.csv, stops.csv und trips.csv, dazu ge
 letzten Abschlusses vor dem Monat gelten. Einzelne Dateien lassen sich stattdessen nennen. Die Fahrten können in
 mehreren Dateien stehen: genommen wird jede trips*.csv des Ordners, oder --trips mehrmals. Statt einer CSV darf es
 eine Mappe sein, .xlsx, deren erstes Blatt gelesen wird. Eine members.csv sagt, wer wer ist; die Lohnliste hat dann
-die Personalnummern. --period open ist der Monat, der offen ist: der erste mit Fahrten hinter den letzten Büchern.
+die Personalnummern. Wechselt der Tarif, so steht die neue Fassung in areas-2026-06-01.csv, mit dem Tag, ab dem sie
+gilt, und wenn nötig in stops-2026-06-01.csv; oder --areas und --stops werden zweimal genannt, die neue Fassung mit dem
+Tag im Namen. --period open ist der Monat, der offen ist: der erste mit Fahrten hinter den letzten Büchern.
 --out schreibt Dateien, statt zu drucken. --strict: auch was nur zweifelhaft ist, eine Warnung also, gilt als Fehler.
 --new-tariff: Gebiete haben seit dem Abschließen andere Preise oder Deckel, und das ist so gewollt. --force schließt
 auch einen Monat ab, der in der Zukunft liegt oder frühere offen lässt. --today: ein anderes Datum als das der Uhr.
@@ -39,7 +41,9 @@ close      closes the month and writes the books, books-2026-10.json; once a mon
 The folder (none: the present one) holds areas.csv, stops.csv and trips.csv and, if there are, the books; those of the
 last closing before the month count. Single files can be named instead. The trips may stand in several files: every
 trips*.csv of the folder is taken, or --trips more than once. Instead of a CSV there may be a workbook, .xlsx, of
-which the first sheet is read. A members.csv says who is who; the wages then have the personnel numbers. --period open
+which the first sheet is read. A members.csv says who is who; the wages then have the personnel numbers. Where the
+tariff changes, its new edition is areas-2026-06-01.csv, with the day from which it is valid, and if need be
+stops-2026-06-01.csv; or --areas and --stops are named twice, the new edition with the day in its name. --period open
 is the month that is open: the first with trips behind the last books. --out writes files instead of printing.
 --strict: warnings are errors. --new-tariff: areas have other prices or caps since the closing, and that is meant.
 --force closes a month, too, that lies in the future or leaves earlier ones open. --today: another date than the

@@ -44,7 +44,9 @@ const rowByColumn = (columns, row) => Object.fromEntries(columns.map((column, i)
 function* chargeRows({ members, tariff, tripFiles }) {
     const fileOf = (entry) => (tripFiles.length > 1 ? [entry.file] : []);
     for (const { entries, openingLocal } of members.flatMap(({ windows }) => windows)) {
-        for (const entry of entries) if (entry.inPeriod) yield* entryRows(fileOf(entry), entry, openingLocal, tariff);
+        for (const entry of entries.filter(({ inPeriod }) => inPeriod)) {
+            yield* entryRows(fileOf(entry), entry, openingLocal, tariff.editions[entry.edition - 1]);
+        }
     }
 }
 

@@ -74,6 +74,10 @@ const REFUSALS = {
         de: 'Eingecheckt und gleich wieder aus, an einer Haltestelle in weniger als drei Minuten; das kostet nichts.',
         en: 'Checked in and straight out again, at one stop in less than three minutes; it costs nothing.',
     },
+    22: {
+        de: 'Die Fahrt öffnet ein 24-Stunden-Fenster, bevor der Tarif gilt.',
+        en: 'The trip opens a 24-hour window before the tariff is valid.',
+    },
 };
 
 export function refusalText(number, language) {
@@ -100,8 +104,8 @@ const CAUSES = {
 };
 
 /** Why a refused trip is refused, in a sentence. */
-export function reasonText(trip, tariff, language) {
-    const [cause, town] = trip.refusal.number === 6 ? causeOf(trip, tariff) : [null];
+export function reasonText(trip, editions, language) {
+    const [cause, town] = trip.refusal.number === 6 ? causeOf(trip, editions[trip.edition - 1]) : [null];
     return cause === null ? refusalText(trip.refusal.number, language) : CAUSES[cause][language](town);
 }
 
@@ -154,6 +158,14 @@ export function dayText(local, language) {
 /** The same without the weekday. */
 export function dateText(date, language) {
     return dayText(date, language).split(' ').slice(1).join(' ');
+}
+
+/** An edition of several: 'ab 01.06.2026', or by its last day where another follows, 'bis 31.05.2026'. */
+export function editionText({ from, next }, language) {
+    const [since, to] = { de: ['ab', 'bis'], en: ['from', 'to'] }[language];
+    if (next === null) return `${since} ${dateText(from, language)}`;
+    const last = new Date(Date.parse(`${next}T00:00Z`) - 86400000).toISOString().slice(0, 10);
+    return `${to} ${dateText(last, language)}`;
 }
 
 /** A month '2026-10': 'Oktober 2026'. */
@@ -221,8 +233,10 @@ export const STATEMENT = {
         caps: 'Wie voll die Deckel am Ende sind',
         of: (sum, cap) => `${sum} von ${cap}`,
         full: 'voll',
+        edition: (name, span) => `Tarif ${name}, Fassung ${span}`,
         tariff: (name, areas, stops) =>
-            `Tarif ${name}: ${counted(areas, 'Gebiet', 'Gebiete')}, ${counted(stops, 'Haltestelle', 'Haltestellen')}`,
+            `${name}: ${counted(areas, 'Gebiet', 'Gebiete')}, ${counted(stops, 'Haltestelle', 'Haltestellen')}`,
+        only: (name) => `Tarif ${name}`,
         hash: 'Prüfsumme des Tarifs',
         version: (version) => `Berechnet mit Milecopper ${version}`,
         picture: 'Die 24 Stunden des Fensters mit den Fahrten',
@@ -252,8 +266,10 @@ export const STATEMENT = {
         caps: 'How full the caps are at the end',
         of: (sum, cap) => `${sum} of ${cap}`,
         full: 'full',
+        edition: (name, span) => `Tariff ${name}, edition ${span}`,
         tariff: (name, areas, stops) =>
-            `Tariff ${name}: ${counted(areas, 'area', 'areas')}, ${counted(stops, 'stop', 'stops')}`,
+            `${name}: ${counted(areas, 'area', 'areas')}, ${counted(stops, 'stop', 'stops')}`,
+        only: (name) => `Tariff ${name}`,
         hash: "The tariff's hash",
         version: (version) => `Computed with Milecopper ${version}`,
         picture: "The window's 24 hours with the trips",

@@ -57,6 +57,10 @@
  *                                       trip, trip_len, statement, sizeof statement);
  *     answer = milecopper_close(page, sizeof page, 0, 4711); // the book is gone, and the place is free again
  *
+ * A tariff is a file of one or two editions, each a date and then its areas, factor records and stops, with numbers of its own. An
+ * edition is valid from the first minute of its date in UTC. The one in force when a 24-hour window opens settles the whole window:
+ * the book keeps its number, 1 or 2, and decides while the window is open, whatever the dates say.
+ *
  * All numbers in a tariff, a book, a page, a trip and a charge record are little-endian on every machine, so these bytes can
  * be stored and sent as they are. No slice needs any alignment.
  *
@@ -87,7 +91,7 @@
  *     only reads them. Calls on different books may run at the same time, on any threads, and so may quotes on one book and
  *     readings of one statement. They may share one tariff. A page is one slice, so calls on one page do not run at the same
  *     time, whoever the members are and of whichever association.
- *   - Where milecopper_check_tariff is called, at least 256 bytes of stack are free.
+ *   - Where milecopper_check_tariff is called, at least 512 bytes of stack are free.
  *   - Where milecopper_settle is called, at least 832 bytes of stack are free.
  *   - Where milecopper_quote is called, at least 1,536 bytes of stack are free.
  *   - Where milecopper_post is called, at least 2,048 bytes of stack are free.
@@ -119,11 +123,20 @@
  *
  * Another tariff
  *
- *   A book knows areas by their numbers and no tariff. Where the tariff changes while a window is open, the trips from
- *   then on have the new one's prices, and its caps are compared with what was charged under the old one in the area of
- *   the same number: so keep the areas' numbers, and put new areas behind the old ones. A bicycle that was carried in an
- *   area which the new tariff lacks makes the book unsound under it (4), also for a trip that would open the next window.
- *   What is promised of caps is promised under one tariff: change it between windows where that matters.
+ *   Prices, areas and stops that change on a day come as a second edition in the same tariff, with that day's date: put
+ *   milecopper_put_edition and the new areas, factor records and stops behind the old ones before the day comes. Windows that are
+ *   open go on under the first edition, the next ones open under the second, and every number may mean something else in it. The
+ *   app reads the numbers of areas in charge records, and gives those of stops, by the edition of the trip's window: where the trip
+ *   belongs to the open window that of the book (milecopper_book_edition), else the one in force at its check-in.
+ *
+ *   A tariff has two editions at most. To drop the first one, once no book has a window open under it, take its bytes out of the
+ *   tariff; then in every book whose last word, at MILECOPPER_BOOK_EDITION_AT, is 2 make it 1, and make a book in which it is 1
+ *   fresh, all zero, since its window was of the edition that is gone. Now there is room for the next edition.
+ *
+ *   A book knows areas by their numbers and its edition's number, and no tariff. Where an edition itself is changed while a window is
+ *   open under it, the trips from then on have the new prices, and its caps are compared with what was charged before in the area
+ *   of the same number. A bicycle that was carried in an area which the book's edition lacks now makes the book unsound (4), also
+ *   for a trip that would open the next window. What is promised of caps is promised under one tariff: leave an edition as it is.
  *
  * Storing book and statement, so that a power cut loses neither
  *
@@ -150,8 +163,8 @@
 /* The version. The number stands here alone: the library's file names, its pkg-config file, its constant
  * milecopper_version and what the scripts say all come from these lines. */
 #define MILECOPPER_VERSION_MAJOR 0
-#define MILECOPPER_VERSION_MINOR 14
-#define MILECOPPER_VERSION_PATCH 3
+#define MILECOPPER_VERSION_MINOR 15
+#define MILECOPPER_VERSION_PATCH 0
 #define MILECOPPER_VERSION_AS_TEXT(major, minor, patch) #major "." #minor "." #patch
 #define MILECOPPER_VERSION_AS_WRITTEN(major, minor, patch) MILECOPPER_VERSION_AS_TEXT(major, minor, patch)
 #define MILECOPPER_VERSION \
@@ -160,8 +173,11 @@
 /* The stack that has to be free whatever is called: the most of what stands above. */
 #define MILECOPPER_MOST_STACK_BYTES 2048
 
-/* The book's length. A book of 5,428 bytes, from before areas of kind 8, is refused with 4: begin with a fresh one. */
-#define MILECOPPER_BOOK_BYTES 5468
+/* The book's length, and where its last word stands, the edition of the open window; 0 in a fresh book. A book of 5,468 bytes, from
+ * before editions, is refused with 4: put the word 1 behind it where its first word is not 0, else the word 0. Begin with a fresh
+ * one instead of a book of 5,428 bytes, from before areas of kind 8. */
+#define MILECOPPER_BOOK_BYTES 5472
+#define MILECOPPER_BOOK_EDITION_AT 5468
 
 /* A page of accounts: places one after another, each a member's number in 4 bytes, 1 to MILECOPPER_LARGEST_MEMBER, and then the
  * book. A place with the number MILECOPPER_FREE_PLACE is free, and its other bytes are not looked at. */
@@ -170,8 +186,8 @@
  * place MILECOPPER_PLACES_OF_EACH * a. */
 #define MILECOPPER_ASSOCIATIONS 2
 #define MILECOPPER_PLACES_OF_EACH 6
-#define MILECOPPER_PLACE_BYTES 5472
-#define MILECOPPER_PAGE_BYTES 65664
+#define MILECOPPER_PLACE_BYTES 5476
+#define MILECOPPER_PAGE_BYTES 65712
 #define MILECOPPER_PLACE_MEMBER_AT 0
 #define MILECOPPER_PLACE_BOOK_AT 4
 #define MILECOPPER_FREE_PLACE 0
@@ -195,6 +211,7 @@
 #define MILECOPPER_CHARGE_KIND 6
 #define MILECOPPER_TRIP_KIND 7
 #define MILECOPPER_AACHEN_AREA_KIND 8
+#define MILECOPPER_EDITION_KIND 9
 
 /* Where the fields of a charge record stand, from its first byte: opening minute 4 bytes, area 1, kilometres 2, minutes
  * 2, those carried 1 each, then for each person ten bytes and for each bicycle four. In a person's: charge and reduction 4
@@ -290,15 +307,22 @@
 #define MILECOPPER_LEVEL_C 4
 #define MILECOPPER_LEVEL_D 5
 
-/* What a tariff may hold, areas of both kinds together, and its length with the most of each: a factor record for each
- * area, where none is a city, and every area but the state of kind 8. */
+/* What a tariff may hold, in each edition areas of both kinds together, and its length with the most of each: a factor record for
+ * each area, where none is a city, and every area but the state of kind 8. Of what is longer so many bytes decide which refusal it
+ * gets, the largest record behind the largest tariff. */
+#define MILECOPPER_MOST_EDITIONS 2
 #define MILECOPPER_MOST_AREAS 32
 #define MILECOPPER_MOST_STOPS 1000
-#define MILECOPPER_LARGEST_TARIFF_BYTES 14523
+#define MILECOPPER_LARGEST_TARIFF_BYTES 29062
+#define MILECOPPER_DECIDING_TARIFF_BYTES 30088
 
-/* The records of a tariff, and where their fields stand. An area's: level, parent 1 byte each, base price, price per
+/* The records of a tariff, and where their fields stand. That which opens an edition: the year 2 bytes, month and day 1 each. An area's: level, parent 1 byte each, base price, price per
  * kilometre, validity 2 each, surcharge and reduction in percent, sort of trip cap 1 each, five fields of the trip cap, day
  * cap, bicycle flat 2 each. A factor record's: 1 each. A stop's: area 1, x and y in metres 4 each. */
+#define MILECOPPER_EDITION_BYTES 8
+#define MILECOPPER_EDITION_YEAR_AT 4
+#define MILECOPPER_EDITION_MONTH_AT 6
+#define MILECOPPER_EDITION_DAY_AT 7
 #define MILECOPPER_AREA_BYTES 29
 #define MILECOPPER_AREA_LEVEL_AT 4
 #define MILECOPPER_AREA_PARENT_AT 5
@@ -350,13 +374,13 @@
 #define MILECOPPER_MOST_TRIPS_IN_A_WINDOW 256
 
 /* Why a trip, a record or a page was refused. Where several apply, the answer is the first of them in this order. Settling and a
- * quote give 1 to 12 and 17, a posting 1 to 11, 17 and 13, a reading 14 to 16 and then 12; adding gives 21 and 18 to 20, closing
+ * quote give 1 to 12, 17 and 22, a posting 1 to 11, 17, 22 and 13, a reading 14 to 16 and then 12; adding gives 21 and 18 to 20, closing
  * 21, 18 and 19, and settling a member 1 to 3, 21, 18, 19, and then what settling gives. */
 enum milecopper_refusal {
     MILECOPPER_NOT_REFUSED = 0,
     MILECOPPER_TARIFF_BROKEN = 1,     /* tariff: a record's frame is broken */
     MILECOPPER_TARIFF_MISSHAPEN = 2,  /* tariff: kind, length, order or number of records wrong, or one is missing */
-    MILECOPPER_TARIFF_VALUE = 3,      /* tariff: a value outside its range */
+    MILECOPPER_TARIFF_VALUE = 3,      /* tariff: a value outside its range, or an edition not after the one before */
     MILECOPPER_WRONG_ASSOCIATION = 21, /* page: the association is not 0 or 1 */
     MILECOPPER_WRONG_PAGE = 18,       /* page: wrong length; the number asked for, or one stored in the association's places,
                                        * outside its range; or one stored twice there */
@@ -366,11 +390,12 @@ enum milecopper_refusal {
     MILECOPPER_TRIP_MISSHAPEN = 5,    /* trip: frame, kind or length wrong, or bytes after the record */
     MILECOPPER_TRIP_COUNTS = 6,       /* trip: class, ticket level, party or number of stops out of range; or first class
                                        * in a town that has none, which is tested right after 7 */
-    MILECOPPER_UNKNOWN_STOP = 7,      /* trip: a stop number that the tariff lacks */
     MILECOPPER_NO_SUCH_TIME = 8,      /* trip: a stamp's date, clock time or offset is none, or it is before minute 0 */
     MILECOPPER_TRIP_BACKWARD = 9,     /* trip: check-out before check-in, or over 1,440 minutes after it */
     MILECOPPER_MISTAP = 17,           /* trip: all its stops are one stop, and it lasts under 3 minutes */
     MILECOPPER_BEFORE_LAST_TRIP = 10, /* trip: check-in before the book's last check-out */
+    MILECOPPER_NO_EDITION = 22,       /* trip: it opens a window before the tariff's first edition is valid */
+    MILECOPPER_UNKNOWN_STOP = 7,      /* trip: a stop number that its edition of the tariff lacks */
     MILECOPPER_WINDOW_FULL = 11,      /* trip: it, or its second part, would be the 257th of its window */
     MILECOPPER_NO_ROOM = 12,          /* statement shorter than the charge records, or fields shorter than what is told */
     MILECOPPER_OTHER_RECORD = 13,     /* record: not exactly the bytes that a quote would write now */
@@ -387,7 +412,7 @@ extern "C" {
 extern const char milecopper_version[];
 
 /*
- * Checks a tariff alone: the whole of it, once, before trips are settled under it. Only reads.
+ * Checks a tariff alone: the whole of it, with its editions, once, before trips are settled under it. Only reads.
  *
  * Faultless: the tariff's length, at most MILECOPPER_LARGEST_TARIFF_BYTES. Else the refusal, 1 to 3, times 2^32, plus
  * the place: what settling under it answers. Settling checks the tariff each time, so nobody has to call this.
@@ -410,7 +435,7 @@ uint64_t milecopper_settle(const uint8_t *tariff, size_t tariff_len,
  * Quotes one trip: writes the charge records that settling it would write, and leaves the book.
  *
  * Accepted: the number of bytes written to the statement, as by milecopper_settle. A statement of
- * MILECOPPER_LARGEST_STATEMENT_BYTES has room for every trip. Refused: as by milecopper_settle, by 1 to 12 or 17, and the
+ * MILECOPPER_LARGEST_STATEMENT_BYTES has room for every trip. Refused: as by milecopper_settle, by 1 to 12, 17 or 22, and the
  * statement stays as it was. A quote answers whatever settling would answer. A trip may be quoted as often as one likes,
  * and a quote need not be posted.
  */
@@ -424,7 +449,7 @@ uint64_t milecopper_quote(const uint8_t *tariff, size_t tariff_len,
  * for this trip, and `record_len` the number of bytes that it answered: of a broken trip both records, in their order.
  *
  * Accepted: the number of bytes written, which is the book's length, MILECOPPER_BOOK_BYTES. Refused: as by
- * milecopper_settle, by 1 to 11 or 17, as all is checked again; then by 13, MILECOPPER_OTHER_RECORD, where the record is not
+ * milecopper_settle, by 1 to 11, 17 or 22, as all is checked again; then by 13, MILECOPPER_OTHER_RECORD, where the record is not
  * exactly the bytes that a quote on this book would write now, but has a byte more, a byte less or a byte off, or is one
  * of two records, or the two swapped where they differ. There is no 12, as no statement is written. A refusal leaves the
  * book as it was.
@@ -481,7 +506,7 @@ uint64_t milecopper_close(uint8_t *page, size_t page_len, uint32_t association, 
  * milecopper_settle would give on that book by itself; no other byte of the page changes, and no other member's book is looked at.
  *
  * Accepted: the number of bytes written to the statement, as by milecopper_settle. Refused: by 1 to 3, then by 21 and 18 as
- * milecopper_add is and by 19 where the association has no such member, and then by 4 to 12 and 17, as by milecopper_settle; page
+ * milecopper_add is and by 19 where the association has no such member, and then by 4 to 12, 17 and 22, as by milecopper_settle; page
  * and statement stay as they were. A trip is quoted and posted on the book in a place (milecopper_book_in) as on any other.
  */
 uint64_t milecopper_settle_member(const uint8_t *tariff, size_t tariff_len,
@@ -563,8 +588,6 @@ static inline const char *milecopper_refusal_text(enum milecopper_refusal refusa
     case MILECOPPER_TRIP_COUNTS:
         return "The trip's class, ticket level, number of people or bicycles, or number of stops is not allowed; a town that "
                "drops part of the price has no first class.";
-    case MILECOPPER_UNKNOWN_STOP:
-        return "The trip uses a stop that is not in the price file.";
     case MILECOPPER_NO_SUCH_TIME:
         return "The trip has a date or a time of day that does not exist, or one outside the years 2000 to 2099, or a clock "
                "that shows neither winter nor summer time.";
@@ -574,6 +597,10 @@ static inline const char *milecopper_refusal_text(enum milecopper_refusal refusa
         return "The trip was checked in and straight out again: at one stop, in less than 3 minutes. It costs nothing.";
     case MILECOPPER_BEFORE_LAST_TRIP:
         return "The trip starts before this account's last trip ended.";
+    case MILECOPPER_NO_EDITION:
+        return "The trip starts before the first day for which the price file has prices.";
+    case MILECOPPER_UNKNOWN_STOP:
+        return "The trip uses a stop that is not in the price file, or not in the edition under which it is charged.";
     case MILECOPPER_WINDOW_FULL:
         return "With this trip the account would have more than 256 trips within the same 24 hours.";
     case MILECOPPER_NO_ROOM:
@@ -611,6 +638,14 @@ static inline void milecopper_put_number(uint8_t *bytes, size_t width, uint32_t 
         bytes[i] = MILECOPPER_AS(uint8_t, number & 0xFFu);
         number >>= 8;
     }
+}
+
+/* ---- The book ---- */
+
+/* The number of the edition under which the book's window was opened, 1 or 2; 0 in a fresh book. */
+static inline uint32_t milecopper_book_edition(const uint8_t *book)
+{
+    return milecopper_number(book + MILECOPPER_BOOK_EDITION_AT, 4);
 }
 
 /* ---- The page ----
@@ -734,7 +769,7 @@ static inline uint32_t milecopper_record_opening(const uint8_t *record)
     return milecopper_number(record + MILECOPPER_CHARGE_OPENING_AT, 4);
 }
 
-/* The number of the part's area in the tariff. */
+/* The number of the part's area in the edition of the window. */
 static inline unsigned milecopper_record_area(const uint8_t *record)
 {
     return record[MILECOPPER_CHARGE_AREA_AT];
@@ -779,7 +814,7 @@ static inline uint32_t milecopper_record_reduction(const uint8_t *record, unsign
     return milecopper_number(milecopper_record_person(record, i) + MILECOPPER_PERSON_REDUCTION_AT, 4);
 }
 
-/* The number in the tariff of the area whose cap is named for that; MILECOPPER_NO_CAP_AREA if nothing was taken off, or
+/* The number in that edition of the area whose cap is named for that; MILECOPPER_NO_CAP_AREA if nothing was taken off, or
  * the record has no such person. */
 static inline unsigned milecopper_record_cap_area(const uint8_t *record, unsigned i)
 {
@@ -878,7 +913,7 @@ static inline unsigned milecopper_fields_bicycles(const uint8_t *fields)
     return fields[MILECOPPER_FIELDS_BICYCLES_AT];
 }
 
-/* The number of the part's area in the tariff. */
+/* The number of the part's area in the edition of the window. */
 static inline unsigned milecopper_fields_area(const uint8_t *fields)
 {
     return fields[MILECOPPER_FIELDS_AREA_AT];
@@ -955,10 +990,12 @@ static inline uint32_t milecopper_fields_total(const uint8_t *fields)
  *
  * Each function writes one record to the start of `bytes`, of which there are `room`, and gives its length. It gives 0, and
  * writes nothing, where there is not enough room or a number does not fit its field; what a number means is not looked
- * at, since checking and settling do that. A tariff is its areas, then its factor records, then its stops:
+ * at, since checking and settling do that. A tariff is one edition or two: the date from which it is valid, its areas, then its
+ * factor records, then its stops:
  *
  *     uint8_t tariff[MILECOPPER_LARGEST_TARIFF_BYTES];
  *     size_t length = 0;
+ *     length += milecopper_put_edition(tariff + length, sizeof tariff - length, 2000, 1, 1);
  *     length += milecopper_put_area(tariff + length, sizeof tariff - length, &state);
  *     length += milecopper_put_factor(tariff + length, sizeof tariff - length, 3, 0);
  *     length += milecopper_put_stop(tariff + length, sizeof tariff - length, 0, 300000, 200000);
@@ -1053,6 +1090,18 @@ static inline size_t milecopper_put_trip(uint8_t *bytes, size_t room, const stru
     for (i = 0; i < trip->stop_count; i += 1)
         milecopper_put_number(bytes + MILECOPPER_TRIP_STOPS_AT + 2 * MILECOPPER_AS(size_t, i), 2, trip->stops[i]);
     return length;
+}
+
+/* Opens an edition that is valid from this date on. */
+static inline size_t milecopper_put_edition(uint8_t *bytes, size_t room, unsigned year, unsigned month, unsigned day)
+{
+    if (room < MILECOPPER_EDITION_BYTES || year > 0xFFFFu || month > 0xFFu || day > 0xFFu)
+        return 0;
+    milecopper_put_head(bytes, MILECOPPER_EDITION_BYTES, MILECOPPER_EDITION_KIND);
+    milecopper_put_number(bytes + MILECOPPER_EDITION_YEAR_AT, 2, year);
+    milecopper_put_number(bytes + MILECOPPER_EDITION_MONTH_AT, 1, month);
+    milecopper_put_number(bytes + MILECOPPER_EDITION_DAY_AT, 1, day);
+    return MILECOPPER_EDITION_BYTES;
 }
 
 static inline int milecopper_area_fits(const struct milecopper_area *area)

@@ -1,13 +1,17 @@
 // Files that were chosen or dropped: which is which, which one takes another's place, and what is found in a folder.
 import { namesOf } from '../columns.mjs';
 import { headerOf } from '../csv.mjs';
+import { dayInName } from '../editions.mjs';
 import { shownText } from '../encoding.mjs';
 import { folded } from '../names.mjs';
 
-/** The sorts of files: those that have to be there, and those of which several are taken together. */
+/**
+ * The sorts of files: those that have to be there, those of which several are taken together, and those of which there
+ * is one of each edition, known by the day in its name.
+ */
 export const SORTS = {
-    areas: { due: true },
-    stops: { due: true },
+    areas: { due: true, several: true, editions: true },
+    stops: { due: true, several: true, editions: true },
     trips: { due: true, several: true },
     members: {},
     books: { several: true },
@@ -45,11 +49,14 @@ export function rowsIn(file) {
 
 /**
  * The files with one more, and the one whose place it takes, or null. Of trips and books there may be several, and a
- * file takes the place of one of its name; of the others there is one. What is someone's own takes the sample's place.
+ * file takes the place of one of its name; of areas and stops that of one of its edition; of the others there is one.
+ * What is someone's own takes the sample's place.
  */
 export function withFile(files, file) {
-    const sameName = (own) => own.name === file.name || !SORTS[file.sort].several;
-    const gone = (own) => own.sort === file.sort && (sameName(own) || own.sample);
+    const { several, editions } = SORTS[file.sort];
+    const sameName = (own) => own.name === file.name || !several;
+    const same = (own) => (editions ? dayInName(own.name) === dayInName(file.name) : sameName(own));
+    const gone = (own) => own.sort === file.sort && (same(own) || own.sample);
     const replaced = files.find((own) => gone(own) && !own.sample) ?? null;
     return { files: [...files.filter((own) => !gone(own)), file], replaced };
 }

@@ -31,8 +31,9 @@ export const LABELS = {
         helpText:
             'CSV oder Excel (.xlsx, das erste Blatt) mit einer Kopfzeile, die Spalten in beliebiger Reihenfolge. Sie ' +
             'heißen wie hier oder auf Deutsch: Mitglied, Datum, Abfahrt, Ankunft, von, nach, über, Klasse, ' +
-            'Preisstufe, Erwachsene, Kinder, Fahrräder. Gebiete und Haltestellen schreibt jemand einmal; die ' +
-            'Fahrten kommen jeden Monat dazu:',
+            'Preisstufe, Erwachsene, Kinder, Fahrräder. Gebiete und Haltestellen schreibt jemand einmal; wechselt ' +
+            'der Tarif, so kommt areas-2026-06-01.csv dazu, mit dem Tag, ab dem er gilt, und wenn nötig ' +
+            'stops-2026-06-01.csv. Die Fahrten kommen jeden Monat dazu:',
         columns: {
             'member, date, depart, arrive, from, to':
                 'Mitglied, Tag (2026-10-31 oder 31.10.2026), Abfahrt und Ankunft (23:48), Start und Ziel, mit Name ' +
@@ -123,7 +124,8 @@ export const LABELS = {
         helpSummary: 'What the files look like',
         helpText:
             'CSV or Excel (.xlsx, the first sheet) with a header, columns in any order, called as here or in German. ' +
-            'Areas and stops are written once by someone; trips are added each month:',
+            'Areas and stops are written once by someone; where the tariff changes, areas-2026-06-01.csv is added, ' +
+            'with the day from which it is valid, and if need be stops-2026-06-01.csv. Trips are added each month:',
         columns: {
             'member, date, depart, arrive, from, to':
                 'Member, day (2026-10-31 or 31.10.2026), departure and arrival (23:48), first and last stop, by name ' +

@@ -211,7 +211,7 @@ test('names that a spreadsheet would run as formulas are harmless in every colum
 
 test('sums that do not agree with the book are an error, and nothing is put out', () => {
     const word = (at, by) => (view) => view.setUint32(4 * at, view.getUint32(4 * at, true) + by, true);
-    const window = { opening: word(1, 1), 'check-out': word(2, 1) };
+    const window = { opening: word(1, 1), 'check-out': word(2, 1), edition: word(1367, 1) };
     const party = { 'holder 1': word(4, 1), 'adult 1': word(68, 1), 'bicycle 1': word(1357, 5) };
     for (const [what, change] of Object.entries({ ...window, ...party })) {
         const open = (...slices) => {

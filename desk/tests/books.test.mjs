@@ -16,10 +16,19 @@ const file = (name, text) => ({ name, bytes: new TextEncoder().encode(text) });
 const closedOf = (trips, period, options = {}) => booksText(run(TRIPS + trips, { period, ...options }));
 const cents = (result) => result.members.flatMap(({ entries }) => entries.map((entry) => entry.cents));
 
+/** A member's book as it was before there were editions: without its last word. */
+const olderBook = ({ words, ...member }) => ({ ...member, words: words.filter(([at]) => at !== 1367) });
+
+/** The same books as they were written before there were editions. */
+function beforeEditions(text) {
+    const { editions: [{ from, ...only }], members, ...rest } = JSON.parse(text);
+    return JSON.stringify({ ...rest, form: 'milecopper books 2', ...only, members: members.map(olderBook) });
+}
+
 /** The same books as version 0.13 wrote them: the hash of the whole tariff, and no trips. */
 function older(text) {
-    const { tariff, period, members } = JSON.parse(text);
-    const own = members.map(({ member, words }) => ({ member, words }));
+    const { editions: [{ tariff }], period, members } = JSON.parse(text);
+    const own = members.map(olderBook).map(({ member, words }) => ({ member, words }));
     return JSON.stringify({ form: 'milecopper books 1', tariff, period, members: own });
 }
 
@@ -27,7 +36,7 @@ function older(text) {
 
 test('books keep each trip of their month, with its stops in words and what it was charged', () => {
     const books = JSON.parse(closedOf(OCTOBER + MORNING, '2026-10'));
-    assert.deepEqual([books.form, books.period, books.before], ['milecopper books 2', '2026-10', null]);
+    assert.deepEqual([books.form, books.period, books.before], ['milecopper books 3', '2026-10', null]);
     const [anna, cem] = books.members; // by name
     assert.equal(cem.member, 'Cem');
     const { cents: charged, ...ride } = cem.trips[0];
@@ -43,7 +52,7 @@ test('books keep each trip of their month, with its stops in words and what it w
             ...{ stops: ['Münster Hbf', 'Bielefeld Hbf'], cents: 1841 },
         },
     ]);
-    assert.equal(books.stops['Münster Hbf'], 'ms-hbf');
+    assert.equal(books.editions[0].stops['Münster Hbf'], 'ms-hbf');
     const next = JSON.parse(closedOf(OCTOBER + MORNING, '2026-11', { books: JSON.stringify(books) }));
     assert.deepEqual([next.before, next.members.map(({ trips }) => trips.length)], ['2026-10', [1, 0]]);
 });
@@ -143,7 +152,7 @@ test('of several books those before the period count, and two of one month are a
         'kopie.json:1: books of October 2026 twice: books-2026-10.json and kopie.json; only one file can count',
     ]);
     assert.deepEqual(result.wages, []);
-    const broken = run(trips, { books: [october, file('books-x.json', '{"form": "milecopper books 2"}')] });
+    const broken = run(trips, { books: [october, file('books-x.json', '{"form": "milecopper books 3"}')] });
     assert.deepEqual(said(broken), ['books-x.json:1: these are not books as closing writes them']);
 });
 
@@ -294,6 +303,26 @@ test('a new area behind the others is accepted with newTariff; areas that mean s
             what,
         );
     }
+});
+
+test('in books from before there were editions a window is under the first', () => {
+    const text = closedOf(EVENING, '2026-10');
+    const words = (books) => JSON.parse(booksText(run(TRIPS, { period: '2026-11', books }))).members[0].words;
+    for (const form of [beforeEditions, older]) {
+        const books = form(text);
+        assert.doesNotMatch(books, /\[1367,/);
+        assert.deepEqual(words(books), JSON.parse(text).members[0].words);
+        assert.deepEqual(words(books).at(-1), [1367, 1]);
+        const { members: [anna], ...rest } = JSON.parse(books);
+        const fresh = JSON.stringify({ ...rest, members: [{ ...anna, words: [] }] });
+        assert.deepEqual(words(fresh), []);
+        const said1367 = JSON.stringify({ ...rest, members: [{ ...anna, words: [...anna.words, [1367, 1]] }] });
+        assert.deepEqual(said(run(TRIPS + MORNING, { books: said1367 })), [
+            'books:1: these are not books as closing writes them',
+        ]);
+    }
+    const result = run(TRIPS + EVENING + MORNING, { books: beforeEditions(text) });
+    assert.deepEqual([said(result), cents(result)], [[], [659]]);
 });
 
 test('books of the older form are accepted where the whole tariff is as it was', () => {

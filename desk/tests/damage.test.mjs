@@ -3,6 +3,7 @@
 import assert from 'node:assert/strict';
 import { test } from 'node:test';
 import { booksText } from '../books.mjs';
+import { both } from './rheinland.mjs';
 import { numbers, run, sample } from './support.mjs';
 
 const text = (name) => new TextEncoder().encode(sample(name));
@@ -20,16 +21,14 @@ function damaged(bytes, below) {
     return Uint8Array.from(out);
 }
 
-test('damaged files', () => {
-    const good = { areas: text('areas.csv'), stops: text('stops.csv'), trips: text('trips.csv') };
-    const books = new TextEncoder().encode(booksText(run(good.trips, { period: '2026-10' })));
+/** Runs the desk on files of which one after another is damaged, and answers how many runs found an error. */
+function errorsAmong(good, times) {
     const below = numbers(7);
     let wrong = 0;
-    for (let i = 0; i < 400; i += 1) {
-        const files = { ...good, books };
-        const sort = Object.keys(files)[i % 4];
-        files[sort] = damaged(files[sort], below);
-        const result = run(files.trips, files);
+    for (let i = 0; i < times; i += 1) {
+        const files = good.map((file, at) => (at === i % good.length ? damagedFile(file, below) : file));
+        const of = (sort) => files.filter((file) => file.sort === sort);
+        const result = run(of('trips'), { areas: of('areas'), stops: of('stops'), books: of('books')[0] });
         for (const { file, line, text: words } of result.mistakes) {
             assert.ok(file.length > 0 && Number.isInteger(line) && line >= 1, file);
             assert.ok(words.length > 0 && !words.includes('undefined'), words);
@@ -38,5 +37,27 @@ test('damaged files', () => {
         wrong += 1;
         assert.deepEqual([result.members, result.wages, result.charges], [[], [], []]);
     }
+    return wrong;
+}
+
+const damagedFile = (file, below) => ({ ...file, bytes: damaged(file.bytes, below) });
+
+test('damaged files', () => {
+    const table = (sort) => ({ sort, name: `${sort}.csv`, bytes: text(`${sort}.csv`) });
+    const tables = ['areas', 'stops', 'trips'].map(table);
+    const books = new TextEncoder().encode(booksText(run(sample('trips.csv'), { period: '2026-10' })));
+    const wrong = errorsAmong([...tables, { sort: 'books', name: 'books.json', bytes: books }], 400);
     assert.ok(wrong > 200, `${wrong}`);
+});
+
+test('damaged files of two editions', () => {
+    const { areas, stops } = both();
+    const moved = sample('trips.csv').replaceAll('2026-10-', '2026-06-').replaceAll('2026-11-', '2026-07-');
+    const trips = moved.replace(/.*(Setterich|\+02:00|;02:55).*\n/g, '');
+    const books = new TextEncoder().encode(booksText(run(trips, { areas, stops, period: '2026-06' })));
+    const sorted = (sort, files) => files.map((file) => ({ ...file, sort }));
+    const given = [{ name: 'trips.csv', bytes: new TextEncoder().encode(trips) }];
+    const good = [...sorted('areas', areas), ...sorted('stops', stops), ...sorted('trips', given)];
+    const wrong = errorsAmong([...good, { sort: 'books', name: 'books.json', bytes: books }], 240);
+    assert.ok(wrong > 120, `${wrong}`);
 });

@@ -13,7 +13,7 @@ const [CHECK, SETTLE, QUOTE, POST, READ] = ['check_tariff', 'settle', 'quote', '
     (name) => `milecopper_${name}`,
 );
 const NAMES = [CHECK, SETTLE, QUOTE, POST, READ];
-const LARGEST_REFUSAL = 17;
+const REFUSALS = [...Array.from({ length: 17 }, (_, i) => i + 1), 22]; // those of pages are not met
 
 // Standard input, so many bytes at a time.
 class Input {
@@ -91,7 +91,7 @@ function faults(library, { name, offset, lent, answer, then }) {
 const library = await loadLibrary(readFileSync(process.argv[2]));
 const last = Object.fromEntries([...FOUR, 'kept', 'fields'].map((name) => [name, new Uint8Array(0)]));
 const input = new Input();
-const counts = Array(LARGEST_REFUSAL + 1).fill(0); // by refusal; 0 are those that were accepted
+const counts = new Map([0, ...REFUSALS].map((number) => [number, 0])); // by refusal; 0 are those that were accepted
 let cases = 0;
 for (let next = nextCase(input, last); next !== undefined; next = nextCase(input, last)) {
     cases += 1;
@@ -101,11 +101,12 @@ for (let next = nextCase(input, last); next !== undefined; next = nextCase(input
         console.error([`case ${cases}, ${next.name}, at ${next.offset}:`, ...told, ...hex].join('\n'));
         process.exit(1);
     }
-    counts[Number(next.answer >> 32n)] += 1;
+    const number = Number(next.answer >> 32n);
+    counts.set(number, (counts.get(number) ?? 0) + 1);
 }
-const kinds = `accepted and refused 1 to ${LARGEST_REFUSAL}`;
-console.log(`engine: ${cases} cases of the differential test, ${kinds}: ${counts.join(' ')}`);
-if (cases < FEWEST || counts.some((count) => count < FEWEST_OF_EACH)) {
+const told = [...counts].map(([number, count]) => `${number}: ${count}`).join(', ');
+console.log(`engine: ${cases} cases of the differential test, by refusal (0: accepted) ${told}`);
+if (cases < FEWEST || [...counts.values()].some((count) => count < FEWEST_OF_EACH)) {
     console.error(`engine: too few cases, ${FEWEST} are due and ${FEWEST_OF_EACH} of each`);
     process.exit(1);
 }

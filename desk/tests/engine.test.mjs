@@ -28,6 +28,10 @@ function tripOf(given) {
     return Uint8Array.from([2 + body.length, 0, 7, 0, ...body]);
 }
 
+// The record that opens an edition.
+const opening = (year, month, day) => Uint8Array.of(6, 0, 9, 0, year & 255, year >> 8, month, day);
+const OPENING = opening(2000, 1, 1).length;
+
 // The records of a roll, one after another.
 function* recordsOf(roll) {
     for (let at = 0; at < roll.length; ) {
@@ -138,10 +142,12 @@ test('a record, read back', () => {
 test('every refusal, as an object', () => {
     const trip = tripOf({});
     const settled = (...given) => engine.settle(...given);
-    refused(engine.checkTariff(tariff.subarray(0, 807)), 1, 795);
+    const cut = tariff.subarray(0, tariff.length - 1);
+    refused(engine.checkTariff(cut), 1, tariff.length - 13);
     refused(engine.checkTariff(new Uint8Array(0)), 2, 0);
-    refused(engine.checkTariff(changed(tariff, 4, 3)), 3, 0);
-    refused(settled(tariff.subarray(0, 807), freshBook(), trip), 1, 795);
+    refused(engine.checkTariff(tariff.subarray(OPENING)), 2, 0);
+    refused(engine.checkTariff(changed(tariff, OPENING + 4, 3)), 3, OPENING);
+    refused(settled(cut, freshBook(), trip), 1, tariff.length - 13);
     refused(settled(tariff, freshBook().subarray(1), trip), 4);
     refused(settled(tariff, freshBook(), trip.subarray(1)), 5);
     refused(settled(tariff, freshBook(), tripOf({ counts: [3, 0, 0, 0, 0] })), 6);
@@ -153,6 +159,11 @@ test('every refusal, as an object', () => {
     const { book, statement } = settled(tariff, freshBook(), trip);
     refused(settled(tariff, book, tripOf({ to: [2026, 10, 31, 23, 52], stops: [1, 1] })), 17);
     refused(settled(tariff, book, trip), 10);
+    const later = joined(opening(2026, 11, 1), tariff.subarray(OPENING));
+    for (const stops of [[0, 1], [0, 1000]]) refused(settled(later, freshBook(), tripOf({ stops })), 22);
+    refused(engine.quote(later, freshBook(), trip), 22);
+    refused(engine.post(later, freshBook(), trip, statement), 22);
+    refused(settled(later, book, trip), 10);
     refused(engine.quote(tariff, book, trip), 10);
     refused(engine.post(tariff, book, trip, statement), 10);
     refused(engine.post(tariff, freshBook(), trip, statement.subarray(1)), 13);
@@ -160,6 +171,28 @@ test('every refusal, as an object', () => {
     let full = freshBook();
     for (let i = 0; i < 256; i += 1) full = settled(tariff, full, still).book;
     refused(settled(tariff, full, still), 11);
+});
+
+test('editions: the book says which, and decides while its window is open', () => {
+    const base = OPENING + 6; // of the state, whose areas the sample's first two stops are in
+    const dear = Uint8Array.from(tariff.subarray(OPENING));
+    for (let at = 0; dear[at + 2] === 1 || dear[at + 2] === 8; at += 2 + dear[at]) dear[at + 6] += 7;
+    const file = joined(tariff, opening(2026, 11, 1), dear);
+    assert.deepEqual(engine.checkTariff(file), { accepted: true, bytes: file.length });
+    assert.notEqual(tariff[base], dear[base - OPENING]);
+    const edition = (book) => new DataView(book.buffer).getUint32(binding.BOOK_BYTES - 4, true);
+    const cents = ({ statement }) => engine.read(statement, 0).fields.charges[0].cents;
+    const first = engine.settle(file, freshBook(), tripOf({}));
+    const noon = { from: [2026, 11, 1, 12, 0], to: [2026, 11, 1, 12, 25] };
+    const within = engine.settle(file, first.book, tripOf(noon));
+    const fresh = engine.settle(file, freshBook(), tripOf(noon));
+    const next = engine.settle(file, within.book, tripOf({ from: [2026, 11, 2, 12, 0], to: [2026, 11, 2, 12, 25] }));
+    assert.deepEqual([first, within, fresh, next].map(({ book }) => edition(book)), [1, 1, 2, 2]);
+    assert.equal(cents(fresh), cents(next));
+    assert.equal(cents(fresh) - cents(engine.settle(tariff, freshBook(), tripOf(noon))), 7);
+    refused(engine.settle(tariff, fresh.book, tripOf({ from: [2026, 11, 2, 12, 0], to: [2026, 11, 2, 12, 25] })), 4);
+    refused(engine.settle(file, changed(first.book, binding.BOOK_BYTES - 4, 0), tripOf(noon)), 4);
+    refused(engine.settle(file, changed(freshBook(), binding.BOOK_BYTES - 4, 1), tripOf(noon)), 4);
 });
 
 test('slices of any length get the answer of the whole slice, in the memory that is there', () => {
@@ -184,16 +217,18 @@ test('slices of any length get the answer of the whole slice, in the memory that
 });
 
 test('the largest tariff, and longer ones: the first record too many decides', () => {
-    const state = shown('tariff').subarray(0, 29);
-    const region = Uint8Array.from([40, 0, ...shown('aachen-tariff').subarray(31, 71)]);
+    const state = shown('tariff').subarray(OPENING, OPENING + 29);
+    const region = shown('aachen-tariff').subarray(OPENING + 29, OPENING + 71);
     const factor = [4, 0, 5, 0, 3, 0];
-    const stop = shown('tariff').subarray(35, 48);
+    const stop = shown('tariff').subarray(OPENING + 35, OPENING + 48);
     const repeated = (record, times) => joined(...Array(times).fill(record));
-    const largest = joined(state, repeated(region, 31), repeated(factor, 32), repeated(stop, 1000));
+    const whole = joined(state, repeated(region, 31), repeated(factor, 32), repeated(stop, 1000));
+    const largest = joined(opening(2000, 1, 1), whole, opening(2000, 1, 2), whole);
     assert.deepEqual(engine.checkTariff(largest), { accepted: true, bytes: binding.LARGEST_TARIFF_BYTES });
     const end = binding.LARGEST_TARIFF_BYTES;
     refused(engine.checkTariff(joined(largest, stop)), 2, end);
     refused(engine.checkTariff(longer(joined(largest, stop), 1 << 22)), 2, end);
+    refused(engine.checkTariff(joined(largest, opening(2000, 1, 3), whole)), 2, end);
     // the longest record: whole, a byte short, and with a length that none has
     const claims = (length, bytes) => longer(joined(largest, [length & 255, length >> 8, 9, 0]), end + bytes);
     refused(engine.checkTariff(claims(1024, 1026)), 2, end);
@@ -241,7 +276,7 @@ test('an account settles trips as single calls do, refused ones too', async () =
 
 test('accounts beside each other and single calls between: another tariff is taken when one is given', async () => {
     const trips = [...recordsOf(await bytesOf('samples/roll.bin'))].slice(0, 6);
-    const base = 2 * 29 + 6; // the place of the third area's base price
+    const base = OPENING + 2 * 29 + 6; // the place of the third area's base price
     const others = [changed(tariff, base, tariff[base] + 5), tariff, changed(tariff, base, 1)];
     const accounts = others.map((prices) => engine.open(prices, freshBook(), put));
     const answers = others.map(() => []);

@@ -41,6 +41,20 @@ test('a second file of trips is added; one of its name takes its place, and so d
     assert.equal(withFile(kept, own('trips', 'trips-11.csv')).replaced, null);
 });
 
+test('of areas and stops there is one of each edition, known by the day in its name', () => {
+    const own = (name, rest = {}) => ({ sort: 'areas', name, bytes: new Uint8Array(), ...rest });
+    const names = (files) => files.map(({ name }) => name);
+    const both = withFile([own('areas.csv')], own('areas-2026-06-01.csv'));
+    assert.deepEqual([names(both.files), both.replaced], [['areas.csv', 'areas-2026-06-01.csv'], null]);
+    const again = withFile(both.files, own('areas-2026-06-01.xlsx'));
+    assert.deepEqual(names(again.files), ['areas.csv', 'areas-2026-06-01.xlsx']);
+    assert.equal(again.replaced.name, 'areas-2026-06-01.csv');
+    assert.equal(withFile(both.files, own('Gebiete.csv')).replaced.name, 'areas.csv');
+    const third = withFile(both.files, own('areas-2027-01-01.csv')); // which is a mistake, and told as one
+    assert.deepEqual([third.files.length, third.replaced], [3, null]);
+    assert.equal(sortOf(own('stops-2026-06-01.csv')), 'stops');
+});
+
 test('of a folder its own files, and a workbook only where it is not there as CSV, too', () => {
     const names = ['trips.csv', 'Trips.xlsx', 'stops.xlsx', 'notes.txt', 'old/areas.csv', 'books-2026-09.json'];
     const files = names.map((name) => ({ name: name.split('/').at(-1), webkitRelativePath: `Oktober/${name}` }));
@@ -56,10 +70,12 @@ test('what is someone’s own takes the sample’s place, sort by sort', () => {
     assert.equal(replaced, null);
 });
 
-test('the desk is given files of trips and books by their names, and one of each other sort', () => {
+test('the desk is given areas, stops, trips and books by their names, and of members the one', () => {
     const own = (sort, name) => ({ ...file(name, name), sort, rows: 1 });
-    const given = deskFiles([own('trips', 'b.csv'), own('stops', 's.csv'), own('trips', 'a.csv')]);
+    const all = [own('trips', 'b.csv'), own('stops', 's.csv'), own('trips', 'a.csv'), own('members', 'm.csv')];
+    const given = deskFiles(all);
     assert.deepEqual(given.trips.map(({ name }) => name), ['a.csv', 'b.csv']);
-    assert.deepEqual(Object.keys(given.stops), ['name', 'bytes']);
-    assert.deepEqual([given.areas, given.members, given.books], [undefined, undefined, []]);
+    for (const one of [...given.stops, given.members]) assert.deepEqual(Object.keys(one), ['name', 'bytes']);
+    assert.deepEqual([given.areas, given.books], [[], []]);
+    assert.equal(deskFiles([]).members, undefined);
 });

@@ -193,11 +193,11 @@ test('refusal 6 says which of its causes it is: the town that has no first class
     assert.deepEqual(said(german), ['trips.csv:2: Warnung: wird abgelehnt (6): In Stolberg gibt es keine 1. Klasse.']);
     const statement = statementText(german.members[0], german, 'de').replace(/\s+/g, ' ');
     assert.match(statement, /Abgelehnt: In Stolberg gibt es keine 1\. Klasse\. \(Zeile 2 der Fahrten\)/);
-    const { tariff } = german;
+    const { editions } = german.tariff;
     const trip = { ...german.members[0].entries[0], class: 2 };
     const party = { ...trip.party, children: 11 };
     const reasons = [{ class: 3 }, { level: 'E' }, { party }, { via: Array(31).fill(0) }];
-    assert.deepEqual(reasons.map((change) => reasonText({ ...trip, ...change }, tariff, 'en')), [
+    assert.deepEqual(reasons.map((change) => reasonText({ ...trip, ...change }, editions, 'en')), [
         'There are only first and second class.',
         'There is no such ticket level.',
         'No more than 10 adults, children or bicycles can be taken along.',

@@ -11,6 +11,8 @@ import { membersOf } from '../statement.mjs';
 import { chargesText, wagesText } from '../wages.mjs';
 import { AREAS, CSS, SETTLED, STOPS, TRIPS, cells, chooseMonth, expected, hidden, letter } from './pages.mjs';
 import { showsStatement, startPages, text } from './pages.mjs';
+import { DAY, both } from './rheinland.mjs';
+import { TRIPS as HEAD } from './support.mjs';
 import { workbookOf } from './workbooks.mjs';
 
 let desk;
@@ -85,6 +87,35 @@ test('workbooks by choosing: the first sheet is read, and what cannot be read is
     await page.until(SETTLED);
     await showsStatement(page, 'Anna Berg', expected());
     assert.match(await text(page, '#status'), /So nicht lesbar: alt\.xls\. Bitte mit „Speichern unter“/);
+    desk.quiet(page);
+});
+
+test('two editions: each is listed, the statement names the one of each window, and a third day is told', async () => {
+    const put = (name, content) => {
+        writeFileSync(path.join(desk.folder, name), content);
+        return path.join(desk.folder, name);
+    };
+    const ride = (date, times) => `Anna,${date},${times},Aachen Hbf,Düren Bf,,,,,,\n`;
+    const night = ride('2026-05-31', '22:40,23:55') + ride('2026-06-01', '05:30,06:45');
+    const trips = put('trips-wechsel.csv', HEAD + night + ride('2026-06-02', '12:00,12:50'));
+    const { areas, stops } = both();
+    const page = await desk.opened();
+    await page.choose('#choose-files', [...areas, ...stops].map(({ name, bytes }) => put(name, bytes)));
+    await page.choose('#choose-files', [trips]);
+    await page.until(SETTLED);
+    const listed = '[...document.querySelectorAll("#slots .file")].map((file) => file.firstChild.textContent.trim())';
+    const files = ['areas.csv', `areas-${DAY}.csv`, 'stops.csv', `stops-${DAY}.csv`, 'trips-wechsel.csv'];
+    assert.deepEqual((await page.ask(listed)).sort(), files.sort());
+    await chooseMonth(page, '');
+    await showsStatement(page, 'Anna', expected({ trips, period: null, areas, stops }));
+    const notes = await page.ask('[...document.querySelectorAll("#statement .note")].map((note) => note.textContent)');
+    assert.deepEqual(notes, ['Tarif NRW, Fassung bis 31.05.2026', 'Tarif NRW, Fassung ab 01.06.2026']);
+    await page.choose('#choose-files', [put('areas-2027-01-01.csv', areas[1].bytes)]);
+    await page.until('!document.querySelector("#mistakes").hidden');
+    assert.match(await text(page, '#mistakes'), /areas-2027-01-01\.csv.*Fehler: ein dritter Tag: /s);
+    assert.deepEqual(await hidden(page, 'result', 'one'), [true, true]);
+    await page.click('[data-remove="areas-2027-01-01.csv"]');
+    await page.until(SETTLED);
     desk.quiet(page);
 });
 

@@ -163,7 +163,7 @@ test('the HTML says what the text says', () => {
     for (const member of membersOf(result)) {
         const html = statementHtml(member, result, 'de');
         const { total, windows, foot } = statementOf(member, result, 'de');
-        const said = [member.name, total, foot.tariff, foot.hash, foot.version];
+        const said = [member.name, total, ...foot.tariff, foot.hash, foot.version];
         for (const text of said) assert.ok(html.includes(text), text);
         assert.equal([...html.matchAll(/<svg class="picture" /g)].length, windows.length);
         const ridersOf = (window) => window.trips.flatMap(({ parts }) => parts.flatMap(({ riders }) => riders));
@@ -255,8 +255,8 @@ test('words: both languages say the same things', () => {
         Object.entries(words).flatMap(([key, word]) => (typeof word === 'object' ? [key, keys(word)] : [key]));
     for (const words of [LABELS, STATEMENT]) assert.deepEqual(keys(words.de), keys(words.en));
     for (const language of LANGUAGES) {
-        const texts = Array.from({ length: 17 }, (_, i) => refusalText(i + 1, language));
-        assert.equal(new Set(texts).size, 17);
+        const texts = [...Array.from({ length: 17 }, (_, i) => i + 1), 22].map((i) => refusalText(i, language));
+        assert.equal(new Set(texts).size, 18);
         for (const text of texts) assert.match(text, /^\p{Lu}.*\.$/u);
         for (const text of texts) assert.doesNotMatch(text, /(Nummer|number) \d/);
     }

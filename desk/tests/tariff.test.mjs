@@ -13,7 +13,7 @@ const STOPS = 'y_m,x_m,area,name,id\n100000,200000,Aachen,Hbf,a\n100000,209000,1
 test('the bytes are those of docs/FORMAT.md', () => {
     const result = run(`${TRIPS}A,2026-10-31,23:50,00:15,a,b,,,A,,1,1\n`, { areas: AREAS, stops: STOPS });
     assert.deepEqual(said(result), []);
-    assert.deepEqual(result.tariff.bytes, formatBytes('aachen-tariff'));
+    assert.deepEqual(result.tariff.bytes, formatBytes('aachen-tariff')); // one edition, from 2000-01-01
     const riders = result.members[0].entries[0].parts[0].riders;
     assert.deepEqual(
         riders.map(({ sort, charge }) => [sort, charge]),

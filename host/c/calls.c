@@ -107,8 +107,11 @@ static void tariffs(const uint8_t *tariff, size_t length)
     check(milecopper_check_tariff(tariff, length - 1) == refused(MILECOPPER_TARIFF_BROKEN, (uint32_t)length - 13),
           "a tariff without its last byte");
     memcpy(other, tariff, length);
-    other[MILECOPPER_AREA_BYTES + MILECOPPER_AREA_LEVEL_AT] = MILECOPPER_STATE;
-    check(milecopper_check_tariff(other, length) == refused(MILECOPPER_TARIFF_VALUE, MILECOPPER_AREA_BYTES), "two states");
+    other[MILECOPPER_EDITION_BYTES + MILECOPPER_AREA_BYTES + MILECOPPER_AREA_LEVEL_AT] = MILECOPPER_STATE;
+    check(milecopper_check_tariff(other, length) ==
+              refused(MILECOPPER_TARIFF_VALUE, MILECOPPER_EDITION_BYTES + MILECOPPER_AREA_BYTES), "two states");
+    check(milecopper_check_tariff(tariff + MILECOPPER_EDITION_BYTES, length - MILECOPPER_EDITION_BYTES) ==
+              refused(MILECOPPER_TARIFF_MISSHAPEN, 0), "a tariff that no edition opens");
 }
 
 /* Everything that the header reads of a record, on any bytes and for any number of a charge. */
@@ -393,6 +396,9 @@ static size_t record_again(const uint8_t *from, uint8_t *to, size_t room)
     uint16_t stops[255];
     struct milecopper_trip trip;
     switch (milecopper_number(from + MILECOPPER_KIND_AT, 2)) {
+    case MILECOPPER_EDITION_KIND:
+        return milecopper_put_edition(to, room, milecopper_number(from + MILECOPPER_EDITION_YEAR_AT, 2),
+                                      from[MILECOPPER_EDITION_MONTH_AT], from[MILECOPPER_EDITION_DAY_AT]);
     case MILECOPPER_AREA_KIND:
         return area_again(from, to, room);
     case MILECOPPER_AACHEN_AREA_KIND:
@@ -424,24 +430,84 @@ static void all_again(const uint8_t *from, size_t length)
     check(at == length && memcmp(from, to, length) == 0, "records written again are the same");
 }
 
-/* Another tariff while a window is open, as the header says it: the state alone, with the stops of the trip's numbers. */
-static void another_tariff(const uint8_t *tariff, size_t tariff_len, const uint8_t *trip, size_t trip_len)
+/* An edition of the state alone, with two stops: base price 500, day cap 600. */
+#define STATE_ALONE_BYTES (MILECOPPER_EDITION_BYTES + MILECOPPER_AREA_BYTES + MILECOPPER_FACTOR_BYTES + 2 * MILECOPPER_STOP_BYTES)
+
+static size_t state_alone(uint8_t *bytes, unsigned year)
 {
     static const struct milecopper_area state = {MILECOPPER_STATE, 0, 500, 0, 360, 0, 0, MILECOPPER_NO_TRIP_CAP,
                                                  {0, 0, 0, 0, 0}, 600, 0};
-    uint8_t other[MILECOPPER_AREA_BYTES + MILECOPPER_FACTOR_BYTES + 2 * MILECOPPER_STOP_BYTES];
+    size_t length = 0;
+    length += milecopper_put_edition(bytes + length, STATE_ALONE_BYTES - length, year, 11, 1);
+    length += milecopper_put_area(bytes + length, STATE_ALONE_BYTES - length, &state);
+    length += milecopper_put_factor(bytes + length, STATE_ALONE_BYTES - length, 1, 0);
+    length += milecopper_put_stop(bytes + length, STATE_ALONE_BYTES - length, 0, 0, 0);
+    length += milecopper_put_stop(bytes + length, STATE_ALONE_BYTES - length, 0, 1000, 0);
+    return length;
+}
+
+/* A second edition, as the header says it, from the day after the first trip: the state alone. Then the first edition is dropped. */
+static void editions(const uint8_t *tariff, size_t tariff_len, const uint8_t *trip, size_t trip_len)
+{
+    uint8_t *both = guarded(tariff_len + STATE_ALONE_BYTES);
+    uint8_t *second = both + tariff_len;
     uint8_t book[MILECOPPER_BOOK_BYTES] = {0};
     uint8_t statement[MILECOPPER_LARGEST_STATEMENT_BYTES];
     uint8_t again[MILECOPPER_LARGEST_TRIP_BYTES];
     uint16_t stops[255];
     struct milecopper_trip next = trip_of(trip, stops);
-    size_t length = 0;
+    size_t length = tariff_len + STATE_ALONE_BYTES;
+    size_t again_len;
+    memcpy(both, tariff, tariff_len);
+    check(state_alone(second, 2026) == STATE_ALONE_BYTES && milecopper_check_tariff(both, length) == length, "two editions");
+    check(milecopper_settle(second, STATE_ALONE_BYTES, book, sizeof book, trip, trip_len, statement, sizeof statement) ==
+              refused(MILECOPPER_NO_EDITION, 0), "a trip before the first edition");
+
+    /* the window goes on under its edition */
+    check(milecopper_book_edition(book) == 0, "a fresh book has no edition");
+    check(milecopper_accepted(milecopper_settle(both, length, book, sizeof book, trip, trip_len, statement, sizeof statement)),
+          "a trip under the first edition");
+    check(milecopper_book_edition(book) == 1, "the book's edition");
+    next.check_in.month = next.check_out.month = 11;
+    next.check_in.day = next.check_out.day = 1;
+    next.check_in.hour = next.check_out.hour = 12;
+    again_len = milecopper_put_trip(again, sizeof again, &next);
+    check(milecopper_accepted(milecopper_settle(both, length, book, sizeof book, again, again_len, statement, sizeof statement)),
+          "a trip of that window, the second edition in force");
+    check(milecopper_book_edition(book) == 1 && milecopper_record_area(statement) != 0, "the window's edition settles it");
+
+    /* the next one opens under the second */
+    next.check_in.day = next.check_out.day = 3;
+    again_len = milecopper_put_trip(again, sizeof again, &next);
+    check(milecopper_accepted(milecopper_settle(both, length, book, sizeof book, again, again_len, statement, sizeof statement)),
+          "a trip under the second edition");
+    check(milecopper_book_edition(book) == 2 && milecopper_record_area(statement) == 0, "which settles it");
+
+    /* without the first, the second is 1 */
+    check(milecopper_settle(second, STATE_ALONE_BYTES, book, sizeof book, trip, trip_len, statement, sizeof statement) ==
+              refused(MILECOPPER_BOOK_UNSOUND, 0), "an edition that is not there");
+    milecopper_put_number(book + MILECOPPER_BOOK_EDITION_AT, 4, 1);
+    next.check_in = next.check_out;
+    next.bicycles = 0;
+    again_len = milecopper_put_trip(again, sizeof again, &next);
+    check(milecopper_accepted(milecopper_settle(second, STATE_ALONE_BYTES, book, sizeof book, again, again_len, statement,
+                                                sizeof statement)),
+          "the window goes on under the edition that was the second");
+    check(milecopper_record_total(statement) == 100, "with its cap");
+}
+
+/* An edition that is changed while a window is open, as the header says it: the state alone, with the stops of the trip's numbers. */
+static void another_tariff(const uint8_t *tariff, size_t tariff_len, const uint8_t *trip, size_t trip_len)
+{
+    uint8_t other[STATE_ALONE_BYTES];
+    uint8_t book[MILECOPPER_BOOK_BYTES] = {0};
+    uint8_t statement[MILECOPPER_LARGEST_STATEMENT_BYTES];
+    uint8_t again[MILECOPPER_LARGEST_TRIP_BYTES];
+    uint16_t stops[255];
+    struct milecopper_trip next = trip_of(trip, stops);
+    size_t length = state_alone(other, 2000);
     size_t again_len;
     uint32_t paid;
-    length += milecopper_put_area(other + length, sizeof other - length, &state);
-    length += milecopper_put_factor(other + length, sizeof other - length, 1, 0);
-    length += milecopper_put_stop(other + length, sizeof other - length, 0, 0, 0);
-    length += milecopper_put_stop(other + length, sizeof other - length, 0, 1000, 0);
     check(milecopper_check_tariff(other, length) == sizeof other, "a tariff by the header's writers");
 
     /* without a bicycle: what was paid under the first counts for the second's cap of 600 */
@@ -487,6 +553,7 @@ static void too_large(const uint8_t *trip)
     check(milecopper_put_area(bytes, sizeof bytes, &area) == 0, "a trip cap of 65536");
     check(milecopper_put_aachen_area(bytes, sizeof bytes, &aachen) == 0, "a child ticket of 65536");
     check(milecopper_put_factor(bytes, sizeof bytes, 256, 0) == 0, "the factor 256");
+    check(milecopper_put_edition(bytes, sizeof bytes, 65536, 1, 1) == 0, "an edition of the year 65536");
     check(milecopper_put_stop(bytes, sizeof bytes, 256, 0, 0) == 0, "a stop in area 256");
     check(memcmp(bytes, blank, sizeof bytes) == 0, "what does not fit is not written");
 }
@@ -518,6 +585,7 @@ int main(int argc, char **argv)
     members(tariff, tariff_len, trip, trip_len);
     all_again(tariff, tariff_len);
     all_again(roll, roll_len);
+    editions(tariff, tariff_len, trip, trip_len);
     another_tariff(tariff, tariff_len, trip, trip_len);
     too_large(trip);
     return faults == 0 ? 0 : 1;

@@ -16,7 +16,7 @@ static void check(int well, const char *what)
 
 static void sizes(void)
 {
-    check(MILECOPPER_BOOK_BYTES == 4 * (3 + 21 * 32 * 2 + 2 * MILECOPPER_MOST_BICYCLES), "the book");
+    check(MILECOPPER_BOOK_BYTES == 4 * (3 + 21 * 32 * 2 + 2 * MILECOPPER_MOST_BICYCLES + 1), "the book");
     check(MILECOPPER_MOST_PERSONS == 1 + MILECOPPER_MOST_ADULTS + MILECOPPER_MOST_CHILDREN, "the persons");
     check(MILECOPPER_MOST_CHARGES == MILECOPPER_MOST_PERSONS + MILECOPPER_MOST_BICYCLES, "the charges");
     check(milecopper_record_bytes_for(0, 0, 0) == MILECOPPER_SMALLEST_RECORD_BYTES, "the smallest record");
@@ -26,11 +26,14 @@ static void sizes(void)
           "the largest trip");
     check(MILECOPPER_LARGEST_STATEMENT_BYTES == MILECOPPER_MOST_PARTS * MILECOPPER_LARGEST_RECORD_BYTES,
           "the largest statement");
+    check(MILECOPPER_BOOK_EDITION_AT + 4 == MILECOPPER_BOOK_BYTES, "the book's last word");
     /* The state's record is the shorter one. */
     check(MILECOPPER_LARGEST_TARIFF_BYTES ==
-              MILECOPPER_AREA_BYTES + MILECOPPER_AACHEN_AREA_BYTES * (MILECOPPER_MOST_AREAS - 1) +
-                  MILECOPPER_FACTOR_BYTES * MILECOPPER_MOST_AREAS + MILECOPPER_STOP_BYTES * MILECOPPER_MOST_STOPS,
+              MILECOPPER_MOST_EDITIONS *
+                  (MILECOPPER_EDITION_BYTES + MILECOPPER_AREA_BYTES + MILECOPPER_AACHEN_AREA_BYTES * (MILECOPPER_MOST_AREAS - 1) +
+                   MILECOPPER_FACTOR_BYTES * MILECOPPER_MOST_AREAS + MILECOPPER_STOP_BYTES * MILECOPPER_MOST_STOPS),
           "the largest tariff");
+    check(MILECOPPER_DECIDING_TARIFF_BYTES == MILECOPPER_LARGEST_TARIFF_BYTES + 2 + 1024, "the bytes that decide");
     check(MILECOPPER_FIELDS_CHARGES_AT + MILECOPPER_FIELDS_EACH_BYTES == MILECOPPER_SMALLEST_FIELDS_BYTES &&
               MILECOPPER_FIELDS_CHARGES_AT + MILECOPPER_FIELDS_EACH_BYTES * MILECOPPER_MOST_CHARGES ==
                   MILECOPPER_LARGEST_FIELDS_BYTES, "the fields of the smallest and of the largest record");
@@ -64,6 +67,7 @@ static void answers(void)
     check(milecopper_refusal_of((uint64_t)12 << 32) == MILECOPPER_NO_ROOM, "the last refusal of settling and of a quote");
     check(milecopper_refusal_of((uint64_t)13 << 32) == MILECOPPER_OTHER_RECORD, "the last refusal of a posting");
     check(milecopper_refusal_of((uint64_t)17 << 32) == MILECOPPER_MISTAP, "a mistap");
+    check(milecopper_refusal_of((uint64_t)22 << 32) == MILECOPPER_NO_EDITION, "no edition yet");
     check(milecopper_refusal_of((uint64_t)16 << 32) == MILECOPPER_RECORD_VALUE, "the last refusal of a record that is read");
     check(milecopper_record_read(accepted) == 26 && milecopper_record_read(refused) == 0, "a record that was read");
     check(milecopper_refusal_of((uint64_t)18 << 32) == MILECOPPER_WRONG_PAGE, "a page that is wrong");
@@ -78,7 +82,7 @@ static void texts(void)
 {
     int one;
     int other;
-    for (one = 0; one <= 22; one += 1)
+    for (one = 0; one <= 23; one += 1)
         for (other = 0; other < one; other += 1)
             check(strcmp(milecopper_refusal_text((enum milecopper_refusal)one),
                          milecopper_refusal_text((enum milecopper_refusal)other)) != 0, "two refusals with one text");
@@ -134,6 +138,15 @@ static void pages(void)
           "no member");
     check(milecopper_book_in(page, 0) == page + 4 && milecopper_book_in(page, 12) == NULL, "books and no book");
     check(milecopper_book_in(page, 11) + MILECOPPER_BOOK_BYTES == page + MILECOPPER_PAGE_BYTES, "the last book ends the page");
+}
+
+/* The last word, which is a number as any other. */
+static void books(void)
+{
+    static uint8_t book[MILECOPPER_BOOK_BYTES];
+    check(milecopper_book_edition(book) == 0, "the edition of a fresh book");
+    book[MILECOPPER_BOOK_BYTES - 4] = 2;
+    check(milecopper_book_edition(book) == 2, "the edition of a book");
 }
 
 /* Fields as a reading tells them, of a record with an adult and a bicycle. */
@@ -192,6 +205,7 @@ int main(void)
     texts();
     records();
     fields();
+    books();
     pages();
     two_records();
     return faults == 0 ? 0 : 1;

@@ -8,12 +8,12 @@ pub enum Answer {
     /// So many bytes were written: to the statement, by a posting to the book, by adding and closing to the page. Of a reading,
     /// the record's bytes.
     Accepted { bytes: u32 },
-    /// `place` is the offset in the tariff for the first three refusals, else 0.
+    /// `place` is the offset in the tariff file for the first three refusals, else 0.
     Refused { refusal: Refusal, place: u32 },
 }
 
-/// The refusals, in the order in which they are tried, in which 17 stands between 9 and 10. Settling and a quote give those
-/// up to 12; a posting has 13 in the place of 12. A reading gives 14 to 16, and then 12. 18 to 20 are of a page of accounts
+/// The refusals, in the order in which they are tried, in which 8, 9, 17, 10 and 22 stand between 6 and 7. Settling and a quote
+/// give those up to 12; a posting has 13 in the place of 12. A reading gives 14 to 16, and then 12. 18 to 20 are of a page of accounts
 /// alone, with 21 before them: adding gives these four, closing the first three of them, and settling a member those three between
 /// 3 and 4.
 #[derive(Clone, Copy, Debug, PartialEq, Eq)]
@@ -28,11 +28,12 @@ pub enum Refusal {
     BookUnsound = 4,
     TripMisshapen = 5,
     TripCounts = 6,
-    UnknownStop = 7,
     NoSuchTime = 8,
     TripBackward = 9,
     Mistap = 17,
     BeforeLastTrip = 10,
+    NoEdition = 22,
+    UnknownStop = 7,
     WindowFull = 11,
     NoRoom = 12,
     OtherRecord = 13,
@@ -54,7 +55,7 @@ impl Answer {
 }
 
 impl Refusal {
-    pub const ALL: [Refusal; 21] = [
+    pub const ALL: [Refusal; 22] = [
         Refusal::TariffBroken,
         Refusal::TariffMisshapen,
         Refusal::TariffValue,
@@ -65,11 +66,12 @@ impl Refusal {
         Refusal::BookUnsound,
         Refusal::TripMisshapen,
         Refusal::TripCounts,
-        Refusal::UnknownStop,
         Refusal::NoSuchTime,
         Refusal::TripBackward,
         Refusal::Mistap,
         Refusal::BeforeLastTrip,
+        Refusal::NoEdition,
+        Refusal::UnknownStop,
         Refusal::WindowFull,
         Refusal::NoRoom,
         Refusal::OtherRecord,
@@ -112,6 +114,7 @@ impl Refusal {
             Refusal::TripBackward => "trip backward or too long",
             Refusal::Mistap => "mistap",
             Refusal::BeforeLastTrip => "before the last check-out",
+            Refusal::NoEdition => "before the first edition",
             Refusal::WindowFull => "257th trip of the window",
             Refusal::NoRoom => "statement or fields too short",
             Refusal::OtherRecord => "not the present quote",
@@ -149,8 +152,9 @@ mod tests {
         assert_eq!(Answer::of(17 << 32), Some(Answer::Refused { refusal: Refusal::Mistap, place: 0 }));
         assert_eq!(Answer::of(20 << 32), Some(Answer::Refused { refusal: Refusal::NoPlace, place: 0 }));
         assert_eq!(Answer::of(21 << 32), Some(Answer::Refused { refusal: Refusal::WrongAssociation, place: 0 }));
-        assert_eq!(Answer::of(22 << 32), None);
+        assert_eq!(Answer::of(22 << 32), Some(Answer::Refused { refusal: Refusal::NoEdition, place: 0 }));
+        assert_eq!(Answer::of(23 << 32), None);
         assert_eq!(Answer::of(u64::MAX), None);
-        assert!((1..=21).all(|number| Refusal::of(number).is_some_and(|refusal| refusal as u64 == number)));
+        assert!((1..=22).all(|number| Refusal::of(number).is_some_and(|refusal| refusal as u64 == number)));
     }
 }

@@ -17,6 +17,7 @@ mod chains;
 mod counts;
 mod cuts;
 mod damage;
+mod editions;
 mod faulty;
 mod fields;
 mod functions;

@@ -7,7 +7,8 @@ use crate::differential::Functions;
 use crate::maker::bytes_of;
 use crate::maker::cases::{sections_of, Content, Section, Sort};
 use crate::model::book::BOOK_BYTES;
-use crate::model::record::{record_at, KIND_AACHEN_AREA, KIND_AREA};
+use crate::model::clock::Date;
+use crate::model::record::{record_at, Fields, KIND_AACHEN_AREA, KIND_AREA, KIND_EDITION};
 use crate::model::statement::{number_of, ChargeRecord, LARGEST_STATEMENT};
 use crate::numbers::number;
 
@@ -174,18 +175,26 @@ impl Desk {
         self.settled(&self.tariff, &mut book.to_vec(), trip, 0).expect_err("there is no room").0
     }
 
-    /// A faultless tariff's areas are those that a bicycle's word may name, its stops those that a trip may.
+    /// A faultless tariff's editions are those that a book's last word may name, an edition's areas those that a bicycle's word
+    /// may, its stops those that a trip of its window may.
     fn tariff_line(&self) -> String {
         match self.settled(&self.tariff, &mut [], &[], 0) {
             Err((4, _)) => {
-                let is_area = |area: &u8| self.fault_of(&used_book(*area), &[]) != 4;
-                let is_stop = |stop: &usize| self.fault_of(&[0; BOOK_BYTES], &trip_between(*stop)) != 7;
-                let (areas, stops) = ((1..).take_while(is_area).count(), (0..).take_while(is_stop).count());
-                format!("tariff faultless, areas {areas} stops {stops}")
+                let is_edition = |edition: &u8| self.fault_of(&used_book(*edition, 0), &[]) != 4;
+                let editions = (1..).take_while(is_edition).zip(first_minutes(&self.tariff));
+                let lines = editions.map(|(edition, since)| self.edition_line(edition, since));
+                format!("tariff faultless{}", lines.collect::<String>())
             }
             Err((number, place)) => format!("tariff refused {number} at {place}"),
             Ok(_) => unreachable!("a book of no bytes is refused"),
         }
+    }
+
+    fn edition_line(&self, edition: u8, since: u64) -> String {
+        let is_area = |area: &u8| self.fault_of(&used_book(edition, *area), &[]) != 4;
+        let is_stop = |stop: &usize| self.fault_of(&used_book(edition, 0), &trip_between(*stop)) != 7;
+        let (areas, stops) = ((1..).take_while(is_area).count(), (0..).take_while(is_stop).count());
+        format!(", from minute {since} areas {areas} stops {stops}")
     }
 
     /// The price is what is charged on a fresh book where no area has a day cap; a line for each part.
@@ -245,17 +254,31 @@ fn without_day_caps(tariff: &mut [u8]) {
     }
 }
 
-/// A book of one trip whose first bicycle's covering area is this one, counted from 1.
-fn used_book(area: u8) -> Vec<u8> {
+/// The first minutes of a faultless tariff's editions.
+fn first_minutes(tariff: &[u8]) -> Vec<u64> {
+    let (mut minutes, mut place) = (Vec::new(), 0);
+    while let Some(record) = record_at(tariff, place) {
+        if record.kind == KIND_EDITION {
+            minutes.extend(Date::read(&mut Fields::of(record.body)).first_minute());
+        }
+        place += record.size();
+    }
+    minutes
+}
+
+/// A book of one trip, at minute 0 under this edition, whose first bicycle's covering area is this one, counted from 1.
+fn used_book(edition: u8, area: u8) -> Vec<u8> {
     let mut book = vec![0; BOOK_BYTES];
     book[0] = 1;
     book[4 * 1_347] = area;
+    book[4 * 1_367] = edition;
     book
 }
 
+/// A trip of that book's window; it is too long for a mistap.
 fn trip_between(stop: usize) -> Vec<u8> {
-    let time = "2000-01-01T01:00+01:00";
-    let text = format!("trip {time} to {time} class 2 level 0 adults 0 children 0 bikes 0 stops");
+    let (from, to) = ("2000-01-01T01:00+01:00", "2000-01-01T01:03+01:00");
+    let text = format!("trip {from} to {to} class 2 level 0 adults 0 children 0 bikes 0 stops");
     bytes_of(&format!("{text} {stop} {stop}")).expect("a trip")
 }
 

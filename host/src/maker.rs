@@ -33,7 +33,7 @@ impl fmt::Display for Fault {
     }
 }
 
-/// How many stops the tariff of some file has, or why that cannot be told.
+/// How many stops the tariff of some file has, in the edition with the most of them, or why that cannot be told.
 pub type StopsOf<'a> = &'a dyn Fn(&str) -> Result<usize, String>;
 
 /// The bytes of a text of records whose values are right; or all of its mistakes.

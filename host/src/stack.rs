@@ -8,18 +8,12 @@ use crate::library::{
 /// What the library exports, and how many bytes of stack a call may take. Who raises a limit says why in docs/DECISIONS.md.
 /// c/painter.c has the functions in the same order.
 pub const FUNCTIONS: [Function; 8] = [
-    Function {
-        name: "milecopper_settle",
-        limit: 832,
-        start: milecopper_settle as *const (),
-        before: ALL,
-        numbers: 0,
-    },
+    Function { name: "milecopper_settle", limit: 832, start: milecopper_settle as *const (), before: ALL, numbers: 0 },
     Function { name: "milecopper_quote", limit: 1_536, start: milecopper_quote as *const (), before: ALL, numbers: 0 },
     Function { name: "milecopper_post", limit: 2_048, start: milecopper_post as *const (), before: ALL, numbers: 0 },
     Function {
         name: "milecopper_check_tariff",
-        limit: 256,
+        limit: 512,
         start: milecopper_check_tariff as *const (),
         before: ALL,
         numbers: 0,

@@ -1,9 +1,10 @@
-//! The tariff under which the starred sums are proved (crates/promises/specs/Cases.antt) is samples/tariff.bin, byte for byte.
+//! The file under which the starred sums are proved (crates/promises/specs/Cases.antt) is samples/tariff.bin, byte for byte.
 
 const CASES: &str = include_str!("../../crates/promises/specs/Cases.antt");
 const SAMPLE: &[u8] = include_bytes!("../../samples/tariff.bin");
 
-/// The widths of an area's fields in kind 1, of what kind 8 has behind them, of a factor record's and of a stop's.
+/// The widths of an edition's date, of an area's fields in kind 1, of what kind 8 has behind them, of a factor record's and of a stop's.
+const DATE: [usize; 3] = [2, 1, 1];
 const AREA: [usize; 15] = [1, 1, 2, 2, 2, 1, 1, 1, 2, 2, 2, 2, 2, 2, 2];
 const MORE: [usize; 7] = [2, 2, 2, 2, 2, 2, 1];
 const FACTOR: [usize; 2] = [1, 1];
@@ -17,6 +18,13 @@ fn entries(words: &[&str]) -> Vec<(&'static str, Vec<u32>)> {
         words.contains(&word).then_some((word, numbers.ok()?))
     };
     CASES.lines().filter_map(entry).collect()
+}
+
+/// The date from which the file's one edition is valid.
+fn date() -> Vec<u32> {
+    let numbers =
+        CASES.lines().find_map(|line| line.strip_prefix("sample = openingBytes ")?.strip_suffix(" ++ sampleTariff"));
+    numbers.expect("the sample's opening").split(' ').map(|number| number.parse().expect("a number")).collect()
 }
 
 /// A record: its length, its kind, and its fields.
@@ -44,9 +52,10 @@ fn area(word: &str, fields: &[u32]) -> Vec<u8> {
 
 #[test]
 fn the_proved_sample_is_the_file() {
+    let opening = record(9, &DATE, &date());
     let areas = entries(&["sampleArea", "aachenArea"]).into_iter().map(|(word, fields)| area(word, &fields));
     let factors = entries(&["sampleFactor"]).into_iter().map(|(_, fields)| record(5, &FACTOR, &fields));
     let stops = entries(&["sampleStop"]).into_iter().map(|(_, fields)| record(2, &STOP, &fields));
-    let bytes: Vec<u8> = areas.chain(factors).chain(stops).flatten().collect();
+    let bytes: Vec<u8> = [opening].into_iter().chain(areas).chain(factors).chain(stops).flatten().collect();
     assert_eq!(bytes, SAMPLE);
 }

@@ -78,7 +78,8 @@ fn cases_are_made_and_checked() {
     assert_eq!(directory.run("--check --cases cases.txt stdin stdout"), told);
 }
 
-const TARIFF: &[u8] = b"area state parent 0 base 180 km 28 valid 360 first 50 child 50 cap none day 3000 bike 500
+const TARIFF: &[u8] = b"edition 2000-01-01
+area state parent 0 base 180 km 28 valid 360 first 50 child 50 cap none day 3000 bike 500
 factor 3 mark 0
 stop 0 300000 200000
 stop 0 303000 204000
@@ -129,7 +130,7 @@ fn a_roll_under_its_tariff() {
     let told = "roll.txt: line 1: the tariff other.txt: No such file or directory (os error 2)
 roll.bin, which was there before, was removed";
     assert_eq!(directory.run("roll.txt roll.bin"), failed(told));
-    directory.write("tariff.txt", b"\nstop 0 0 0\n");
+    directory.write("tariff.txt", b"edition 2000-01-01\nstop 0 0 0\n");
     directory.write("roll.txt", format!("tariff tariff.txt\n{}", trip(2, 1)).as_bytes());
     let told =
         "roll.txt: line 1: the tariff tariff.txt has mistakes of its own, the first in line 2: a stop before any area";

@@ -111,7 +111,7 @@ fn are_on_a_page(Functions { add, close, settle_member, .. }: Functions) {
 /// The table of the statement that the page puts together.
 #[test]
 fn the_table_that_is_printed() {
-    let statement = [block("cut-record"), block("tariff")[29..35].to_vec(), block("kind-4-record"), vec![1]].concat();
+    let statement = [block("cut-record"), block("tariff")[37..43].to_vec(), block("kind-4-record"), vec![1]].concat();
     let start = FORMAT.find("```table\n").expect("the page has the table") + "```table\n".len();
     assert_eq!(Some(print_statement(&statement).as_str()), FORMAT[start..].split("```").next());
 }

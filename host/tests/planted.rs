@@ -10,9 +10,9 @@ fn planted(name: &str) -> (bool, String) {
 }
 
 /// Each planted error, and words of the difference that it makes.
-const FOUND: [(&str, &str); 41] = [
+const FOUND: [(&str, &str); 53] = [
     ("refusal_12_writes_the_book", "the copy refused, and changed the book"),
-    ("stops_after_stamps", "by the model: refused 7 at 0 (unknown stop)\n  by the copy: refused 8 at 0"),
+    ("stops_before_10", "by the model: refused 10 at 0 (before the last check-out)\n  by the copy: refused 7 at 0"),
     ("rounding_once_at_the_end", "of the statement is"),
     ("price_added_above", "words of the book differ"),
     ("broken_at_the_factor", "the answer differs"),
@@ -22,7 +22,7 @@ const FOUND: [(&str, &str); 41] = [
     ("child_reduced_after_the_ticket", "of the statement is"),
     ("towns_ticket_compared", "of the statement is"),
     ("payments_credited", "of the statement is"),
-    ("town_after_stamps", "by the model: refused 6 at 0 (trip counts)\n  by the copy: refused 8 at 0"),
+    ("town_after_11", "by the model: refused 6 at 0 (trip counts)\n  by the copy: refused 11 at 0"),
     ("offset_added", "words of the book differ"),
     ("narrowest_of_equals", "of the statement is"),
     ("named_at_the_whole_price", "of the statement is"),
@@ -38,6 +38,21 @@ const FOUND: [(&str, &str); 41] = [
     ("mistap_by_points", "\n  by the copy: refused 17 at 0 (mistap)"),
     ("mistap_after_10", "by the model: refused 17 at 0 (mistap)\n  by the copy: refused 10 at 0"),
     ("mistap_of_a_part", "\n  by the copy: refused 17 at 0 (mistap)"),
+    ("edition_of_the_check_in", "difference"),
+    ("edition_of_the_check_out", "difference"),
+    ("edition_from_its_second_minute", "difference"),
+    ("edition_of_the_last_window", "difference"),
+    ("equal_dates", "by the model: refused 3 at"),
+    ("third_edition", "by the model: refused 2 at"),
+    ("opening_before_the_factor_records", "by the model: refused 2 at"),
+    ("bicycles_by_the_last_edition", "(book not sound)"),
+    ("book_without_an_edition", "by the model: refused 4 at 0 (book not sound)\n  by the copy: accepted"),
+    (
+        "no_edition_before_10",
+        "by the model: refused 10 at 0 (before the last check-out)\n  by the copy: refused 22 at 0",
+    ),
+    ("no_edition_after_7", "by the model: refused 22 at 0 (before the first edition)\n  by the copy: refused 7 at 0"),
+    ("closing_leaves_the_edition", "bytes of the page differ, first byte 5472 of place"),
     ("highest_free_place", "bytes of the page differ, first byte"),
     ("closing_clears_the_number_alone", "bytes of the page differ, first byte"),
     ("free_place_taken_for_fresh", "bytes of the page differ, first byte 4 of place"),

@@ -13,8 +13,8 @@ use lib.Seq.{getD-take, getD-drop}
 use lib.Dec.{leb}
 use Rattle.wire.specs.Each.{each}
 use Rattle.wire.proofs.Number.{get-same}
-use Rattle.layout.specs.declared.Counts.{Counts}
-use Rattle.layout.specs.Scan.{Read}
+use Rattle.editions.specs.declared.Editions.{Editions}
+use Rattle.editions.specs.Reading.{ReadFile}
 use Rattle.ledger.specs.Words.{bookSize}
 use Rattle.settle.specs.Outcome.{Outcome, refused, accepted, settledUnder, bookAfter}
 use Rattle.page.specs.declared.Spot.{Spot}
@@ -282,15 +282,15 @@ module _ {first count : ℕ} {page page′ : List ℕ} (few : first + count ≤ 
             pages = whole-agrees place (present-there first count page member few e .size) (l .from) (l .within) clearedPlace cleared-long;
           })
 
-  module _ (tariff : List ℕ) (counts : Counts) (read : Read tariff counts) (trip : List ℕ) (room : ℕ) where
+  module _ (file : List ℕ) (editions : Editions) (read : ReadFile file editions) (trip : List ℕ) (room : ℕ) where
     pub settled-agrees :
-        TripsAgree first count page page′ (memberSettledUnder tariff counts first count page member trip room)
-        (memberSettledUnder tariff counts first count page′ member trip room)
+        TripsAgree first count page page′ (memberSettledUnder file editions first count page member trip room)
+        (memberSettledUnder file editions first count page′ member trip room)
     settled-agrees = go (accountOf first count page member) refl
       where
         on-book :
             (place : ℕ) → accountOf first count page member ≡ Present place → (o : Outcome)
-            → settledUnder tariff counts (bookAt page place) trip room ≡ o
+            → settledUnder file editions (bookAt page place) trip room ≡ o
             → TripsAgree first count page page′ (onPage page place o) (onPage page′ place o)
         on-book place e (refused number at) is = refused-agree agree number at
         on-book place e (accepted new parts) is =
@@ -299,7 +299,7 @@ module _ {first count : ℕ} {page page′ : List ℕ} (few : first + count ≤ 
             replaced-agrees agree (startOf place + numberSize) bookSize new (present-there first count page member few e .size) few
             (omega (arith, l .from))
             (omega (arith, l .within))
-            (accepted-size tariff counts read (bookAt page place) trip room is)
+            (accepted-size file editions read (bookAt page place) trip room is)
             in
             record {
               answers = refl;
@@ -311,25 +311,25 @@ module _ {first count : ℕ} {page page′ : List ℕ} (few : first + count ≤ 
 
         go :
             (a : Account) → accountOf first count page member ≡ a
-            → TripsAgree first count page page′ (memberSettledUnder tariff counts first count page member trip room)
-            (memberSettledUnder tariff counts first count page′ member trip room)
+            → TripsAgree first count page page′ (memberSettledUnder file editions first count page member trip room)
+            (memberSettledUnder file editions first count page′ member trip room)
         go WrongPage e =
             rw (
-              under-wrong-page first count page member tariff trip room counts e,
-              under-wrong-page first count page′ member tariff trip room counts (on-other e),
+              under-wrong-page first count page member file trip room editions e,
+              under-wrong-page first count page′ member file trip room editions (on-other e),
             ) (refused-agree agree _ 0)
         go Absent e =
             rw (
-              under-absent first count page member tariff trip room counts e,
-              under-absent first count page′ member tariff trip room counts (on-other e),
+              under-absent first count page member file trip room editions e,
+              under-absent first count page′ member file trip room editions (on-other e),
             ) (refused-agree agree _ 0)
         go (Present place) e =
             let l = present-lowest first count page member e in
             rw (
-              under-present first count page member tariff trip room counts place e,
-              under-present first count page′ member tariff trip room counts place (on-other e),
+              under-present first count page member file trip room editions place e,
+              under-present first count page′ member file trip room editions place (on-other e),
               ← book-agrees agree place (l .from) (l .within),
-            ) (on-book place e (settledUnder tariff counts (bookAt page place) trip room) refl)
+            ) (on-book place e (settledUnder file editions (bookAt page place) trip room) refl)
 
 -- ---- Nothing else is written.
 
@@ -367,27 +367,27 @@ module _ (first count : ℕ) (few : first + count ≤ places) (page : List ℕ) 
           (touched-in (place-touched page place (p .size) (omega (arith, l .within, few)) clearedPlace cleared-long) (l .from) (l .within))
 
   pub settled-only :
-      (tariff trip : List ℕ) (room : ℕ) → OnlyIn first count page (bookAfter (memberSettled tariff first count page member trip room) page)
-  settled-only tariff trip room = go (settling first count page member tariff trip room)
+      (file trip : List ℕ) (room : ℕ) → OnlyIn first count page (bookAfter (memberSettled file first count page member trip room) page)
+  settled-only file trip room = go (settling first count page member file trip room)
     where
       after :
-          (counts : Counts) (place : ℕ) → Read tariff counts → length page ≡ pageSize → first ≤ place → place < first + count → (o : Outcome)
-          → settledUnder tariff counts (bookAt page place) trip room ≡ o → OnlyIn first count page (bookAfter (onPage page place o) page)
-      after counts place read size low high (refused number at) is = only-self
-      after counts place read size low high (accepted new parts) is =
+          (editions : Editions) (place : ℕ) → ReadFile file editions → length page ≡ pageSize → first ≤ place → place < first + count → (o : Outcome)
+          → settledUnder file editions (bookAt page place) trip room ≡ o → OnlyIn first count page (bookAfter (onPage page place o) page)
+      after editions place read size low high (refused number at) is = only-self
+      after editions place read size low high (accepted new parts) is =
           touched-in
-          (book-touched page place size (omega (arith, few)) new (accepted-size tariff counts read (bookAt page place) trip room is))
+          (book-touched page place size (omega (arith, few)) new (accepted-size file editions read (bookAt page place) trip room is))
           low
           high
 
       go :
-          Settling first count page member tariff trip room
-          → OnlyIn first count page (bookAfter (memberSettled tariff first count page member trip room) page)
+          Settling first count page member file trip room
+          → OnlyIn first count page (bookAfter (memberSettled file first count page member trip room) page)
       go (at-fault number at is e) = rw e only-self
-      go (settle-wrong-page counts read why e) = rw e only-self
-      go (settle-absent counts read p can none e) = rw e only-self
-      go (settle-at counts place read p can l e) =
-          rw e (after counts place read (p .size) (l .from) (l .within) (settledUnder tariff counts (bookAt page place) trip room) refl)
+      go (settle-wrong-page editions read why e) = rw e only-self
+      go (settle-absent editions read p can none e) = rw e only-self
+      go (settle-at editions place read p can l e) =
+          rw e (after editions place read (p .size) (l .from) (l .within) (settledUnder file editions (bookAt page place) trip room) refl)
 
 -- what lies outside of some places agrees
 pub only-agrees :

@@ -7,10 +7,11 @@ use mathlib.Core.Logic.{_↔_}
 use mathlib.Core.List.{List}
 use lib.ListN.{length, length-replicate}
 use Rattle.wire.proofs.Number.{length-put}
-use Rattle.layout.specs.declared.Counts.{Counts}
-use Rattle.layout.specs.declared.Reading.{Reading}
-use Rattle.layout.specs.declared.Reading.the-variants.{Fault, Faultless}
-use Rattle.layout.specs.Scan.{readTariff, Read}
+use Rattle.editions.specs.declared.Editions.{Editions}
+use Rattle.editions.specs.declared.FileReading.{FileReading}
+use Rattle.editions.specs.declared.FileReading.the-variants.{Fault, Faultless}
+use Rattle.editions.specs.Reading.{readFile, ReadFile}
+use Rattle.editions.specs.Editions.{tariffIn, countsIn}
 use Rattle.ledger.specs.Words.{bookSize}
 use Rattle.ledger.proofs.SoundLaws.{sound-has}
 use Rattle.statement.specs.Record.{Part}
@@ -53,19 +54,21 @@ use Rattle.page.proofs.Touching.{book-touched, number-kept}
 
 -- An accepted trip's new book is as long as every book.
 pub accepted-size :
-    (tariff : List ℕ) (counts : Counts) → Read tariff counts → (book trip : List ℕ) (room : ℕ) {new : List ℕ} {parts : List Part}
-    → settledUnder tariff counts book trip room ≡ accepted new parts → length new ≡ bookSize
+    (file : List ℕ) (editions : Editions) → ReadFile file editions → (book trip : List ℕ) (room : ℕ) {new : List ℕ} {parts : List Part}
+    → settledUnder file editions book trip room ≡ accepted new parts → length new ≡ bookSize
 unfolding acceptedTrip
-accepted-size tariff counts read book trip room {new} {parts} e = go (decidedUnder tariff counts book trip room) refl
+accepted-size file editions read book trip room {new} {parts} e = go (decidedUnder file editions book trip room) refl
   where
-    go : (d : Decision) → decidedUnder tariff counts book trip room ≡ d → length new ≡ bookSize
+    go : (d : Decision) → decidedUnder file editions book trip room ≡ d → length new ≡ bookSize
     go (decision.Refused why) is =
-        absurd (let z : _≡_ {A = ℕ} 0 1 = cc (refused-under tariff counts book trip room is, e) in omega arith)
+        absurd (let z : _≡_ {A = ℕ} 0 1 = cc (refused-under file editions book trip room is, e) in omega arith)
     go (decision.Clear fields window breaking) is =
-        let same = sym (accepted-under tariff counts book trip room fields window is) ∙ e in
+        let tariff = tariffIn file editions (window .edition) in
+        let counts = countsIn editions (window .edition) in
+        let same = sym (accepted-under file editions book trip room fields window is) ∙ e in
         let these : tripPosted tariff counts book trip fields window ≡ new = cc in
-        let sound-book = no-row tariff counts book trip room (clear-found tariff counts book trip room is .0) .sound-book in
-        let clear = all-clear tariff counts book trip fields window breaking room (record { read = read; sound-book = sound-book }) is in
+        let sound-book = no-row file editions book trip room (clear-found file editions book trip room is .0) .sound-book in
+        let clear = all-clear file editions book trip fields window breaking room (record { read = read; sound-book = sound-book }) is in
         let again = parts-right tariff counts book trip fields window room clear .1 in
         rw (← these) (sound-has (tripPosted tariff counts book trip fields window) (counts .areas) again .size)
 
@@ -156,63 +159,63 @@ module _ (first count : ℕ) (page : List ℕ) (member : ℕ) where
 
   -- ---- Settling.
 
-  module _ (tariff : List ℕ) (trip : List ℕ) (room : ℕ) where
+  module _ (file : List ℕ) (trip : List ℕ) (room : ℕ) where
     pub data Settling : Type 0 where
       at-fault :
-          (number at : ℕ) → readTariff tariff ≡ Fault number at → memberSettled tariff first count page member trip room ≡ refused number at
+          (number at : ℕ) → readFile file ≡ Fault number at → memberSettled file first count page member trip room ≡ refused number at
           → Settling
       settle-wrong-page :
-          (counts : Counts) → Read tariff counts → Eighteen first count page member
-          → memberSettled tariff first count page member trip room ≡ refused wrongPage 0 → Settling
+          (editions : Editions) → ReadFile file editions → Eighteen first count page member
+          → memberSettled file first count page member trip room ≡ refused wrongPage 0 → Settling
       settle-absent :
-          (counts : Counts) → Read tariff counts → Passing first count page → CanHave member → InNone page member first count
-          → memberSettled tariff first count page member trip room ≡ refused wrongMember 0 → Settling
+          (editions : Editions) → ReadFile file editions → Passing first count page → CanHave member → InNone page member first count
+          → memberSettled file first count page member trip room ≡ refused wrongMember 0 → Settling
       settle-at :
-          (counts : Counts) (place : ℕ) → Read tariff counts → Passing first count page → CanHave member → Lowest page member first count place
-          → memberSettled tariff first count page member trip room
-          ≡ onPage page place (settledUnder tariff counts (bookAt page place) trip room)
+          (editions : Editions) (place : ℕ) → ReadFile file editions → Passing first count page → CanHave member → Lowest page member first count place
+          → memberSettled file first count page member trip room
+          ≡ onPage page place (settledUnder file editions (bookAt page place) trip room)
           → Settling
 
-    -- under a tariff that was read
-    pub by-tariff : (number at : ℕ) → readTariff tariff ≡ Fault number at → memberSettled tariff first count page member trip room ≡ refused number at
+    -- under a file that was read
+    pub by-file : (number at : ℕ) → readFile file ≡ Fault number at → memberSettled file first count page member trip room ≡ refused number at
     unfolding memberSettled
-    by-tariff number at e = rw (e, memberSettled)
+    by-file number at e = rw (e, memberSettled)
 
     pub by-page :
-        (counts : Counts) → Read tariff counts
-        → memberSettled tariff first count page member trip room ≡ memberSettledUnder tariff counts first count page member trip room
+        (editions : Editions) → ReadFile file editions
+        → memberSettled file first count page member trip room ≡ memberSettledUnder file editions first count page member trip room
     unfolding memberSettled
-    by-page counts e = rw (e, memberSettled)
+    by-page editions e = rw (e, memberSettled)
 
-    module _ (counts : Counts) where
+    module _ (editions : Editions) where
       pub under-wrong-page :
           accountOf first count page member ≡ WrongPage
-          → memberSettledUnder tariff counts first count page member trip room ≡ refused wrongPage 0
+          → memberSettledUnder file editions first count page member trip room ≡ refused wrongPage 0
       unfolding memberSettledUnder
       under-wrong-page e = rw (e, memberSettledUnder)
 
       pub under-absent :
           accountOf first count page member ≡ Absent
-          → memberSettledUnder tariff counts first count page member trip room ≡ refused wrongMember 0
+          → memberSettledUnder file editions first count page member trip room ≡ refused wrongMember 0
       unfolding memberSettledUnder
       under-absent e = rw (e, memberSettledUnder)
 
       pub under-present :
           (place : ℕ) → accountOf first count page member ≡ Present place
-          → memberSettledUnder tariff counts first count page member trip room
-          ≡ onPage page place (settledUnder tariff counts (bookAt page place) trip room)
+          → memberSettledUnder file editions first count page member trip room
+          ≡ onPage page place (settledUnder file editions (bookAt page place) trip room)
       unfolding memberSettledUnder
       under-present place e = rw (e, memberSettledUnder)
 
-    settled-known : (r : Reading) → readTariff tariff ≡ r → Known first count page member → Settling
-    settled-known (Fault number at) is k = at-fault number at is (by-tariff number at is)
-    settled-known (Faultless counts) is (refused-page why e) = settle-wrong-page counts is why (by-page counts is ∙ under-wrong-page counts e)
-    settled-known (Faultless counts) is (nowhere p can none e) = settle-absent counts is p can none (by-page counts is ∙ under-absent counts e)
-    settled-known (Faultless counts) is (present place p can l e) =
-        settle-at counts place is p can l (by-page counts is ∙ under-present counts place e)
+    settled-known : (r : FileReading) → readFile file ≡ r → Known first count page member → Settling
+    settled-known (Fault number at) is k = at-fault number at is (by-file number at is)
+    settled-known (Faultless editions) is (refused-page why e) = settle-wrong-page editions is why (by-page editions is ∙ under-wrong-page editions e)
+    settled-known (Faultless editions) is (nowhere p can none e) = settle-absent editions is p can none (by-page editions is ∙ under-absent editions e)
+    settled-known (Faultless editions) is (present place p can l e) =
+        settle-at editions place is p can l (by-page editions is ∙ under-present editions place e)
 
     pub settling : Settling
-    settling = settled-known (readTariff tariff) refl (known first count page member)
+    settling = settled-known (readFile file) refl (known first count page member)
 
 -- ---- What they promise.
 
@@ -275,28 +278,28 @@ module _ (first count : ℕ) (page : List ℕ) (member : ℕ) where
 
   -- Settling a member changes no byte of another's place, and not the number of the member's own.
   pub settling-touches-one :
-      (tariff trip : List ℕ) (room : ℕ) {new : List ℕ} {parts : List Part} → first + count ≤ places
-      → memberSettled tariff first count page member trip room ≡ accepted new parts
+      (file trip : List ℕ) (room : ℕ) {new : List ℕ} {parts : List Part} → first + count ≤ places
+      → memberSettled file first count page member trip room ≡ accepted new parts
       → (place : ℕ) × (Lowest page member first count place × (Touched page new place × (numberAt new place ≡ member)))
-  settling-touches-one tariff trip room {new} {parts} few e = there (settling first count page member tariff trip room)
+  settling-touches-one file trip room {new} {parts} few e = there (settling first count page member file trip room)
     where
       written :
-          (counts : Counts) (place : ℕ) → Read tariff counts → Passing first count page → Lowest page member first count place → (o : Outcome)
-          → settledUnder tariff counts (bookAt page place) trip room ≡ o → onPage page place o ≡ accepted new parts
+          (editions : Editions) (place : ℕ) → ReadFile file editions → Passing first count page → Lowest page member first count place → (o : Outcome)
+          → settledUnder file editions (bookAt page place) trip room ≡ o → onPage page place o ≡ accepted new parts
           → Touched page new place × (numberAt new place ≡ member)
-      written counts place read p l (refused number at) is same = not-accepted same
-      written counts place read p l (accepted book its) is same =
-          let long = accepted-size tariff counts read (bookAt page place) trip room is in
+      written editions place read p l (refused number at) is same = not-accepted same
+      written editions place read p l (accepted book its) is same =
+          let long = accepted-size file editions read (bookAt page place) trip room is in
           let inside : place < places = omega (arith, l .within, few) in
           let these : replaced page (startOf place + numberSize) bookSize book ≡ new = cc in
           rw (← these)
           (book-touched page place (p .size) inside book long, number-kept page place (p .size) inside book long ∙ l .there)
 
       there :
-          Settling first count page member tariff trip room
+          Settling first count page member file trip room
           → (place : ℕ) × (Lowest page member first count place × (Touched page new place × (numberAt new place ≡ member)))
       there (at-fault number at is s) = not-accepted (sym s ∙ e)
-      there (settle-wrong-page counts read why s) = not-accepted (sym s ∙ e)
-      there (settle-absent counts read p can none s) = not-accepted (sym s ∙ e)
-      there (settle-at counts place read p can l s) =
-          (place, (l, written counts place read p l (settledUnder tariff counts (bookAt page place) trip room) refl (sym s ∙ e)))
+      there (settle-wrong-page editions read why s) = not-accepted (sym s ∙ e)
+      there (settle-absent editions read p can none s) = not-accepted (sym s ∙ e)
+      there (settle-at editions place read p can l s) =
+          (place, (l, written editions place read p l (settledUnder file editions (bookAt page place) trip room) refl (sym s ∙ e)))

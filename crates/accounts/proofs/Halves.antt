@@ -10,10 +10,10 @@ use mathlib.Core.Logic.{_↔_, inl, inr, ⊎-elim}
 use mathlib.Core.List.{List}
 use mathlib.Core.Bool.{true, false}
 use borrow.Author.Tests.{le-leb, lt-leb}
-use Rattle.layout.specs.declared.Counts.{Counts}
-use Rattle.layout.specs.declared.Reading.{Reading}
-use Rattle.layout.specs.declared.Reading.the-variants.{Fault, Faultless}
-use Rattle.layout.specs.Scan.{readTariff, Read}
+use Rattle.editions.specs.declared.Editions.{Editions}
+use Rattle.editions.specs.declared.FileReading.{FileReading}
+use Rattle.editions.specs.declared.FileReading.the-variants.{Fault, Faultless}
+use Rattle.editions.specs.Reading.{readFile, ReadFile}
 use Rattle.statement.specs.Record.{Part}
 use Rattle.settle.specs.Outcome.{refused, accepted, bookAfter}
 use Rattle.page.specs.Pages.{placeSize, places, startOf, numberAt, replaced, newPlace, noPlace, unchanged, changed, added, closed, pageAfter}
@@ -41,7 +41,7 @@ use Rattle.accounts.specs.Associations.{
   for-twenty-one,
   for-others,
 }
-use Rattle.accounts.proofs.Effects.{by-tariff, by-page, Addable, no-room-exactly, takes-the-lowest, settling-touches-one}
+use Rattle.accounts.proofs.Effects.{by-file, by-page, Addable, no-room-exactly, takes-the-lowest, settling-touches-one}
 use Rattle.accounts.proofs.Refusing.{same-number, same-refusal, adding-refused-exactly, closing-refused-exactly, settling-refused-exactly}
 use Rattle.accounts.proofs.Agreeing.{
   added-agrees,
@@ -94,11 +94,11 @@ module _ (association : ℕ) (page : List ℕ) (member : ℕ) where
     closed-for = rw one
 
     pub settled-for-under :
-        (tariff : List ℕ) (counts : Counts) (trip : List ℕ) (room : ℕ)
-        → settledForUnder tariff counts association page member trip room
-        ≡ memberSettledUnder tariff counts (firstPlace association) ownPlaces page member trip room
+        (file : List ℕ) (editions : Editions) (trip : List ℕ) (room : ℕ)
+        → settledForUnder file editions association page member trip room
+        ≡ memberSettledUnder file editions (firstPlace association) ownPlaces page member trip room
     unfolding settledForUnder
-    settled-for-under tariff counts trip room = rw one
+    settled-for-under file editions trip room = rw one
 
   module _ (none : isAssociation association ≡ false) where
     pub added-none : addedFor association page member ≡ unchanged noAssociation
@@ -110,35 +110,35 @@ module _ (association : ℕ) (page : List ℕ) (member : ℕ) where
     closed-none = rw none
 
     pub settled-none-under :
-        (tariff : List ℕ) (counts : Counts) (trip : List ℕ) (room : ℕ)
-        → settledForUnder tariff counts association page member trip room ≡ refused noAssociation 0
+        (file : List ℕ) (editions : Editions) (trip : List ℕ) (room : ℕ)
+        → settledForUnder file editions association page member trip room ≡ refused noAssociation 0
     unfolding settledForUnder
-    settled-none-under tariff counts trip room = rw none
+    settled-none-under file editions trip room = rw none
 
-  module _ (tariff trip : List ℕ) (room : ℕ) where
-    pub for-fault : (number at : ℕ) → readTariff tariff ≡ Fault number at → settledFor tariff association page member trip room ≡ refused number at
+  module _ (file trip : List ℕ) (room : ℕ) where
+    pub for-fault : (number at : ℕ) → readFile file ≡ Fault number at → settledFor file association page member trip room ≡ refused number at
     unfolding settledFor
     for-fault number at e = rw (e, settledFor)
 
     pub for-read :
-        (counts : Counts) → Read tariff counts
-        → settledFor tariff association page member trip room ≡ settledForUnder tariff counts association page member trip room
+        (editions : Editions) → ReadFile file editions
+        → settledFor file association page member trip room ≡ settledForUnder file editions association page member trip room
     unfolding settledFor
-    for-read counts e = rw (e, settledFor)
+    for-read editions e = rw (e, settledFor)
 
     pub settled-for :
         isAssociation association ≡ true
-        → settledFor tariff association page member trip room ≡ memberSettled tariff (firstPlace association) ownPlaces page member trip room
-    settled-for one = go (readTariff tariff) refl
+        → settledFor file association page member trip room ≡ memberSettled file (firstPlace association) ownPlaces page member trip room
+    settled-for one = go (readFile file) refl
       where
         go :
-            (r : Reading) → readTariff tariff ≡ r
-            → settledFor tariff association page member trip room ≡ memberSettled tariff (firstPlace association) ownPlaces page member trip room
+            (r : FileReading) → readFile file ≡ r
+            → settledFor file association page member trip room ≡ memberSettled file (firstPlace association) ownPlaces page member trip room
         go (Fault number at) e =
-            for-fault number at e ∙ sym (by-tariff (firstPlace association) ownPlaces page member tariff trip room number at e)
-        go (Faultless counts) e =
-            for-read counts e ∙ settled-for-under one tariff counts trip room
-            ∙ sym (by-page (firstPlace association) ownPlaces page member tariff trip room counts e)
+            for-fault number at e ∙ sym (by-file (firstPlace association) ownPlaces page member file trip room number at e)
+        go (Faultless editions) e =
+            for-read editions e ∙ settled-for-under one file editions trip room
+            ∙ sym (by-page (firstPlace association) ownPlaces page member file trip room editions e)
 
 -- ---- An association learns nothing of the other. For the same call, two pages of one length that agree in its places give it equal answers,
 -- "no room" included, and equal places afterwards.
@@ -168,40 +168,40 @@ module _ (association : ℕ) {page page′ : List ℕ} (agree : AgreeFor associa
 
   -- Of a trip also equal records.
   pub settling-alike :
-      (tariff trip : List ℕ) (room : ℕ)
-      → TripsAgree (firstPlace association) ownPlaces page page′ (settledFor tariff association page member trip room)
-      (settledFor tariff association page′ member trip room)
-  settling-alike tariff trip room = go (readTariff tariff) refl
+      (file trip : List ℕ) (room : ℕ)
+      → TripsAgree (firstPlace association) ownPlaces page page′ (settledFor file association page member trip room)
+      (settledFor file association page′ member trip room)
+  settling-alike file trip room = go (readFile file) refl
     where
       under :
-          (counts : Counts) → Read tariff counts → Which association
-          → TripsAgree (firstPlace association) ownPlaces page page′ (settledForUnder tariff counts association page member trip room)
-          (settledForUnder tariff counts association page′ member trip room)
-      under counts read (is-one one e) =
+          (editions : Editions) → ReadFile file editions → Which association
+          → TripsAgree (firstPlace association) ownPlaces page page′ (settledForUnder file editions association page member trip room)
+          (settledForUnder file editions association page′ member trip room)
+      under editions read (is-one one e) =
           rw (
-            settled-for-under association page member e tariff counts trip room,
-            settled-for-under association page′ member e tariff counts trip room,
-          ) (settled-agrees (few-own one) agree member tariff counts read trip room)
-      under counts read (is-none none e) =
+            settled-for-under association page member e file editions trip room,
+            settled-for-under association page′ member e file editions trip room,
+          ) (settled-agrees (few-own one) agree member file editions read trip room)
+      under editions read (is-none none e) =
           rw (
-            settled-none-under association page member e tariff counts trip room,
-            settled-none-under association page′ member e tariff counts trip room,
+            settled-none-under association page member e file editions trip room,
+            settled-none-under association page′ member e file editions trip room,
           ) (refused-agree agree noAssociation 0)
 
       go :
-          (r : Reading) → readTariff tariff ≡ r
-          → TripsAgree (firstPlace association) ownPlaces page page′ (settledFor tariff association page member trip room)
-          (settledFor tariff association page′ member trip room)
+          (r : FileReading) → readFile file ≡ r
+          → TripsAgree (firstPlace association) ownPlaces page page′ (settledFor file association page member trip room)
+          (settledFor file association page′ member trip room)
       go (Fault number at) e =
           rw (
-            for-fault association page member tariff trip room number at e,
-            for-fault association page′ member tariff trip room number at e,
+            for-fault association page member file trip room number at e,
+            for-fault association page′ member file trip room number at e,
           ) (refused-agree agree number at)
-      go (Faultless counts) e =
+      go (Faultless editions) e =
           rw (
-            for-read association page member tariff trip room counts e,
-            for-read association page′ member tariff trip room counts e,
-          ) (under counts e (which association))
+            for-read association page member file trip room editions e,
+            for-read association page′ member file trip room editions e,
+          ) (under editions e (which association))
 
 -- ---- The other's places are left byte for byte.
 
@@ -221,24 +221,24 @@ module _ (association : ℕ) (page : List ℕ) (member : ℕ) where
       go (is-none none e) = rw (closed-none association page member e) only-self
 
   pub settling-only :
-      (tariff trip : List ℕ) (room : ℕ) → OnlyOf association page (bookAfter (settledFor tariff association page member trip room) page)
-  settling-only tariff trip room = go (which association)
+      (file trip : List ℕ) (room : ℕ) → OnlyOf association page (bookAfter (settledFor file association page member trip room) page)
+  settling-only file trip room = go (which association)
     where
       none-under :
-          isAssociation association ≡ false → (r : Reading) → readTariff tariff ≡ r
-          → OnlyOf association page (bookAfter (settledFor tariff association page member trip room) page)
-      none-under none (Fault number at) e = rw (for-fault association page member tariff trip room number at e) only-self
-      none-under none (Faultless counts) e =
+          isAssociation association ≡ false → (r : FileReading) → readFile file ≡ r
+          → OnlyOf association page (bookAfter (settledFor file association page member trip room) page)
+      none-under none (Fault number at) e = rw (for-fault association page member file trip room number at e) only-self
+      none-under none (Faultless editions) e =
           rw (
-            for-read association page member tariff trip room counts e,
-            settled-none-under association page member none tariff counts trip room,
+            for-read association page member file trip room editions e,
+            settled-none-under association page member none file editions trip room,
           ) only-self
 
-      go : Which association → OnlyOf association page (bookAfter (settledFor tariff association page member trip room) page)
+      go : Which association → OnlyOf association page (bookAfter (settledFor file association page member trip room) page)
       go (is-one one e) =
-          rw (settled-for association page member tariff trip room e)
-          (settled-only (firstPlace association) ownPlaces (few-own one) page member tariff trip room)
-      go (is-none none e) = none-under e (readTariff tariff) refl
+          rw (settled-for association page member file trip room e)
+          (settled-only (firstPlace association) ownPlaces (few-own one) page member file trip room)
+      go (is-none none e) = none-under e (readFile file) refl
 
 -- So another association's agree with what they were.
 pub other-agrees :
@@ -284,40 +284,40 @@ module _ (association : ℕ) (page : List ℕ) (member : ℕ) where
       back (is-none none e) (twenty-one _) = closed-none association page member e
       back (is-none none e) (other-refusal m one w) = absurd (none one)
 
-  module _ (tariff trip : List ℕ) (room : ℕ) where
+  module _ (file trip : List ℕ) (room : ℕ) where
     abbrev Says : ℕ → ℕ → Type 0
-    Says = SettlingRefusedFor tariff association page member trip room
+    Says = SettlingRefusedFor file association page member trip room
 
-    pub settling-refused-for : (n at : ℕ) → settledFor tariff association page member trip room ≡ refused n at ↔ Says n at
-    settling-refused-for n at = (says (which association) (readTariff tariff) refl, back (which association))
+    pub settling-refused-for : (n at : ℕ) → settledFor file association page member trip room ≡ refused n at ↔ Says n at
+    settling-refused-for n at = (says (which association) (readFile file) refl, back (which association))
       where
         renamed : {m b : ℕ} → refused m b ≡ refused n at → Says m b → Says n at
         renamed {m} {b} e s = let (same, near) = same-refusal e in rw (← same, ← near) s
 
         says :
-            Which association → (r : Reading) → readTariff tariff ≡ r → settledFor tariff association page member trip room ≡ refused n at
+            Which association → (r : FileReading) → readFile file ≡ r → settledFor file association page member trip room ≡ refused n at
             → Says n at
-        says w (Fault m b) read is = renamed (sym (for-fault association page member tariff trip room m b read) ∙ is) (for-faulty m b read)
-        says (is-one one e) (Faultless counts) read is =
-            for-others counts read one n at
-            (settling-refused-exactly (firstPlace association) ownPlaces page member tariff trip room n at .0
-            (sym (settled-for association page member tariff trip room e) ∙ is))
-        says (is-none none e) (Faultless counts) read is =
+        says w (Fault m b) read is = renamed (sym (for-fault association page member file trip room m b read) ∙ is) (for-faulty m b read)
+        says (is-one one e) (Faultless editions) read is =
+            for-others editions read one n at
+            (settling-refused-exactly (firstPlace association) ownPlaces page member file trip room n at .0
+            (sym (settled-for association page member file trip room e) ∙ is))
+        says (is-none none e) (Faultless editions) read is =
             renamed
             (sym
-            (for-read association page member tariff trip room counts read ∙ settled-none-under association page member e tariff counts trip room)
+            (for-read association page member file trip room editions read ∙ settled-none-under association page member e file editions trip room)
             ∙ is)
-            (for-twenty-one counts read none)
+            (for-twenty-one editions read none)
 
-        back : {m b : ℕ} → Which association → Says m b → settledFor tariff association page member trip room ≡ refused m b
-        back w (for-faulty m b read) = for-fault association page member tariff trip room m b read
-        back (is-one one e) (for-twenty-one counts read none) = absurd (none one)
-        back (is-none _ e) (for-twenty-one counts read none) =
-            for-read association page member tariff trip room counts read ∙ settled-none-under association page member e tariff counts trip room
-        back (is-one _ e) (for-others counts read one m b w) =
-            settled-for association page member tariff trip room e
-            ∙ settling-refused-exactly (firstPlace association) ownPlaces page member tariff trip room m b .1 w
-        back (is-none none e) (for-others counts read one m b w) = absurd (none one)
+        back : {m b : ℕ} → Which association → Says m b → settledFor file association page member trip room ≡ refused m b
+        back w (for-faulty m b read) = for-fault association page member file trip room m b read
+        back (is-one one e) (for-twenty-one editions read none) = absurd (none one)
+        back (is-none _ e) (for-twenty-one editions read none) =
+            for-read association page member file trip room editions read ∙ settled-none-under association page member e file editions trip room
+        back (is-one _ e) (for-others editions read one m b w) =
+            settled-for association page member file trip room e
+            ∙ settling-refused-exactly (firstPlace association) ownPlaces page member file trip room m b .1 w
+        back (is-none none e) (for-others editions read one m b w) = absurd (none one)
 
   -- Room is lacking exactly when the association's own six are taken.
   pub no-room-for :
@@ -338,10 +338,10 @@ module _ (association : ℕ) (page : List ℕ) (member : ℕ) where
 
   -- Settling changes no byte of another's place, and not the number of the member's own.
   pub settling-touches-one-for :
-      Association association → (tariff trip : List ℕ) (room : ℕ) {new : List ℕ} {parts : List Part}
-      → settledFor tariff association page member trip room ≡ accepted new parts
+      Association association → (file trip : List ℕ) (room : ℕ) {new : List ℕ} {parts : List Part}
+      → settledFor file association page member trip room ≡ accepted new parts
       → (place : ℕ)
       × (Lowest page member (firstPlace association) ownPlaces place × (Touched page new place × (numberAt new place ≡ member)))
-  settling-touches-one-for one tariff trip room e =
-      settling-touches-one (firstPlace association) ownPlaces page member tariff trip room (few-own one)
-      (sym (settled-for association page member tariff trip room (one-is one)) ∙ e)
+  settling-touches-one-for one file trip room e =
+      settling-touches-one (firstPlace association) ownPlaces page member file trip room (few-own one)
+      (sym (settled-for association page member file trip room (one-is one)) ∙ e)

@@ -9,9 +9,9 @@ use borrow.Author.Tests.{eq-eqb, le-leb, lt-ltb, eqb-true, leb-true, ltb-true}
 use lib.ListN.{length}
 use lib.Dec.{leb, ltb, eqb}
 use Rattle.wire.proofs.Tests.{both-left, both-right}
-use Rattle.layout.specs.declared.Reading.{Reading}
-use Rattle.layout.specs.declared.Reading.the-variants.{Fault, Faultless}
-use Rattle.layout.specs.Scan.{readTariff}
+use Rattle.editions.specs.declared.FileReading.{FileReading}
+use Rattle.editions.specs.declared.FileReading.the-variants.{Fault, Faultless}
+use Rattle.editions.specs.Reading.{readFile}
 use Rattle.ledger.specs.Words.{bookSize}
 use Rattle.statement.specs.Record.{Part, largestStatement}
 use Rattle.settle.specs.Outcome.{accepted, quoted, settled, partsPriced}
@@ -28,22 +28,22 @@ use Rattle.accounts.proofs.Effects.{accepted-size}
 use Rattle.accounts.proofs.Agreeing.{book-agrees, replaced-agrees, only-self, touched-in}
 use Rattle.accounts.proofs.Halves.{Which, is-one, is-none, which, few-own}
 
--- The new book of an accepted trip is as long as every book, under any tariff.
+-- The new book of an accepted trip is as long as every book, under any file.
 pub settled-size :
-    (tariff book trip : List ℕ) (room : ℕ) {new : List ℕ} {parts : List Part} → settled tariff book trip room ≡ accepted new parts
+    (file book trip : List ℕ) (room : ℕ) {new : List ℕ} {parts : List Part} → settled file book trip room ≡ accepted new parts
     → length new ≡ bookSize
-settled-size tariff book trip room {new} {parts} e = go (readTariff tariff) refl
+settled-size file book trip room {new} {parts} e = go (readFile file) refl
   where
-    go : (r : Reading) → readTariff tariff ≡ r → length new ≡ bookSize
-    go (Fault number at) is = absurd (let z : _≡_ {A = ℕ} 0 1 = cc (fault-way tariff book trip room number at is, e) in omega arith)
-    go (Faultless counts) is = accepted-size tariff counts is book trip room (sym (faultless-way tariff book trip room counts is) ∙ e)
+    go : (r : FileReading) → readFile file ≡ r → length new ≡ bookSize
+    go (Fault number at) is = absurd (let z : _≡_ {A = ℕ} 0 1 = cc (fault-way file book trip room number at is, e) in omega arith)
+    go (Faultless editions) is = accepted-size file editions is book trip room (sym (faultless-way file book trip room editions is) ∙ e)
 
 -- And that of a posting.
 pub renewed-size :
-    (tariff book trip offered : List ℕ) {new : List ℕ} → postingOf tariff book trip offered ≡ renewed new → length new ≡ bookSize
-renewed-size tariff book trip offered e =
-    settled-size tariff book trip largestStatement
-    (posting-settles tariff book trip offered (ap (postedIn (partsPriced (quoted tariff book trip largestStatement))) e))
+    (file book trip offered : List ℕ) {new : List ℕ} → postingOf file book trip offered ≡ renewed new → length new ≡ bookSize
+renewed-size file book trip offered e =
+    settled-size file book trip largestStatement
+    (posting-settles file book trip offered (ap (postedIn (partsPriced (quoted file book trip largestStatement))) e))
 
 -- ---- In some places.
 
@@ -66,41 +66,41 @@ lends-says first count page place e =
       within = ltb-true place (first + count) (both-right (leb first place) _ rest);
     }
 
-module _ (tariff : List ℕ) (first count : ℕ) (page : List ℕ) (place : ℕ) (trip offered : List ℕ) where
+module _ (file : List ℕ) (first count : ℕ) (page : List ℕ) (place : ℕ) (trip offered : List ℕ) where
   pub posted-there :
-      lends first count page place ≡ true → placePosted tariff first count page place trip offered ≡ postingOf tariff (bookAt page place) trip offered
+      lends first count page place ≡ true → placePosted file first count page place trip offered ≡ postingOf file (bookAt page place) trip offered
   unfolding placePosted
   posted-there e = rw e
 
-  not-lent : lends first count page place ≡ false → placePosted tariff first count page place trip offered ≡ unposted 0 0
+  not-lent : lends first count page place ≡ false → placePosted file first count page place trip offered ≡ unposted 0 0
   unfolding placePosted
   not-lent e = rw e
 
   -- it leaves the page; or the place has a new book of the right length
   pub data Lending : Type 0 where
-    leaves : {number at : ℕ} → placePosted tariff first count page place trip offered ≡ unposted number at → Lending
+    leaves : {number at : ℕ} → placePosted file first count page place trip offered ≡ unposted number at → Lending
     renews :
-        {new : List ℕ} → Lends first count page place → length new ≡ bookSize → placePosted tariff first count page place trip offered ≡ renewed new
+        {new : List ℕ} → Lends first count page place → length new ≡ bookSize → placePosted file first count page place trip offered ≡ renewed new
         → Lending
 
   pub lending : Lending
   lending = go (lends first count page place) refl
     where
       by-book :
-          Lends first count page place → (p : Posting) → postingOf tariff (bookAt page place) trip offered ≡ p
-          → placePosted tariff first count page place trip offered ≡ postingOf tariff (bookAt page place) trip offered → Lending
+          Lends first count page place → (p : Posting) → postingOf file (bookAt page place) trip offered ≡ p
+          → placePosted file first count page place trip offered ≡ postingOf file (bookAt page place) trip offered → Lending
       by-book l (unposted number at) is there = leaves (there ∙ is)
-      by-book l (renewed new) is there = renews l (renewed-size tariff (bookAt page place) trip offered is) (there ∙ is)
+      by-book l (renewed new) is there = renews l (renewed-size file (bookAt page place) trip offered is) (there ∙ is)
 
       go : (t : Bool) → lends first count page place ≡ t → Lending
       go false e = leaves (not-lent e)
-      go true e = by-book (lends-says first count page place e) (postingOf tariff (bookAt page place) trip offered) refl (posted-there e)
+      go true e = by-book (lends-says first count page place e) (postingOf file (bookAt page place) trip offered) refl (posted-there e)
 
   -- No byte outside of these places changes.
-  pub posted-only : first + count ≤ places → OnlyIn first count page (pagePosted page place (placePosted tariff first count page place trip offered))
+  pub posted-only : first + count ≤ places → OnlyIn first count page (pagePosted page place (placePosted file first count page place trip offered))
   posted-only few = go lending
     where
-      go : Lending → OnlyIn first count page (pagePosted page place (placePosted tariff first count page place trip offered))
+      go : Lending → OnlyIn first count page (pagePosted page place (placePosted file first count page place trip offered))
       go (leaves e) = rw e only-self
       go (renews {new} l long e) =
           rw e (touched-in (book-touched page place (l .size) (omega (arith, few, l .within)) new long) (l .from) (l .within))
@@ -110,9 +110,9 @@ pub record PostingsAgree (first count : ℕ) (page page′ : List ℕ) (place : 
   pub same : one ≡ other
   pub pages : Agree first count (pagePosted page place one) (pagePosted page′ place other)
 
-module _ {first count : ℕ} {page page′ : List ℕ} (few : first + count ≤ places) (agree : Agree first count page page′) (tariff : List ℕ) (place : ℕ)
+module _ {first count : ℕ} {page page′ : List ℕ} (few : first + count ≤ places) (agree : Agree first count page page′) (file : List ℕ) (place : ℕ)
     (trip offered : List ℕ) where
-  same-posted : placePosted tariff first count page place trip offered ≡ placePosted tariff first count page′ place trip offered
+  same-posted : placePosted file first count page place trip offered ≡ placePosted file first count page′ place trip offered
   same-posted = go (lends first count page place) refl
     where
       alike : lends first count page place ≡ lends first count page′ place
@@ -120,23 +120,23 @@ module _ {first count : ℕ} {page page′ : List ℕ} (few : first + count ≤ 
 
       go :
           (t : Bool) → lends first count page place ≡ t
-          → placePosted tariff first count page place trip offered ≡ placePosted tariff first count page′ place trip offered
-      go false e = not-lent tariff first count page place trip offered e ∙ sym (not-lent tariff first count page′ place trip offered (sym alike ∙ e))
+          → placePosted file first count page place trip offered ≡ placePosted file first count page′ place trip offered
+      go false e = not-lent file first count page place trip offered e ∙ sym (not-lent file first count page′ place trip offered (sym alike ∙ e))
       go true e =
           let l = lends-says first count page place e in
-          posted-there tariff first count page place trip offered e
-          ∙ ap (λ (b : List ℕ). postingOf tariff b trip offered) (book-agrees agree place (l .from) (l .within))
-          ∙ sym (posted-there tariff first count page′ place trip offered (sym alike ∙ e))
+          posted-there file first count page place trip offered e
+          ∙ ap (λ (b : List ℕ). postingOf file b trip offered) (book-agrees agree place (l .from) (l .within))
+          ∙ sym (posted-there file first count page′ place trip offered (sym alike ∙ e))
 
   pub posted-agrees :
-      PostingsAgree first count page page′ place (placePosted tariff first count page place trip offered)
-      (placePosted tariff first count page′ place trip offered)
-  posted-agrees = rw (← same-posted) (go (lending tariff first count page place trip offered))
+      PostingsAgree first count page page′ place (placePosted file first count page place trip offered)
+      (placePosted file first count page′ place trip offered)
+  posted-agrees = rw (← same-posted) (go (lending file first count page place trip offered))
     where
       go :
-          Lending tariff first count page place trip offered
-          → PostingsAgree first count page page′ place (placePosted tariff first count page place trip offered)
-          (placePosted tariff first count page place trip offered)
+          Lending file first count page place trip offered
+          → PostingsAgree first count page page′ place (placePosted file first count page place trip offered)
+          (placePosted file first count page place trip offered)
       go (leaves e) = rw e (record { same = refl; pages = agree })
       go (renews {new} l long e) =
           rw e
@@ -148,37 +148,37 @@ module _ {first count : ℕ} {page page′ : List ℕ} (few : first + count ≤ 
 
 -- ---- In an association's places.
 
-module _ (tariff : List ℕ) (association : ℕ) (page : List ℕ) (place : ℕ) (trip offered : List ℕ) where
+module _ (file : List ℕ) (association : ℕ) (page : List ℕ) (place : ℕ) (trip offered : List ℕ) where
   pub posted-for :
       isAssociation association ≡ true
-      → postedFor tariff association page place trip offered ≡ placePosted tariff (firstPlace association) ownPlaces page place trip offered
+      → postedFor file association page place trip offered ≡ placePosted file (firstPlace association) ownPlaces page place trip offered
   unfolding postedFor
   posted-for one = rw one
 
-  posted-none : isAssociation association ≡ false → postedFor tariff association page place trip offered ≡ unposted 0 0
+  posted-none : isAssociation association ≡ false → postedFor file association page place trip offered ≡ unposted 0 0
   unfolding postedFor
   posted-none none = rw none
 
-  pub posting-only : OnlyOf association page (pagePosted page place (postedFor tariff association page place trip offered))
+  pub posting-only : OnlyOf association page (pagePosted page place (postedFor file association page place trip offered))
   posting-only = go (which association)
     where
-      go : Which association → OnlyOf association page (pagePosted page place (postedFor tariff association page place trip offered))
-      go (is-one one e) = rw (posted-for e) (posted-only tariff (firstPlace association) ownPlaces page place trip offered (few-own one))
+      go : Which association → OnlyOf association page (pagePosted page place (postedFor file association page place trip offered))
+      go (is-one one e) = rw (posted-for e) (posted-only file (firstPlace association) ownPlaces page place trip offered (few-own one))
       go (is-none none e) = rw (posted-none e) only-self
 
 pub posting-alike :
-    (association : ℕ) {page page′ : List ℕ} → AgreeFor association page page′ → (tariff : List ℕ) (place : ℕ) (trip offered : List ℕ)
-    → PostingsAgree (firstPlace association) ownPlaces page page′ place (postedFor tariff association page place trip offered)
-    (postedFor tariff association page′ place trip offered)
-posting-alike association {page} {page′} agree tariff place trip offered = go (which association)
+    (association : ℕ) {page page′ : List ℕ} → AgreeFor association page page′ → (file : List ℕ) (place : ℕ) (trip offered : List ℕ)
+    → PostingsAgree (firstPlace association) ownPlaces page page′ place (postedFor file association page place trip offered)
+    (postedFor file association page′ place trip offered)
+posting-alike association {page} {page′} agree file place trip offered = go (which association)
   where
     go :
         Which association
-        → PostingsAgree (firstPlace association) ownPlaces page page′ place (postedFor tariff association page place trip offered)
-        (postedFor tariff association page′ place trip offered)
+        → PostingsAgree (firstPlace association) ownPlaces page page′ place (postedFor file association page place trip offered)
+        (postedFor file association page′ place trip offered)
     go (is-one one e) =
-        rw (posted-for tariff association page place trip offered e, posted-for tariff association page′ place trip offered e)
-        (posted-agrees (few-own one) agree tariff place trip offered)
+        rw (posted-for file association page place trip offered e, posted-for file association page′ place trip offered e)
+        (posted-agrees (few-own one) agree file place trip offered)
     go (is-none none e) =
-        rw (posted-none tariff association page place trip offered e, posted-none tariff association page′ place trip offered e)
+        rw (posted-none file association page place trip offered e, posted-none file association page′ place trip offered e)
         (record { same = refl; pages = agree })

@@ -16,10 +16,10 @@ use Rattle.wire.specs.Number.{getLe}
 use Rattle.wire.proofs.Number.{read-back}
 use Rattle.wire.proofs.Number as number
 use Rattle.wire.proofs.Tests.{both-left, both-right}
-use Rattle.layout.specs.declared.Counts.{Counts}
-use Rattle.layout.specs.declared.Reading.{Reading}
-use Rattle.layout.specs.declared.Reading.the-variants.{Fault, Faultless}
-use Rattle.layout.specs.Scan.{readTariff, Read}
+use Rattle.editions.specs.declared.Editions.{Editions}
+use Rattle.editions.specs.declared.FileReading.{FileReading}
+use Rattle.editions.specs.declared.FileReading.the-variants.{Fault, Faultless}
+use Rattle.editions.specs.Reading.{readFile, ReadFile}
 use Rattle.ledger.specs.Words.{bookSize, freshBook}
 use Rattle.ledger.proofs.WordLaws.{fresh-size}
 use Rattle.statement.specs.Record.{largestStatement}
@@ -84,7 +84,7 @@ use Rattle.accounts.proofs.Effects.{
   settle-absent,
   settle-at,
   settling,
-  by-tariff,
+  by-file,
   by-page,
   under-present,
   closes-there,
@@ -263,44 +263,44 @@ module _ (first count : ℕ) (few : first + count ≤ places) where
           ]
 
   settled-other :
-      (tariff : List ℕ) {page : List ℕ} {member place : ℕ} (other : ℕ) (o : Offer) → (other ≡ member → ⊥) → Stands first count page member place
-      → Stands first count (bookAfter (memberSettled tariff first count page other (o .bytes) (o .room)) page) member place
-      × (bookAt (bookAfter (memberSettled tariff first count page other (o .bytes) (o .room)) page) place ≡ bookAt page place)
-  settled-other tariff {page} {member} {place} other o ne s = go (settling first count page other tariff (o .bytes) (o .room))
+      (file : List ℕ) {page : List ℕ} {member place : ℕ} (other : ℕ) (o : Offer) → (other ≡ member → ⊥) → Stands first count page member place
+      → Stands first count (bookAfter (memberSettled file first count page other (o .bytes) (o .room)) page) member place
+      × (bookAt (bookAfter (memberSettled file first count page other (o .bytes) (o .room)) page) place ≡ bookAt page place)
+  settled-other file {page} {member} {place} other o ne s = go (settling first count page other file (o .bytes) (o .room))
     where
       after :
-          (counts : Counts) (q : ℕ) → Read tariff counts → Passing first count page → Lowest page other first count q → (out : Outcome)
-          → settledUnder tariff counts (bookAt page q) (o .bytes) (o .room) ≡ out
+          (editions : Editions) (q : ℕ) → ReadFile file editions → Passing first count page → Lowest page other first count q → (out : Outcome)
+          → settledUnder file editions (bookAt page q) (o .bytes) (o .room) ≡ out
           → Stands first count (bookAfter (onPage page q out) page) member place
           × (bookAt (bookAfter (onPage page q out) page) place ≡ bookAt page place)
-      after counts q read p l (refused number at) is = (s, refl)
-      after counts q read p l (accepted book parts) is =
-          let long = accepted-size tariff counts read (bookAt page q) (o .bytes) (o .room) is in
+      after editions q read p l (refused number at) is = (s, refl)
+      after editions q read p l (accepted book parts) is =
+          let long = accepted-size file editions read (bookAt page q) (o .bytes) (o .room) is in
           let (touched, passing) = settled-passing book p (l .from) (l .within) long in
           still-stands s touched (λ same. ne (sym (l .there) ∙ ap (numberAt page) (sym same) ∙ s .is)) passing
 
       go :
-          Settling first count page other tariff (o .bytes) (o .room)
-          → Stands first count (bookAfter (memberSettled tariff first count page other (o .bytes) (o .room)) page) member place
-          × (bookAt (bookAfter (memberSettled tariff first count page other (o .bytes) (o .room)) page) place ≡ bookAt page place)
+          Settling first count page other file (o .bytes) (o .room)
+          → Stands first count (bookAfter (memberSettled file first count page other (o .bytes) (o .room)) page) member place
+          × (bookAt (bookAfter (memberSettled file first count page other (o .bytes) (o .room)) page) place ≡ bookAt page place)
       go (at-fault number at is e) = rw e (s, refl)
-      go (settle-wrong-page counts read why e) = rw e (s, refl)
-      go (settle-absent counts read p can none e) = rw e (s, refl)
-      go (settle-at counts q read p can l e) =
-          rw e (after counts q read p l (settledUnder tariff counts (bookAt page q) (o .bytes) (o .room)) refl)
+      go (settle-wrong-page editions read why e) = rw e (s, refl)
+      go (settle-absent editions read p can none e) = rw e (s, refl)
+      go (settle-at editions q read p can l e) =
+          rw e (after editions q read p l (settledUnder file editions (bookAt page q) (o .bytes) (o .room)) refl)
 
   -- a trip posted in another place
   posted-other :
-      (tariff : List ℕ) {page : List ℕ} {member place : ℕ} (other : ℕ) (trip offered : List ℕ) → (other ≡ place → ⊥)
+      (file : List ℕ) {page : List ℕ} {member place : ℕ} (other : ℕ) (trip offered : List ℕ) → (other ≡ place → ⊥)
       → Stands first count page member place
-      → Stands first count (pagePosted page other (placePosted tariff first count page other trip offered)) member place
-      × (bookAt (pagePosted page other (placePosted tariff first count page other trip offered)) place ≡ bookAt page place)
-  posted-other tariff {page} {member} {place} other trip offered ne s = go (lending tariff first count page other trip offered)
+      → Stands first count (pagePosted page other (placePosted file first count page other trip offered)) member place
+      × (bookAt (pagePosted page other (placePosted file first count page other trip offered)) place ≡ bookAt page place)
+  posted-other file {page} {member} {place} other trip offered ne s = go (lending file first count page other trip offered)
     where
       go :
-          Lending tariff first count page other trip offered
-          → Stands first count (pagePosted page other (placePosted tariff first count page other trip offered)) member place
-          × (bookAt (pagePosted page other (placePosted tariff first count page other trip offered)) place ≡ bookAt page place)
+          Lending file first count page other trip offered
+          → Stands first count (pagePosted page other (placePosted file first count page other trip offered)) member place
+          × (bookAt (pagePosted page other (placePosted file first count page other trip offered)) place ≡ bookAt page place)
       go (leaves e) = rw e (s, refl)
       go (renews {new} l long e) =
           let (touched, passing) = settled-passing new (s .passing) (l .from) (l .within) long in
@@ -326,62 +326,62 @@ module _ (first count : ℕ) (few : first + count ≤ places) where
         book-is page place (s .passing .size) on-page new long,
       )
 
-  module _ (tariff : List ℕ) {page : List ℕ} {member place : ℕ} (s : Stands first count page member place) (bytes : List ℕ) (room : ℕ) where
+  module _ (file : List ℕ) {page : List ℕ} {member place : ℕ} (s : Stands first count page member place) (bytes : List ℕ) (room : ℕ) where
     abbrev own : Outcome
-    own = settled tariff (bookAt page place) bytes room
+    own = settled file (bookAt page place) bytes room
 
     -- A member's trip comes to what it comes to on the member's book.
-    pub own-settled : memberSettled tariff first count page member bytes room ≡ onPage page place own
-    own-settled = go (readTariff tariff) refl
+    pub own-settled : memberSettled file first count page member bytes room ≡ onPage page place own
+    own-settled = go (readFile file) refl
       where
-        go : (r : Reading) → readTariff tariff ≡ r → memberSettled tariff first count page member bytes room ≡ onPage page place own
+        go : (r : FileReading) → readFile file ≡ r → memberSettled file first count page member bytes room ≡ onPage page place own
         go (Fault number at) is =
-            by-tariff first count page member tariff bytes room number at is
-            ∙ ap (onPage page place) (sym (fault-way tariff (bookAt page place) bytes room number at is))
-        go (Faultless counts) is =
-            by-page first count page member tariff bytes room counts is
-            ∙ under-present first count page member tariff bytes room counts place
+            by-file first count page member file bytes room number at is
+            ∙ ap (onPage page place) (sym (fault-way file (bookAt page place) bytes room number at is))
+        go (Faultless editions) is =
+            by-page first count page member file bytes room editions is
+            ∙ under-present first count page member file bytes room editions place
             (found-there first count page member place (s .passing) (s .can) (s .from) (s .within) (s .is))
-            ∙ ap (onPage page place) (sym (faultless-way tariff (bookAt page place) bytes room counts is))
+            ∙ ap (onPage page place) (sym (faultless-way file (bookAt page place) bytes room editions is))
 
     -- what is left for the member, and what the trip came to on the place's book
     pub record OwnLeft (page′ : List ℕ) : Type 0 where
       pub stands : Stands first count page′ member place
       pub book : bookAt page′ place ≡ bookAfter own (bookAt page place)
-      pub outcome : onBook place (memberSettled tariff first count page member bytes room) ≡ own
+      pub outcome : onBook place (memberSettled file first count page member bytes room) ≡ own
 
-    pub own-left : OwnLeft (bookAfter (memberSettled tariff first count page member bytes room) page)
+    pub own-left : OwnLeft (bookAfter (memberSettled file first count page member bytes room) page)
     own-left = rw own-settled (go own refl)
       where
         go : (out : Outcome) → own ≡ out → OwnLeft (bookAfter (onPage page place own) page)
         go (refused number at) is = rw is (record { stands = s; book = rw is; outcome = rw (own-settled, is) })
         go (accepted new parts) is =
-            let (stands, book-there) = renewed-stands s new (settled-size tariff (bookAt page place) bytes room is) in
+            let (stands, book-there) = renewed-stands s new (settled-size file (bookAt page place) bytes room is) in
             rw is (record { stands = stands; book = rw is book-there; outcome = rw (own-settled, is, book-there) })
 
   -- A trip posted on the member's book leaves the book that it leaves by itself.
-  module _ (tariff : List ℕ) {page : List ℕ} {member place : ℕ} (s : Stands first count page member place) (trip offered : List ℕ) where
+  module _ (file : List ℕ) {page : List ℕ} {member place : ℕ} (s : Stands first count page member place) (trip offered : List ℕ) where
     abbrev page-posted : List ℕ
-    page-posted = pagePosted page place (placePosted tariff first count page place trip offered)
+    page-posted = pagePosted page place (placePosted file first count page place trip offered)
 
     pub own-posted :
         Stands first count page-posted member place
-        × (bookAt page-posted place ≡ bookAfter (stepOutcome tariff (bookAt page place) (posting trip offered)) (bookAt page place))
+        × (bookAt page-posted place ≡ bookAfter (stepOutcome file (bookAt page place) (posting trip offered)) (bookAt page place))
     unfolding stepOutcome
     own-posted =
         let there =
-        posted-there tariff first count page place trip offered
+        posted-there file first count page place trip offered
         (lends-there first count page place (record { size = s .passing .size; from = s .from; within = s .within }))
         in
-        rw there (go (postingOf tariff (bookAt page place) trip offered) refl)
+        rw there (go (postingOf file (bookAt page place) trip offered) refl)
       where
         go :
-            (p : Posting) → postingOf tariff (bookAt page place) trip offered ≡ p
+            (p : Posting) → postingOf file (bookAt page place) trip offered ≡ p
             → Stands first count (pagePosted page place p) member place
             × (bookAt (pagePosted page place p) place
-            ≡ bookAfter (postedIn (partsPriced (quoted tariff (bookAt page place) trip largestStatement)) p) (bookAt page place))
+            ≡ bookAfter (postedIn (partsPriced (quoted file (bookAt page place) trip largestStatement)) p) (bookAt page place))
         go (unposted number at) is = (s, refl)
-        go (renewed new) is = renewed-stands s new (renewed-size tariff (bookAt page place) trip offered is)
+        go (renewed new) is = renewed-stands s new (renewed-size file (bookAt page place) trip offered is)
 
   -- ---- Calls one after another.
 
@@ -409,11 +409,11 @@ module _ (first count : ℕ) (few : first + count ≤ places) where
 
   -- one of the member's own, and then others
   kept-own :
-      (tariff : List ℕ) {page : List ℕ} {member place : ℕ} (s : Stands first count page member place) (o : Offer) (calls : List Call)
-      → Kept (pageWith first count page (settles tariff member o)) member place calls → Kept page member place (settles tariff member o ∷ calls)
+      (file : List ℕ) {page : List ℕ} {member place : ℕ} (s : Stands first count page member place) (o : Offer) (calls : List Call)
+      → Kept (pageWith first count page (settles file member o)) member place calls → Kept page member place (settles file member o ∷ calls)
   unfolding pageFrom pageWith stepsOf settlementsOf eachFrom bookAfterEach stepOutcome
-  kept-own tariff {page} {member} {place} s o calls k =
-      let left = own-left tariff s (o .bytes) (o .room) in
+  kept-own file {page} {member} {place} s o calls k =
+      let left = own-left file s (o .bytes) (o .room) in
       record {
         stands = k .stands;
         settlements = rw (eq-eqb member member refl, left .outcome, k .settlements, left .book);
@@ -421,12 +421,12 @@ module _ (first count : ℕ) (few : first + count ≤ places) where
       }
 
   kept-posted :
-      (tariff : List ℕ) {page : List ℕ} {member place : ℕ} (s : Stands first count page member place) (trip offered : List ℕ) (calls : List Call)
-      → Kept (pageWith first count page (posts tariff place trip offered)) member place calls
-      → Kept page member place (posts tariff place trip offered ∷ calls)
+      (file : List ℕ) {page : List ℕ} {member place : ℕ} (s : Stands first count page member place) (trip offered : List ℕ) (calls : List Call)
+      → Kept (pageWith first count page (posts file place trip offered)) member place calls
+      → Kept page member place (posts file place trip offered ∷ calls)
   unfolding pageFrom pageWith stepsOf settlementsOf eachFrom bookAfterEach
-  kept-posted tariff {page} {member} {place} s trip offered calls k =
-      let left = own-posted tariff s trip offered .1 in
+  kept-posted file {page} {member} {place} s trip offered calls k =
+      let left = own-posted file s trip offered .1 in
       record {
         stands = k .stands;
         settlements = rw (eq-eqb place place refl, k .settlements, left);
@@ -449,19 +449,19 @@ module _ (first count : ℕ) (few : first + count ≤ places) where
             kept-on (closes other) calls same refl refl
             (member-kept calls s′ (both-right (not (eqb other member)) (stays member calls) stay))
       ]
-  member-kept (settles tariff other o ∷ calls) {page} {member} {place} s stay =
+  member-kept (settles file other o ∷ calls) {page} {member} {place} s stay =
       elim (ℕ-discrete other member) [
         | no ne ↦
-            let (s′, same) = settled-other tariff other o ne s in
-            kept-on (settles tariff other o) calls same (rw (ne-eqb other member ne)) (rw (ne-eqb other member ne)) (member-kept calls s′ stay)
-        | yes e ↦ rw e (kept-own tariff s o calls (member-kept calls (own-left tariff s (o .bytes) (o .room) .stands) stay))
+            let (s′, same) = settled-other file other o ne s in
+            kept-on (settles file other o) calls same (rw (ne-eqb other member ne)) (rw (ne-eqb other member ne)) (member-kept calls s′ stay)
+        | yes e ↦ rw e (kept-own file s o calls (member-kept calls (own-left file s (o .bytes) (o .room) .stands) stay))
       ]
-  member-kept (posts tariff other trip offered ∷ calls) {page} {member} {place} s stay =
+  member-kept (posts file other trip offered ∷ calls) {page} {member} {place} s stay =
       elim (ℕ-discrete other place) [
         | no ne ↦
-            let (s′, same) = posted-other tariff other trip offered ne s in
-            kept-on (posts tariff other trip offered) calls same (rw (ne-eqb other place ne)) (rw (ne-eqb other place ne)) (member-kept calls s′ stay)
-        | yes e ↦ rw e (kept-posted tariff s trip offered calls (member-kept calls (own-posted tariff s trip offered .0) stay))
+            let (s′, same) = posted-other file other trip offered ne s in
+            kept-on (posts file other trip offered) calls same (rw (ne-eqb other place ne)) (rw (ne-eqb other place ne)) (member-kept calls s′ stay)
+        | yes e ↦ rw e (kept-posted file s trip offered calls (member-kept calls (own-posted file s trip offered .0) stay))
       ]
 
   -- ---- From adding to closing.

@@ -5,7 +5,7 @@ use native.Mathlib.Omega.{arith}
 use mathlib.Core.Path.{_≡_, refl, ap}
 use mathlib.Core.List.{List}
 use lib.ListN.{length, take, drop}
-use Rattle.layout.specs.declared.Counts.{Counts}
+use Rattle.editions.specs.declared.Editions.{Editions}
 use Rattle.ledger.specs.Words.{bookSize}
 use Rattle.settle.specs.declared.Answer.{Answer}
 use Rattle.settle.specs.declared.Answer.the-variants.{Refused, Written}
@@ -40,13 +40,13 @@ on-page-told (accepted new parts) page place told =
 
 -- the book is lent from where it begins to where it ends
 pub place-told :
-    (tariff : List ℕ) (counts : Counts) (page : List ℕ) (place size : ℕ) (trip statement : List ℕ) {book′ statement′ : List ℕ} {r : Answer}
+    (file : List ℕ) (editions : Editions) (page : List ℕ) (place size : ℕ) (trip statement : List ℕ) {book′ statement′ : List ℕ} {r : Answer}
     → size ≡ bookSize
     → let book = take size (drop (startOf place + numberSize) page) in
-    Told (settledUnder tariff counts book trip (length statement)) book book′ statement statement′ r
-    → PlaceSettled tariff counts page place trip statement (replaced page (startOf place + numberSize) size book′) statement′ r
-place-told tariff counts page place size trip statement e told =
-    rw e (on-page-told (settledUnder tariff counts (bookAt page place) trip (length statement)) page place (rw e at told))
+    Told (settledUnder file editions book trip (length statement)) book book′ statement statement′ r
+    → PlaceSettled file editions page place trip statement (replaced page (startOf place + numberSize) size book′) statement′ r
+place-told file editions page place size trip statement e told =
+    rw e (on-page-told (settledUnder file editions (bookAt page place) trip (length statement)) page place (rw e at told))
 
 -- ---- What a change tells.
 

@@ -5,8 +5,8 @@ use native.Mathlib.Omega.{arith}
 use mathlib.Core.Path.{_≡_, refl, sym, ap, subst, _∙_}
 use mathlib.Core.Logic.{_↔_}
 use mathlib.Core.List.{List}
-use Rattle.layout.specs.declared.Counts.{Counts}
-use Rattle.layout.specs.Scan.{Read}
+use Rattle.editions.specs.declared.Editions.{Editions}
+use Rattle.editions.specs.Reading.{ReadFile}
 use Rattle.settle.specs.Outcome.{Outcome, refused, accepted, settledUnder}
 use Rattle.page.specs.declared.checks.Account.the-variants.{WrongPage, Absent, Present}
 use Rattle.page.specs.Pages.{bookAt, accountOf, unchanged, added, closed}
@@ -53,7 +53,7 @@ use Rattle.accounts.proofs.Effects.{
   settle-absent,
   settle-at,
   settling,
-  by-tariff,
+  by-file,
   by-page,
   under-wrong-page,
   under-absent,
@@ -122,38 +122,38 @@ module _ (first count : ℕ) (page : List ℕ) (member : ℕ) where
       back (close-nineteen none nowhere) = closes-absent first count page member (absent none nowhere)
 
   -- 1 to 3, 18, 19, then 4 to 12.
-  module _ (tariff trip : List ℕ) (room : ℕ) where
+  module _ (file trip : List ℕ) (room : ℕ) where
     abbrev Says : ℕ → ℕ → Type 0
-    Says = SettlingRefused tariff first count page member trip room
+    Says = SettlingRefused file first count page member trip room
 
-    pub settling-refused-exactly : (n at : ℕ) → memberSettled tariff first count page member trip room ≡ refused n at ↔ Says n at
-    settling-refused-exactly n at = (λ e. says (settling first count page member tariff trip room) e, λ w. back w)
+    pub settling-refused-exactly : (n at : ℕ) → memberSettled file first count page member trip room ≡ refused n at ↔ Says n at
+    settling-refused-exactly n at = (λ e. says (settling first count page member file trip room) e, λ w. back w)
       where
         renamed : {m b : ℕ} → refused m b ≡ refused n at → Says m b → Says n at
         renamed {m} {b} e s = let (same, near) = same-refusal e in rw (← same, ← near) s
 
         on-book :
-            (counts : Counts) (place : ℕ) → Read tariff counts → Passing first count page → CanHave member → Lowest page member first count place
-            → (o : Outcome) → settledUnder tariff counts (bookAt page place) trip room ≡ o → onPage page place o ≡ refused n at → Says n at
-        on-book counts place read p can l (refused m b) is e = renamed e (settle-table counts read (passed p can) (one-of l) m b is)
-        on-book counts place read p can l (accepted new parts) is e = absurd (let z : _≡_ {A = ℕ} 0 1 = cc in omega arith)
+            (editions : Editions) (place : ℕ) → ReadFile file editions → Passing first count page → CanHave member → Lowest page member first count place
+            → (o : Outcome) → settledUnder file editions (bookAt page place) trip room ≡ o → onPage page place o ≡ refused n at → Says n at
+        on-book editions place read p can l (refused m b) is e = renamed e (settle-table editions read (passed p can) (one-of l) m b is)
+        on-book editions place read p can l (accepted new parts) is e = absurd (let z : _≡_ {A = ℕ} 0 1 = cc in omega arith)
 
-        says : Settling first count page member tariff trip room → memberSettled tariff first count page member trip room ≡ refused n at → Says n at
+        says : Settling first count page member file trip room → memberSettled file first count page member trip room ≡ refused n at → Says n at
         says (at-fault m b is s) e = renamed (sym s ∙ e) (settle-faulty m b is)
-        says (settle-wrong-page counts read why s) e = renamed (sym s ∙ e) (settle-eighteen counts read why)
-        says (settle-absent counts read p can none s) e = renamed (sym s ∙ e) (settle-nineteen counts read (passed p can) none)
-        says (settle-at counts place read p can l s) e =
-            on-book counts place read p can l (settledUnder tariff counts (bookAt page place) trip room) refl (sym s ∙ e)
+        says (settle-wrong-page editions read why s) e = renamed (sym s ∙ e) (settle-eighteen editions read why)
+        says (settle-absent editions read p can none s) e = renamed (sym s ∙ e) (settle-nineteen editions read (passed p can) none)
+        says (settle-at editions place read p can l s) e =
+            on-book editions place read p can l (settledUnder file editions (bookAt page place) trip room) refl (sym s ∙ e)
 
-        back : {m b : ℕ} → Says m b → memberSettled tariff first count page member trip room ≡ refused m b
-        back (settle-faulty m b is) = by-tariff first count page member tariff trip room m b is
-        back (settle-eighteen counts read why) =
-            by-page first count page member tariff trip room counts read
-            ∙ under-wrong-page first count page member tariff trip room counts (wrong why)
-        back (settle-nineteen counts read none nowhere) =
-            by-page first count page member tariff trip room counts read
-            ∙ under-absent first count page member tariff trip room counts (absent none nowhere)
-        back (settle-table counts read none one m b is) =
-            by-page first count page member tariff trip room counts read
-            ∙ under-present first count page member tariff trip room counts (one .place) (there none one)
+        back : {m b : ℕ} → Says m b → memberSettled file first count page member trip room ≡ refused m b
+        back (settle-faulty m b is) = by-file first count page member file trip room m b is
+        back (settle-eighteen editions read why) =
+            by-page first count page member file trip room editions read
+            ∙ under-wrong-page first count page member file trip room editions (wrong why)
+        back (settle-nineteen editions read none nowhere) =
+            by-page first count page member file trip room editions read
+            ∙ under-absent first count page member file trip room editions (absent none nowhere)
+        back (settle-table editions read none one m b is) =
+            by-page first count page member file trip room editions read
+            ∙ under-present first count page member file trip room editions (one .place) (there none one)
             ∙ ap (onPage page (one .place)) is

@@ -55,11 +55,11 @@ module _ (association : ℕ) {page page′ : List ℕ} (agree : AgreeFor associa
       let a = adding-alike association agree member in (same-reply (a .answers) refl (a .pages .same), a .pages)
   call-alike (closes member) =
       let a = closing-alike association agree member in (same-reply (a .answers) refl (a .pages .same), a .pages)
-  call-alike (settles tariff member o) =
-      let a = settling-alike association agree member tariff (o .bytes) (o .room) in
+  call-alike (settles file member o) =
+      let a = settling-alike association agree member file (o .bytes) (o .room) in
       (same-reply (a .answers) (ap statementOf (a .parts)) (a .pages .same), a .pages)
-  call-alike (posts tariff place trip offered) =
-      let a = posting-alike association agree tariff place trip offered in
+  call-alike (posts file place trip offered) =
+      let a = posting-alike association agree file place trip offered in
       (same-reply (ap postingAnswer (a .same)) refl (a .pages .same), a .pages)
 
 -- No call changes a byte outside of its association's places.
@@ -67,8 +67,8 @@ pub call-only : (association : ℕ) (page : List ℕ) (call : Call) → OnlyOf a
 unfolding pageWithFor
 call-only association page (adds member) = adding-only association page member
 call-only association page (closes member) = closing-only association page member
-call-only association page (settles tariff member o) = settling-only association page member tariff (o .bytes) (o .room)
-call-only association page (posts tariff place trip offered) = posting-only tariff association page place trip offered
+call-only association page (settles file member o) = settling-only association page member file (o .bytes) (o .room)
+call-only association page (posts file place trip offered) = posting-only file association page place trip offered
 
 -- So it leaves the other's places as they were, also where both have a member with the same number: these are two people.
 pub other-left :
@@ -131,8 +131,8 @@ module _ (association : ℕ) (is : Association association) where
   unfolding pageWithFor pageWith
   with-for page (adds member) = rw (added-for association page member (one-is is))
   with-for page (closes member) = rw (closed-for association page member (one-is is))
-  with-for page (settles tariff member o) = rw (settled-for association page member tariff (o .bytes) (o .room) (one-is is))
-  with-for page (posts tariff place trip offered) = rw (posted-for tariff association page place trip offered (one-is is))
+  with-for page (settles file member o) = rw (settled-for association page member file (o .bytes) (o .room) (one-is is))
+  with-for page (posts file place trip offered) = rw (posted-for file association page place trip offered (one-is is))
 
   module _ (member place : ℕ) (low : firstPlace association ≤ place) (high : place < firstPlace association + ownPlaces) where
     -- one of its calls, before others
@@ -145,13 +145,13 @@ module _ (association : ℕ) (is : Association association) where
     unfolding settlementBefore settlementsOf
     before (adds other) calls agree e = e
     before (closes other) calls agree e = e
-    before (posts tariff other trip offered) calls {page} {page′} agree e = rw (book-agrees agree place low high, e)
-    before (settles tariff other o) calls {page} {page′} agree e =
-        let a = settling-alike association agree other tariff (o .bytes) (o .room) in
+    before (posts file other trip offered) calls {page} {page′} agree e = rw (book-agrees agree place low high, e)
+    before (settles file other o) calls {page} {page′} agree e =
+        let a = settling-alike association agree other file (o .bytes) (o .room) in
         rw (
           book-agrees agree place low high,
           a .books place low high,
-          settled-for association page′ other tariff (o .bytes) (o .room) (one-is is),
+          settled-for association page′ other file (o .bytes) (o .room) (one-is is),
           e,
         )
 

@@ -1,14 +1,14 @@
 -- docs/RULES.md, section 21: two associations share a page. Association 0 has the first six places, association 1 the others, each with its own
--- members. What is said of some places of a page (page/Pages, InWords) is here said of an association's; 21 comes before all of it but the tariff's.
+-- members. What is said of some places of a page (page/Pages, InWords) is here said of an association's; 21 comes before all of it but the file's.
 use Prim.Native.Nat.{ℕ, _*_}
 use mathlib.Core.Path.{_≡_}
 use mathlib.Core.Logic.{_⊎_}
 use mathlib.Core.List.{List}
 use mathlib.Core.Bool.{Bool, cond}
 use lib.Dec.{leb}
-use Rattle.layout.specs.declared.Counts.{Counts}
-use Rattle.layout.specs.declared.Reading.the-variants.{Fault, Faultless}
-use Rattle.layout.specs.Scan.{readTariff, Read}
+use Rattle.editions.specs.declared.Editions.{Editions}
+use Rattle.editions.specs.declared.FileReading.the-variants.{Fault, Faultless}
+use Rattle.editions.specs.Reading.{readFile, ReadFile}
 use Rattle.settle.specs.Outcome.{Outcome, refused}
 use Rattle.page.specs.Pages.{placesAt, Change, unchanged, added, closed}
 use Rattle.accounts.specs.Members.{memberSettledUnder}
@@ -43,17 +43,17 @@ closedFor association page member =
     cond (isAssociation association) (closed (firstPlace association) ownPlaces page member) (unchanged noAssociation)
 
 -- 21, then 18 and 19, and then 4 to 12
-unfoldable pub settledForUnder : List ℕ → Counts → ℕ → List ℕ → ℕ → List ℕ → ℕ → Outcome
-settledForUnder tariff counts association page member trip room =
-    cond (isAssociation association) (memberSettledUnder tariff counts (firstPlace association) ownPlaces page member trip room)
+unfoldable pub settledForUnder : List ℕ → Editions → ℕ → List ℕ → ℕ → List ℕ → ℕ → Outcome
+settledForUnder file editions association page member trip room =
+    cond (isAssociation association) (memberSettledUnder file editions (firstPlace association) ownPlaces page member trip room)
     (refused noAssociation 0)
 
--- under any byte string as a tariff. 1 to 3 come first
+-- under any byte string as a file. 1 to 3 come first
 unfoldable pub settledFor : List ℕ → ℕ → List ℕ → ℕ → List ℕ → ℕ → Outcome
-settledFor tariff association page member trip room =
-    elim (readTariff tariff) [
+settledFor file association page member trip room =
+    elim (readFile file) [
       | Fault number at ↦ refused number at
-      | Faultless counts ↦ settledForUnder tariff counts association page member trip room
+      | Faultless editions ↦ settledForUnder file editions association page member trip room
     ]
 
 -- ---- In words.
@@ -80,13 +80,13 @@ AddingRefusedFor association page member = Behind association (AddingRefused (fi
 abbrev pub ClosingRefusedFor : ℕ → List ℕ → ℕ → ℕ → Type 0
 ClosingRefusedFor association page member = Behind association (ClosingRefused (firstPlace association) ownPlaces page member)
 
--- settling: 1 to 3, the tariff's; 21; and then those of the association's places
-pub data SettlingRefusedFor (tariff : List ℕ) (association : ℕ) (page : List ℕ) (member : ℕ) (trip : List ℕ) (room : ℕ) : ℕ → ℕ → Type 0 where
-  for-faulty : (number at : ℕ) → readTariff tariff ≡ Fault number at → SettlingRefusedFor tariff association page member trip room number at
+-- settling: 1 to 3, the file's; 21; and then those of the association's places
+pub data SettlingRefusedFor (file : List ℕ) (association : ℕ) (page : List ℕ) (member : ℕ) (trip : List ℕ) (room : ℕ) : ℕ → ℕ → Type 0 where
+  for-faulty : (number at : ℕ) → readFile file ≡ Fault number at → SettlingRefusedFor file association page member trip room number at
   for-twenty-one :
-      (counts : Counts) → Read tariff counts → (Association association → ⊥)
-      → SettlingRefusedFor tariff association page member trip room noAssociation 0
+      (editions : Editions) → ReadFile file editions → (Association association → ⊥)
+      → SettlingRefusedFor file association page member trip room noAssociation 0
   for-others :
-      (counts : Counts) → Read tariff counts → Association association → (number at : ℕ)
-      → SettlingRefused tariff (firstPlace association) ownPlaces page member trip room number at
-      → SettlingRefusedFor tariff association page member trip room number at
+      (editions : Editions) → ReadFile file editions → Association association → (number at : ℕ)
+      → SettlingRefused file (firstPlace association) ownPlaces page member trip room number at
+      → SettlingRefusedFor file association page member trip room number at

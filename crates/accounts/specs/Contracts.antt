@@ -3,7 +3,7 @@ use Prim.Native.Nat.{ℕ}
 use mathlib.Core.Path.{_≡_}
 use mathlib.Core.List.{List}
 use lib.ListN.{length}
-use Rattle.layout.specs.declared.Counts.{Counts}
+use Rattle.editions.specs.declared.Editions.{Editions}
 use Rattle.settle.specs.declared.Answer.{Answer}
 use Rattle.settle.specs.declared.Answer.the-variants.{Refused, Written}
 use Rattle.settle.specs.Outcome.{settledUnder}
@@ -26,21 +26,21 @@ pub record ChangeTold (change : Change) (page page′ : List ℕ) (r : Answer) :
 -- ---- What each function answers, of the slices at its entry and at its exit.
 
 -- `settle_at`
-abbrev pub PlaceSettled : List ℕ → Counts → List ℕ → ℕ → List ℕ → List ℕ → List ℕ → List ℕ → Answer → Type 0
-PlaceSettled tariff counts page place trip statement page′ statement′ r =
-    Told (onPage page place (settledUnder tariff counts (bookAt page place) trip (length statement))) page page′ statement statement′ r
+abbrev pub PlaceSettled : List ℕ → Editions → List ℕ → ℕ → List ℕ → List ℕ → List ℕ → List ℕ → Answer → Type 0
+PlaceSettled file editions page place trip statement page′ statement′ r =
+    Told (onPage page place (settledUnder file editions (bookAt page place) trip (length statement))) page page′ statement statement′ r
 
 -- `settle_found`
-abbrev pub FoundSettled : List ℕ → Counts → ℕ → ℕ → List ℕ → ℕ → List ℕ → List ℕ → List ℕ → List ℕ → Answer → Type 0
-FoundSettled tariff counts first count page member trip statement page′ statement′ r =
-    Told (memberSettledUnder tariff counts first count page member trip (length statement)) page page′ statement statement′ r
+abbrev pub FoundSettled : List ℕ → Editions → ℕ → ℕ → List ℕ → ℕ → List ℕ → List ℕ → List ℕ → List ℕ → Answer → Type 0
+FoundSettled file editions first count page member trip statement page′ statement′ r =
+    Told (memberSettledUnder file editions first count page member trip (length statement)) page page′ statement statement′ r
 
 -- `settle_own`
-abbrev pub OwnSettled : List ℕ → Counts → ℕ → List ℕ → ℕ → List ℕ → List ℕ → List ℕ → List ℕ → Answer → Type 0
-OwnSettled tariff counts association page member trip statement page′ statement′ r =
-    Told (settledForUnder tariff counts association page member trip (length statement)) page page′ statement statement′ r
+abbrev pub OwnSettled : List ℕ → Editions → ℕ → List ℕ → ℕ → List ℕ → List ℕ → List ℕ → List ℕ → Answer → Type 0
+OwnSettled file editions association page member trip statement page′ statement′ r =
+    Told (settledForUnder file editions association page member trip (length statement)) page page′ statement statement′ r
 
 -- `settle_for`
 abbrev pub ForSettled : List ℕ → ℕ → List ℕ → ℕ → List ℕ → List ℕ → List ℕ → List ℕ → Answer → Type 0
-ForSettled tariff association page member trip statement page′ statement′ r =
-    Told (settledFor tariff association page member trip (length statement)) page page′ statement statement′ r
+ForSettled file association page member trip statement page′ statement′ r =
+    Told (settledFor file association page member trip (length statement)) page page′ statement statement′ r

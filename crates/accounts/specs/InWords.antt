@@ -2,27 +2,27 @@
 use Prim.Native.Nat.{ℕ, _+_, _≤_, _<_}
 use mathlib.Core.Path.{_≡_}
 use mathlib.Core.List.{List}
-use Rattle.layout.specs.declared.Counts.{Counts}
-use Rattle.layout.specs.declared.Reading.the-variants.{Fault}
-use Rattle.layout.specs.Scan.{readTariff, Read}
+use Rattle.editions.specs.declared.Editions.{Editions}
+use Rattle.editions.specs.declared.FileReading.the-variants.{Fault}
+use Rattle.editions.specs.Reading.{readFile, ReadFile}
 use Rattle.settle.specs.Outcome.{Outcome, refused, settledUnder, answerOf, partsIn, bookAfter, statementAfter}
 use Rattle.page.specs.Pages.{bookAt, wrongPage, wrongMember, Change, pageAfter}
 use Rattle.page.specs.InWords.{InNone, InOne, Eighteen, Agree}
 use Rattle.accounts.specs.Members.{changeAnswer, onBook}
 
--- settling: 1 to 3, the tariff's; 18; 19, the member is not found; then 4 to 12 by the table, on the book of the member's place
-pub data SettlingRefused (tariff : List ℕ) (first count : ℕ) (page : List ℕ) (member : ℕ) (trip : List ℕ) (room : ℕ) : ℕ → ℕ → Type 0 where
-  settle-faulty : (number at : ℕ) → readTariff tariff ≡ Fault number at → SettlingRefused tariff first count page member trip room number at
+-- settling: 1 to 3, the file's; 18; 19, the member is not found; then 4 to 12 by the table, on the book of the member's place
+pub data SettlingRefused (file : List ℕ) (first count : ℕ) (page : List ℕ) (member : ℕ) (trip : List ℕ) (room : ℕ) : ℕ → ℕ → Type 0 where
+  settle-faulty : (number at : ℕ) → readFile file ≡ Fault number at → SettlingRefused file first count page member trip room number at
   settle-eighteen :
-      (counts : Counts) → Read tariff counts → Eighteen first count page member
-      → SettlingRefused tariff first count page member trip room wrongPage 0
+      (editions : Editions) → ReadFile file editions → Eighteen first count page member
+      → SettlingRefused file first count page member trip room wrongPage 0
   settle-nineteen :
-      (counts : Counts) → Read tariff counts → (Eighteen first count page member → ⊥) → InNone page member first count
-      → SettlingRefused tariff first count page member trip room wrongMember 0
+      (editions : Editions) → ReadFile file editions → (Eighteen first count page member → ⊥) → InNone page member first count
+      → SettlingRefused file first count page member trip room wrongMember 0
   settle-table :
-      (counts : Counts) → Read tariff counts → (Eighteen first count page member → ⊥) → (one : InOne page member first count)
-      → (number at : ℕ) → settledUnder tariff counts (bookAt page (one .place)) trip room ≡ refused number at
-      → SettlingRefused tariff first count page member trip room number at
+      (editions : Editions) → ReadFile file editions → (Eighteen first count page member → ⊥) → (one : InOne page member first count)
+      → (number at : ℕ) → settledUnder file editions (bookAt page (one .place)) trip room ≡ refused number at
+      → SettlingRefused file first count page member trip room number at
 
 -- what adding or closing comes to on two such pages: equal answers, and the pages agree afterwards
 pub record ChangesAgree (first count : ℕ) (page page′ : List ℕ) (one other : Change) : Type 0 where

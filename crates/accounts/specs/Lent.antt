@@ -15,13 +15,13 @@ lends first count page place = eqb (length page) pageSize && (leb first place &&
 
 -- what a posting on it comes to. Where there is no book to lend nothing is called, and 0 stands for that
 unfoldable pub placePosted : List ℕ → ℕ → ℕ → List ℕ → ℕ → List ℕ → List ℕ → Posting
-placePosted tariff first count page place trip offered =
-    cond (lends first count page place) (postingOf tariff (bookAt page place) trip offered) (unposted 0 0)
+placePosted file first count page place trip offered =
+    cond (lends first count page place) (postingOf file (bookAt page place) trip offered) (unposted 0 0)
 
 -- in one of an association's places
 unfoldable pub postedFor : List ℕ → ℕ → List ℕ → ℕ → List ℕ → List ℕ → Posting
-postedFor tariff association page place trip offered =
-    cond (isAssociation association) (placePosted tariff (firstPlace association) ownPlaces page place trip offered) (unposted 0 0)
+postedFor file association page place trip offered =
+    cond (isAssociation association) (placePosted file (firstPlace association) ownPlaces page place trip offered) (unposted 0 0)
 
 -- the page that it leaves: the book in the place is the new one
 abbrev pub pagePosted : List ℕ → ℕ → Posting → List ℕ

@@ -2,9 +2,9 @@
 use Prim.Native.Nat.{ℕ, _+_}
 use mathlib.Core.Path.{_≡_}
 use mathlib.Core.List.{List}
-use Rattle.layout.specs.declared.Counts.{Counts}
-use Rattle.layout.specs.declared.Reading.the-variants.{Fault, Faultless}
-use Rattle.layout.specs.Scan.{readTariff}
+use Rattle.editions.specs.declared.Editions.{Editions}
+use Rattle.editions.specs.declared.FileReading.the-variants.{Fault, Faultless}
+use Rattle.editions.specs.Reading.{readFile}
 use Rattle.ledger.specs.Words.{bookSize}
 use Rattle.settle.specs.Outcome.{Outcome, refused, accepted, refusedAs, settledUnder}
 use Rattle.page.specs.declared.checks.Account.the-variants.{WrongPage, Absent, Present}
@@ -34,20 +34,20 @@ onBook place (refused number at) = refused number at
 onBook place (accepted new parts) = accepted (bookAt new place) parts
 
 -- settling a member's trip on that member's book: 18 and 19, and then 4 to 12
-unfoldable pub memberSettledUnder : List ℕ → Counts → ℕ → ℕ → List ℕ → ℕ → List ℕ → ℕ → Outcome
-memberSettledUnder tariff counts first count page member trip room =
+unfoldable pub memberSettledUnder : List ℕ → Editions → ℕ → ℕ → List ℕ → ℕ → List ℕ → ℕ → Outcome
+memberSettledUnder file editions first count page member trip room =
     elim (accountOf first count page member) [
       | WrongPage ↦ refused wrongPage 0
       | Absent ↦ refused wrongMember 0
-      | Present place ↦ onPage page place (settledUnder tariff counts (bookAt page place) trip room)
+      | Present place ↦ onPage page place (settledUnder file editions (bookAt page place) trip room)
     ]
 
--- under any byte string as a tariff. 1 to 3: the tariff's first fault, at its record's offset
+-- under any byte string as a file. 1 to 3: the file's first fault, at its record's offset
 unfoldable pub memberSettled : List ℕ → ℕ → ℕ → List ℕ → ℕ → List ℕ → ℕ → Outcome
-memberSettled tariff first count page member trip room =
-    elim (readTariff tariff) [
+memberSettled file first count page member trip room =
+    elim (readFile file) [
       | Fault number at ↦ refused number at
-      | Faultless counts ↦ memberSettledUnder tariff counts first count page member trip room
+      | Faultless editions ↦ memberSettledUnder file editions first count page member trip room
     ]
 
 -- acceptance returns the bytes written, which are a place's

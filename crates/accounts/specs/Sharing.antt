@@ -1,4 +1,4 @@
--- Both associations call on one page, one after another and in any order, each call under a tariff of its own.
+-- Both associations call on one page, one after another and in any order, each call under a file of its own.
 use Prim.Native.Nat.{ℕ}
 use mathlib.Core.List.{List, [], _∷_}
 use mathlib.Core.Bool.{cond}
@@ -23,10 +23,10 @@ pub record Asked : Type 0 where
 unfoldable pub pageWithFor : ℕ → List ℕ → Call → List ℕ
 pageWithFor association page (adds member) = pageAfter (addedFor association page member) page
 pageWithFor association page (closes member) = pageAfter (closedFor association page member) page
-pageWithFor association page (settles tariff member o) =
-    bookAfter (settledFor tariff association page member (o .bytes) (o .room)) page
-pageWithFor association page (posts tariff place trip offered) =
-    pagePosted page place (postedFor tariff association page place trip offered)
+pageWithFor association page (settles file member o) =
+    bookAfter (settledFor file association page member (o .bytes) (o .room)) page
+pageWithFor association page (posts file place trip offered) =
+    pagePosted page place (postedFor file association page place trip offered)
 
 -- and some calls
 unfoldable pub pageShared : List ℕ → List Asked → List ℕ
@@ -66,10 +66,10 @@ postingReply posted association page place =
 unfoldable pub replyTo : ℕ → List ℕ → Call → Reply
 replyTo association page (adds member) = changeReply (addedFor association page member) association page
 replyTo association page (closes member) = changeReply (closedFor association page member) association page
-replyTo association page (settles tariff member o) =
-    tripReply (settledFor tariff association page member (o .bytes) (o .room)) association page
-replyTo association page (posts tariff place trip offered) =
-    postingReply (postedFor tariff association page place trip offered) association page place
+replyTo association page (settles file member o) =
+    tripReply (settledFor file association page member (o .bytes) (o .room)) association page
+replyTo association page (posts file place trip offered) =
+    postingReply (postedFor file association page place trip offered) association page place
 
 -- of its calls among all, first to last
 unfoldable pub repliesTo : ℕ → List ℕ → List Asked → List Reply
@@ -84,11 +84,11 @@ repliesTo association page (asked ∷ later) =
 unfoldable pub settlementBefore : ℕ → List ℕ → ℕ → ℕ → Call → List Settlement → List Settlement
 settlementBefore association page member place (adds other) later = later
 settlementBefore association page member place (closes other) later = later
-settlementBefore association page member place (settles tariff other o) later =
-    let outcome = settledFor tariff association page other (o .bytes) (o .room) in
+settlementBefore association page member place (settles file other o) later =
+    let outcome = settledFor file association page other (o .bytes) (o .room) in
     cond (eqb other member) (record { book = bookAt page place; offer = o; outcome = onBook place outcome } ∷ later) later
-settlementBefore association page member place (posts tariff other trip offered) later =
-    let outcome = stepOutcome tariff (bookAt page place) (posting trip offered) in
+settlementBefore association page member place (posts file other trip offered) later =
+    let outcome = stepOutcome file (bookAt page place) (posting trip offered) in
     cond (eqb other place) (record { book = bookAt page place; offer = offerOf (posting trip offered); outcome = outcome } ∷ later) later
 
 -- what the trips of an association's member came to, with the book that stood in a place before each

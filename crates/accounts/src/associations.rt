@@ -1,14 +1,14 @@
 // What each association can ask for on a page that two of them share: 0 has the first six places, 1 the others. It is done on the association's
-// own places, and nothing else of the page is looked at but its length. 21 comes before all of it but the tariff's 1 to 3.
+// own places, and nothing else of the page is looked at but its length. 21 comes before all of it but the file's 1 to 3.
 use crate::add;
 use crate::close;
 use crate::refuse;
 use crate::settle_found;
-use layout::Counts;
-use layout::Reading;
-use scan::read_tariff;
+use editions::Editions;
+use editions::FileReading;
+use editions::read_file;
 use settle::Answer;
-ghost use Rattle.layout.specs.Scan.{Read};
+ghost use Rattle.editions.specs.Reading.{ReadFile};
 ghost use Rattle.accounts.specs.Associations.{addedFor, closedFor};
 ghost use Rattle.accounts.specs.Contracts.{ChangeTold, OwnSettled, ForSettled};
 
@@ -39,18 +39,18 @@ pub fn close_for(page: &mut [u8], association: u32, member: u32) -> Answer
     close(page, first, OWN_PLACES, member)
 }
 
-// 21, 18, 19, then 4 to 12: under a faultless tariff.
+// 21, 18, 19, then 4 to 12: under a faultless file.
 fn settle_own(
-    tariff: &[u8],
-    counts: Counts,
+    file: &[u8],
+    editions: Editions,
     page: &mut [u8],
     association: u32,
     member: u32,
     trip: &[u8],
     statement: &mut [u8],
 ) -> Answer
-    requires { ⌜ Read (now tariff) counts ⌝ }
-    ensures { λ r. ⌜ OwnSettled (now (tariff .entry)) counts association (now (page .entry)) member (now (trip .entry))
+    requires { ⌜ ReadFile (now file) editions ⌝ }
+    ensures { λ r. ⌜ OwnSettled (now (file .entry)) editions association (now (page .entry)) member (now (trip .entry))
         (now (statement .entry)) (now (page .exit)) (now (statement .exit)) r ⌝ }
 {
     if association > 1 {
@@ -58,8 +58,8 @@ fn settle_own(
     }
     let first = association as usize * OWN_PLACES;
     settle_found(
-        tariff,
-        counts,
+        file,
+        editions,
         page,
         first,
         OWN_PLACES,
@@ -72,21 +72,21 @@ fn settle_own(
 // Settles a trip of a member of the association: on that member's book as `settle` does, and every other byte of the page stays. 1 to 3, 21, 18,
 // 19, then 4 to 12.
 pub fn settle_for(
-    tariff: &[u8],
+    file: &[u8],
     page: &mut [u8],
     association: u32,
     member: u32,
     trip: &[u8],
     statement: &mut [u8],
 ) -> Answer
-    ensures { λ r. ⌜ ForSettled (now (tariff .entry)) association (now (page .entry)) member (now (trip .entry))
+    ensures { λ r. ⌜ ForSettled (now (file .entry)) association (now (page .entry)) member (now (trip .entry))
         (now (statement .entry)) (now (page .exit)) (now (statement .exit)) r ⌝ }
 {
-    match read_tariff(tariff) {
-        Reading::Fault { number, at } => Answer::Refused { number, place: at },
-        Reading::Faultless(counts) => settle_own(
-            tariff,
-            counts,
+    match read_file(file) {
+        FileReading::Fault { number, at } => Answer::Refused { number, place: at },
+        FileReading::Faultless(editions) => settle_own(
+            file,
+            editions,
             page,
             association,
             member,

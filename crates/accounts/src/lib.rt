@@ -4,7 +4,7 @@
 // associations.rt  the functions for an association, on its own places
 //
 // Decide first, write last: a refusal changes no byte. Nothing is copied: settling is lent the book where it stands on the page.
-use layout::Counts;
+use editions::Editions;
 use ledger::words::SIZE;
 use page::NUMBER_SIZE;
 use page::PLACE_SIZE;
@@ -18,7 +18,7 @@ use settle::Answer;
 use settle::settle_under;
 ghost use mathlib.Core.Path.{_≡_};
 ghost use Prim.Native.Nat.{_+_, _≤_};
-ghost use Rattle.layout.specs.Scan.{Read};
+ghost use Rattle.editions.specs.Reading.{ReadFile};
 ghost use Rattle.settle.specs.declared.Answer.the-variants.{Refused};
 ghost use Rattle.page.specs.Pages.{places, added, closed};
 ghost use Rattle.page.specs.Contracts.{OnPage};
@@ -74,26 +74,26 @@ pub fn close(page: &mut [u8], first: usize, count: usize, member: u32) -> Answer
 
 // 4 to 12 on a place's book, lent where it stands.
 fn settle_at(
-    tariff: &[u8],
-    counts: Counts,
+    file: &[u8],
+    editions: Editions,
     page: &mut [u8],
     place: usize,
     trip: &[u8],
     statement: &mut [u8],
 ) -> Answer
-    requires { ⌜ Read (now tariff) counts × OnPage (now page) place ⌝ }
-    ensures { λ r. ⌜ PlaceSettled (now (tariff .entry)) counts (now (page .entry)) place (now (trip .entry))
+    requires { ⌜ ReadFile (now file) editions × OnPage (now page) place ⌝ }
+    ensures { λ r. ⌜ PlaceSettled (now (file .entry)) editions (now (page .entry)) place (now (trip .entry))
         (now (statement .entry)) (now (page .exit)) (now (statement .exit)) r ⌝ }
 {
     let start = place * PLACE_SIZE + NUMBER_SIZE;
     let end = start + SIZE;
-    settle_under(tariff, counts, &mut page[start..end], trip, statement)
+    settle_under(file, editions, &mut page[start..end], trip, statement)
 }
 
-// 18, 19, then 4 to 12: under a faultless tariff.
+// 18, 19, then 4 to 12: under a faultless file.
 fn settle_found(
-    tariff: &[u8],
-    counts: Counts,
+    file: &[u8],
+    editions: Editions,
     page: &mut [u8],
     first: usize,
     count: usize,
@@ -101,13 +101,13 @@ fn settle_found(
     trip: &[u8],
     statement: &mut [u8],
 ) -> Answer
-    requires { ⌜ Read (now tariff) counts × (first + count ≤ places) ⌝ }
-    ensures { λ r. ⌜ FoundSettled (now (tariff .entry)) counts first count (now (page .entry)) member (now (trip .entry))
+    requires { ⌜ ReadFile (now file) editions × (first + count ≤ places) ⌝ }
+    ensures { λ r. ⌜ FoundSettled (now (file .entry)) editions first count (now (page .entry)) member (now (trip .entry))
         (now (statement .entry)) (now (page .exit)) (now (statement .exit)) r ⌝ }
 {
     match account_of(page, first, count, member) {
         Account::WrongPage => refuse(WRONG_PAGE),
         Account::Absent => refuse(WRONG_MEMBER),
-        Account::Present(place) => settle_at(tariff, counts, page, place, trip, statement),
+        Account::Present(place) => settle_at(file, editions, page, place, trip, statement),
     }
 }

@@ -16,6 +16,10 @@ isMoment m = isDate (m .year) (m .month) (m .day) && isClock (m .hour) (m .minut
 unfoldable pub momentMinute : Moment → ℕ
 momentMinute m = dayMinutes * dayNumber (m .year) (m .month) (m .day) + 60 * m .hour + m .minute
 
+-- the minutes from 2000-01-01 00:00 UTC to a date's first minute in UTC
+abbrev pub firstMinute : ℕ → ℕ → ℕ → ℕ
+firstMinute year month day = dayMinutes * dayNumber year month day
+
 -- the years or months that have passed whole, and the days that are left
 pub record Elapsed : Type 0 where
   pub whole : ℕ

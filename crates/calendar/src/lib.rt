@@ -10,7 +10,8 @@ ghost use Prim.Native.Nat.{_≤_};
 ghost use Rattle.calendar.specs.Days.{leap, monthDays, DaysBefore, DayNumber};
 ghost use lib.Dec.{leb};
 ghost use Rattle.calendar.specs.Contracts.{row, entryAt, fromZero, midnightOf};
-ghost use Rattle.calendar.specs.Stamps.{isDate, isClock, isOffset, isStamp, stampOf, MinuteNumber};
+ghost use Rattle.calendar.specs.Stamps.{isDate, isClock, isOffset, isStamp, stampOf, lastMinute, MinuteNumber};
+ghost use Rattle.calendar.specs.Moments.{firstMinute};
 
 pub mod moments;
 
@@ -65,7 +66,7 @@ fn in_month(year: u16, month: u8, day: u8) -> bool
     day <= month_days(is_leap(year), month)
 }
 
-fn is_date(year: u16, month: u8, day: u8) -> bool
+pub fn is_date(year: u16, month: u8, day: u8) -> bool
     ensures { λ r. ⌜ r ≡ isDate year month day ⌝ }
 {
     (Stamp::FIRST_YEAR <= year)
@@ -158,6 +159,14 @@ fn day_number(year: u16, month: u8, day: u8) -> u32
     let years = (year - Stamp::FIRST_YEAR) as u32;
     let in_year = days_before(years % 4 == 0, month) + (day - 1) as u32;
     365 * years + (years + 3) / 4 + in_year
+}
+
+// The first minute of a date in UTC.
+pub fn first_minute(year: u16, month: u8, day: u8) -> Minutes
+    requires { ⌜ isDate year month day ≡ true ⌝ }
+    ensures { λ r. ⌜ (r .0 ≡ firstMinute year month day) × (r .0 ≤ lastMinute) ⌝ }
+{
+    Minutes(DAY * day_number(year, month, day))
 }
 
 impl Stamp {

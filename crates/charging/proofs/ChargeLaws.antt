@@ -25,8 +25,9 @@ use Rattle.prices.specs.Contracts.{Priceable}
 use Rattle.prices.proofs.Steps.{price-most}
 use Rattle.ledger.specs.Words.{secondSum, allSum, firstChild, coverWord, paidWord}
 use Rattle.ledger.specs.Windows.{inWindow}
-use Rattle.ledger.proofs.SoundLaws.{sound-has}
-use Rattle.ledger.proofs.Counting.{cover-known}
+use Rattle.ledger.specs.Sound.{sound}
+use Rattle.ledger.proofs.SoundLaws.{SoundBook, AloneBook, alone-has, sound-has}
+use Rattle.ledger.proofs.Counting.{words-sound}
 use Rattle.cycles.proofs.BicycleLaws.{bicycle-most}
 use Rattle.charging.specs.Caps.{treeOf}
 use Rattle.charging.specs.Charging.{isChild, carries, placeOf, riderCharge, bicycleOf, inTurn, eachPerson, chargesOf}
@@ -133,7 +134,18 @@ module _ (t : List ℕ) (counts : Counts) (w : List ℕ) (ride : Ride) where
   rider-cut-stands = rider-at (ride .party) (riderCut t counts w ride)
 
 -- A ride of a faultless tariff can be priced, and no price is above 3,790,000 cents: so no charge is.
-module _ {t : List ℕ} {counts : Counts} {b : List ℕ} {ride : Ride} (r : Rideable t counts b ride) where
+module _ {t : List ℕ} {counts : Counts} {b : List ℕ} {current : Bool} {ride : Ride} (r : Rideable t counts b current ride) where
+  -- The words that count for it are sound under its tariff.
+  pub ride-sound : sound (inWindow current b) (counts .areas) ≡ true
+  ride-sound = words-sound current b (counts .areas) (r .alone) (r .covers)
+
+  pub ride-words : SoundBook (inWindow current b) (counts .areas)
+  ride-words = sound-has (inWindow current b) (counts .areas) ride-sound
+
+  -- The book is sound by itself.
+  pub ride-book : AloneBook b
+  ride-book = alone-has b (r .alone)
+
   pub priceable : Priceable (areaAt t (ride .area)) ride
   priceable = record { ranges = faultless t counts (r .read) .area (ride .area) (r .area); minutes = r .minutes; km = r .km }
 
@@ -143,9 +155,9 @@ module _ {t : List ℕ} {counts : Counts} {b : List ℕ} {ride : Ride} (r : Ride
       le-trans (charge-smallest (is-tree (faultless t counts (r .read)) child) _ _ _ (ride .area) (r .area) _ .most)
       (price-most (areaAt t (ride .area)) ride child priceable)
 
-  pub charges-most : (current : Bool) (i : ℕ) → getD (chargesOf t counts (inWindow current b) ride) i 0 ≤ mostPrice
+  pub charges-most : (i : ℕ) → getD (chargesOf t counts (inWindow current b) ride) i 0 ≤ mostPrice
   unfolding chargesOf eachPerson
-  charges-most current =
+  charges-most =
       let w = inWindow current b in
       let riders : (child : Bool) (first n i : ℕ) → getD (inTurn (riderCharge t counts w ride child) first n) i 0 ≤ mostPrice =
       λ child first n. turn-most _ first n mostPrice (λ i _. rider-charge-most w child (first + i))
@@ -155,5 +167,5 @@ module _ {t : List ℕ} {counts : Counts} {b : List ℕ} {ride : Ride} (r : Ride
       (inTurn (riderCharge t counts w ride true) firstChild (ride .party .children)) mostPrice (riders false 0 _) (riders true firstChild _))
       (turn-most (bicycleOf t counts w ride) 0 (ride .party .bicycles) mostPrice
       (λ i h.
-      let known = cover-known current (sound-has b (counts .areas) (r .sound-book)) (0 + i) (omega (arith, r .bicycles)) in
+      let known = ride-words .covers (0 + i) (omega (arith, r .bicycles)) in
       omega (arith, bicycle-most t counts (ride .area) (r .read) (r .area) (coverWord w (0 + i)) (paidWord w (0 + i)) known)))

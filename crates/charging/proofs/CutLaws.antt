@@ -132,9 +132,9 @@ cut-full c some = named-full (c .named some .one-of-them)
 
 -- Each cut has its ranges.
 pub cuts-in-range :
-    {tariff : List ℕ} {counts : Counts} {book : List ℕ} {ride : Ride} → Rideable tariff counts book ride → (w : List ℕ) (d : Cut) (i : ℕ)
+    {tariff : List ℕ} {counts : Counts} {book : List ℕ} {current : Bool} {ride : Ride} → Rideable tariff counts book current ride → (w : List ℕ) (d : Cut) (i : ℕ)
     → i < length (cutsOf tariff counts w ride) → CutRange (getD (cutsOf tariff counts w ride) i d)
-cuts-in-range {tariff} {counts} {book} {ride} r w d i h =
+cuts-in-range {tariff} {counts} {ride = ride} r w d i h =
     elim (decLt i (1 + ride .party .adults)) [
       | yes adult ↦ subst CutRange (sym (adult-cut-stands tariff counts w ride d i adult)) (fits false i)
       | no child ↦

@@ -26,10 +26,10 @@ use Rattle.trip.specs.declared.Earlier.{Earlier}
 use Rattle.trip.specs.declared.Earlier.the-variants.{Nothing, Part}
 use Rattle.prices.specs.Prices.{priceOf}
 use Rattle.ledger.specs.declared.Window.{Window}
-use Rattle.ledger.specs.Words.{word, tripsOf, pairPlace, secondSum, allSum, coverPlace, coverWord, paidPlace, paidWord}
+use Rattle.ledger.specs.Words.{word, tripsOf, pairPlace, secondSum, allSum, coverPlace, coverWord, paidPlace, paidWord, editionPlace}
 use Rattle.ledger.specs.Windows.{inWindow, opened}
-use Rattle.ledger.proofs.WordLaws.{word-fresh, size-put, put-same}
-use Rattle.ledger.proofs.SoundLaws.{PairSound, SoundBook, sound-has}
+use Rattle.ledger.proofs.WordLaws.{size-put, put-same}
+use Rattle.ledger.proofs.SoundLaws.{PairSound, SoundBook}
 use Rattle.cycles.specs.Bicycles.{newCover, paidWith}
 use Rattle.cycles.specs.Contracts.{EarlierThere, coverAfter, paidAfter}
 use Rattle.charging.specs.declared.Person.{Person}
@@ -58,71 +58,74 @@ use Rattle.charging.specs.Contracts.{
 }
 use Rattle.charging.proofs.Trees.{is-tree, lies-within}
 use Rattle.charging.proofs.SumLaws.{sumOf, counted, sum-by-words}
-use Rattle.charging.proofs.ChargeLaws.{charge-by, name-by, rider-stands, rider-charge-most}
+use Rattle.charging.proofs.ChargeLaws.{charge-by, name-by, rider-stands, ride-words, rider-charge-most}
 use Rattle.charging.proofs.AlikeBooks.{Alike, Touches, charges-alike, cuts-alike, with-alike}
 use Rattle.charging.proofs.PostedLaws.{opened-size, opened-other, added, ownCharge, posted-sum, posted-cover, posted-paid, added-most}
 
 -- ---- In the book or beside it.
 
--- books the same in every word but the window's three
+-- books the same in every word but the window's: the first three and the last
 pub record SameSums (b b′ : List ℕ) : Type 0 where
   pub size : length b′ ≡ length b
-  pub words : (i : ℕ) → 3 ≤ i → word b′ i ≡ word b i
+  pub words : (i : ℕ) → 3 ≤ i → i < editionPlace → word b′ i ≡ word b i
 
-sums-alike : Alike SameSums (λ i. 3 ≤ i)
+sums-alike : Alike SameSums (λ i. (3 ≤ i) × (i < editionPlace))
 sums-alike =
     record {
-      same = λ b b′ s. s .words;
+      same = λ b b′ s i known. s .words i (known .0) (known .1);
       put = λ b b′ s p v.
           record {
             size = size-put b′ p v ∙ s .size ∙ sym (size-put b p v);
-            words = λ i h. put-same b b′ (s .size) p v i (s .words i h);
+            words = λ i low high. put-same b b′ (s .size) p v i (s .words i low high);
           };
     }
 
-touches : (counts : Counts) (ride : Ride) → Touches (λ i. 3 ≤ i) counts ride
-touches counts ride =
+touches :
+    {tariff : List ℕ} {counts : Counts} {book : List ℕ} {current : Bool} {ride : Ride} → Rideable tariff counts book current ride
+    → Touches (λ i. (3 ≤ i) × (i < editionPlace)) counts ride
+touches {tariff} {counts} ok =
+    let few = faultless tariff counts (ok .read) .few-areas in
     record {
-      adults = λ i h a ha. (omega arith, omega arith);
-      children = λ i h a ha. (omega arith, omega arith);
-      bicycles = λ i h. (omega arith, omega arith);
+      adults = λ i h a ha. ((omega arith, omega (arith, ok .adults)), (omega arith, omega (arith, ok .adults)));
+      children = λ i h a ha. ((omega arith, omega (arith, ok .children)), (omega arith, omega (arith, ok .children)));
+      bicycles = λ i h. ((omega arith, omega (arith, ok .bicycles)), (omega arith, omega (arith, ok .bicycles)));
     }
 
 opened-same : (window : Window) (checkout : ℕ) (b : List ℕ) → SameSums (opened window checkout b) b
 opened-same window checkout b =
-    record { size = sym (opened-size window checkout b); words = λ i h. sym (opened-other window checkout b i h) }
+    record { size = sym (opened-size window checkout b); words = λ i low high. sym (opened-other window checkout b i low high) }
 
-module _ {tariff : List ℕ} {counts : Counts} {book : List ℕ} {ride : Ride} (ok : Rideable tariff counts book ride) where
+module _ {tariff : List ℕ} {counts : Counts} {book : List ℕ} {current : Bool} {ride : Ride} (ok : Rideable tariff counts book current ride) where
   -- The book after a ride has the words that the ride leaves beside it.
   pub posted-words :
       (window : Window) (checkout : ℕ)
       → SameSums (posted tariff counts book window checkout ride) (withRide tariff counts (inWindow (window .current) book) ride)
   unfolding posted withRide
   posted-words window checkout =
-      with-alike sums-alike (faultless tariff counts (ok .read)) ride (ok .area) (touches counts ride) _ _ _ (opened-same window checkout _)
+      with-alike sums-alike (faultless tariff counts (ok .read)) ride (ok .area) (touches ok) _ _ _ (opened-same window checkout _)
 
   -- So the next part is charged on the book that has the ride as on the words after it.
   pub charged-behind :
-      (next : Ride) → next .area < counts .areas → (window : Window) (checkout : ℕ)
+      {next : Ride} → Rideable tariff counts book current next → (window : Window) (checkout : ℕ)
       → chargesOf tariff counts (posted tariff counts book window checkout ride) next
       ≡ chargesOf tariff counts (wordsAfter tariff counts (inWindow (window .current) book) (Part ride)) next
-  charged-behind next there window checkout =
-      sym (charges-alike sums-alike (faultless tariff counts (ok .read)) next there (touches counts next) _ _ (posted-words window checkout))
+  charged-behind {next} ok′ window checkout =
+      sym (charges-alike sums-alike (faultless tariff counts (ok .read)) next (ok′ .area) (touches ok′) _ _ (posted-words window checkout))
 
   -- Its cuts are the same on both too.
   pub cut-behind :
-      (next : Ride) → next .area < counts .areas → (window : Window) (checkout : ℕ)
+      {next : Ride} → Rideable tariff counts book current next → (window : Window) (checkout : ℕ)
       → cutsOf tariff counts (posted tariff counts book window checkout ride) next
       ≡ cutsOf tariff counts (wordsAfter tariff counts (inWindow (window .current) book) (Part ride)) next
-  cut-behind next there window checkout =
-      sym (cuts-alike sums-alike (faultless tariff counts (ok .read)) next there (touches counts next) _ _ (posted-words window checkout))
+  cut-behind {next} ok′ window checkout =
+      sym (cuts-alike sums-alike (faultless tariff counts (ok .read)) next (ok′ .area) (touches ok′) _ _ (posted-words window checkout))
 
   -- ---- The words after a ride: each rider's sums with the rider's charge, and each bicycle's new covering area and payments.
 
-  module _ (current : Bool) (room : current ≡ true → tripsOf book ≤ 255) where
+  module _ (room : current ≡ true → tripsOf book ≤ 255) where
     -- any window with these words
     abbrev anyWindow : Window
-    anyWindow = record { current = current; opening = record { 0 = 0 }; trips = 0 }
+    anyWindow = record { current = current; opening = record { 0 = 0 }; trips = 0; edition = 0 }
 
     pub with-sum :
         (which : Bool) (rider x : ℕ) → rider < 21 → x < 32
@@ -130,19 +133,21 @@ module _ {tariff : List ℕ} {counts : Counts} {book : List ℕ} {ride : Ride} (
         ≡ sumOf which (inWindow current book) rider x
         + added which tariff counts ride x (ownCharge ride (chargesOf tariff counts (inWindow current book) ride) rider)
     with-sum which rider x hr hx =
-        sum-by-words which _ _ rider x (λ j low high. posted-words anyWindow 0 .words j (omega arith)) hx
-        ∙ posted-sum ok anyWindow 0 room which rider x hr hx
+        sum-by-words which _ _ rider x (λ j low high. posted-words anyWindow 0 .words j (omega arith) (omega arith)) hx
+        ∙ posted-sum anyWindow ok 0 room which rider x hr hx
 
     pub with-cover :
         (k : ℕ) → k < ride .party .bicycles
         → coverWord (withRide tariff counts (inWindow current book) ride) k ≡ 1 + newCover tariff counts (ride .area) (coverWord (inWindow current book) k)
-    with-cover k h = posted-words anyWindow 0 .words (coverPlace k) (omega arith) ∙ posted-cover ok anyWindow 0 room k h
+    with-cover k h =
+        posted-words anyWindow 0 .words (coverPlace k) (omega arith) (omega (arith, ok .bicycles)) ∙ posted-cover anyWindow ok 0 room k h
 
     pub with-paid :
         (k : ℕ) → k < ride .party .bicycles
         → paidWord (withRide tariff counts (inWindow current book) ride) k
         ≡ paidWith tariff counts (newCover tariff counts (ride .area) (coverWord (inWindow current book) k)) (paidWord (inWindow current book) k)
-    with-paid k h = posted-words anyWindow 0 .words (paidPlace k) (omega arith) ∙ posted-paid ok anyWindow 0 room k h
+    with-paid k h =
+        posted-words anyWindow 0 .words (paidPlace k) (omega arith) (omega (arith, ok .bicycles)) ∙ posted-paid anyWindow ok 0 room k h
 
 -- ---- Pending charges.
 
@@ -155,14 +160,11 @@ module _ {link : Link} {w : List ℕ} {rider paid place more : ℕ} (fits : Fits
   pub all-whole : {all : ℕ} → all ≡ word w (place + 1) → all + more < 2 ^ 32
   all-whole e = rw (e, is, lack) (fits .all)
 
--- the sums of a sound book, and of a new window, are what 256 trips can have left
-sums-most :
-    (current : Bool) {book : List ℕ} {areas : ℕ} → SoundBook book areas → (rider x : ℕ) → rider < 21 → x < 32
-    → PairSound (inWindow current book) (256 * mostPrice) rider x
-sums-most true s rider x hr hx =
+-- the sums of sound words are what 256 trips can have left
+sums-most : {w : List ℕ} {areas : ℕ} → SoundBook w areas → (rider x : ℕ) → rider < 21 → x < 32 → PairSound w (256 * mostPrice) rider x
+sums-most s rider x hr hx =
     let pair = s .pairs rider x hr hx in
     (pair .0, omega (arith, pair .1, mul-le-mul-right mostPrice (s .trips)))
-sums-most false s rider x hr hx = (omega (arith, word-fresh (pairPlace rider x)), omega (arith, word-fresh (pairPlace rider x + 1)))
 
 module _ (tariff : List ℕ) (counts : Counts) (book : List ℕ) (current : Bool) (ride : Ride) where
   -- the words that count
@@ -178,14 +180,14 @@ module _ (tariff : List ℕ) (counts : Counts) (book : List ℕ) (current : Bool
       → coverAfter tariff counts earlier (coverWord counting k) ≡ coverWord (wordsAfter tariff counts counting earlier) k
   unfolding coverAfter
   cover-by Nothing right k h = refl
-  cover-by (Part before) right k h = sym (with-cover (right .rideable) current (right .room) k (rw (right .party) h))
+  cover-by (Part before) right k h = sym (with-cover (right .rideable) (right .room) k (rw (right .party) h))
 
   paid-by :
       (earlier : Earlier) → EarlierRight tariff counts book current ride earlier → (k : ℕ) → k < ride .party .bicycles
       → paidAfter tariff counts earlier (coverWord counting k) (paidWord counting k) ≡ paidWord (wordsAfter tariff counts counting earlier) k
   unfolding paidAfter
   paid-by Nothing right k h = refl
-  paid-by (Part before) right k h = sym (with-paid (right .rideable) current (right .room) k (rw (right .party) h))
+  paid-by (Part before) right k h = sym (with-paid (right .rideable) (right .room) k (rw (right .party) h))
 
   module _ (rider : ℕ) (on : carries (ride .party) rider ≡ true) (child : Bool) (alike : isChild rider ≡ child) where
     -- a carried rider's own charge for an earlier part is what the rider paid for it
@@ -216,7 +218,7 @@ module _ (tariff : List ℕ) (counts : Counts) (book : List ℕ) (current : Bool
     unfolding pendingIn paidEarlier
     sums-by Nothing right which counts-in x hr hx = add-zero _
     sums-by (Part before) right which counts-in x hr hx =
-        sym (with-sum (right .rideable) current (right .room) which rider x hr hx
+        sym (with-sum (right .rideable) (right .room) which rider x hr hx
         ∙ rw (
           own-is before right,
           right .class,
@@ -271,7 +273,7 @@ module _ {tariff : List ℕ} {counts : Counts} {book : List ℕ} {current : Bool
   -- Each sum with what it lacks fits its word.
   link-fits : (area : ℕ) → area < 32 → FitsAt (linkOf tariff counts area child earlier) (inWindow current book) rider paid
   link-fits area small =
-      let most = sums-most current (sound-has book (counts .areas) (r .rideable .sound-book)) rider area known small in
+      let most = sums-most (ride-words (r .rideable)) rider area known small in
       let lack = lacking-by tariff counts book current ride rider on child alike earlier (r .before) area in
       record {
         place = small;

@@ -4,7 +4,7 @@
 use Prim.Native.Nat.{ℕ, _-_, _≤_, _<_}
 use native.Mathlib.Omega.{arith}
 use mathlib.Core.Path.{_≡_}
-use mathlib.Core.Bool.{true}
+use mathlib.Core.Bool.{Bool, true}
 use mathlib.Core.List.{List}
 use Rattle.units.specs.Day.{dayMinutes}
 use Rattle.layout.specs.declared.Counts.{Counts}
@@ -21,23 +21,24 @@ use Rattle.fare.proofs.Stops.{ride-there}
 use Rattle.fare.proofs.Breaks.{broken-between}
 use Rattle.fare.proofs.PartLaws.{each-ride}
 use Rattle.fare.proofs.GoodTrips.{riding}
-use Rattle.ledger.specs.Sound.{sound}
+use Rattle.ledger.specs.Sound.{coversSound, soundAlone}
 use Rattle.charging.specs.Contracts.{Rideable}
 
--- Of a good trip, on a sound book:
-module _ (tariff : List ℕ) (counts : Counts) (book bytes : List ℕ) (read : Read tariff counts) (right : sound book (counts .areas) ≡ true)
-    (good : GoodTrip bytes (counts .stops)) where
+-- Of a good trip, on a book that is sound by itself, and in the open window within the tariff's areas:
+module _ (tariff : List ℕ) (counts : Counts) (book : List ℕ) (current : Bool) (bytes : List ℕ) (read : Read tariff counts)
+    (alone : soundAlone book ≡ true) (covers : current ≡ true → coversSound book (counts .areas) ≡ true) (good : GoodTrip bytes (counts .stops)) where
   -- the ride from one of its stops to another
   pub good-between :
       (first last minutes : ℕ) → first ≤ last → last < countAt bytes 0 → minutes ≤ dayMinutes
-      → Rideable tariff counts book (rideBetween tariff counts bytes (tripOf bytes) first last minutes)
+      → Rideable tariff counts book current (rideBetween tariff counts bytes (tripOf bytes) first last minutes)
   unfolding rideBetween
   good-between first last minutes order inside short =
       let fields = good-fields good in
       let is = ride-there (tripOf bytes) (riding read good) first last minutes order inside short in
       record {
         read = read;
-        sound-book = right;
+        alone = alone;
+        covers = covers;
         area = is .there;
         km = is .km;
         minutes = short;
@@ -47,20 +48,20 @@ module _ (tariff : List ℕ) (counts : Counts) (book bytes : List ℕ) (read : R
       }
 
   -- the whole of it
-  pub good-ride : Rideable tariff counts book (rideOf tariff counts bytes (tripOf bytes))
+  pub good-ride : Rideable tariff counts book current (rideOf tariff counts bytes (tripOf bytes))
   unfolding rideOf
   good-ride =
       let fields = good-fields good in
       good-between 0 (countAt bytes 0 - 1) _ (omega arith) (omega (arith, fields .ranges .least)) (omega (arith, fields .short))
 
   -- both parts, where it is broken
-  pub good-first : (c : ℕ) → breakOf tariff counts bytes (countAt bytes 0) ≡ At c → Rideable tariff counts book (firstPart tariff counts bytes (tripOf bytes) c)
+  pub good-first : (c : ℕ) → breakOf tariff counts bytes (countAt bytes 0) ≡ At c → Rideable tariff counts book current (firstPart tariff counts bytes (tripOf bytes) c)
   unfolding firstPart
   good-first c broken =
       let fields = good-fields good in
       good-between 0 c _ (omega arith) (omega (arith, broken-between (riding read good) c broken .1)) (omega (arith, fields .short))
 
-  pub good-second : (c : ℕ) → breakOf tariff counts bytes (countAt bytes 0) ≡ At c → Rideable tariff counts book (secondPart tariff counts bytes (tripOf bytes) c)
+  pub good-second : (c : ℕ) → breakOf tariff counts bytes (countAt bytes 0) ≡ At c → Rideable tariff counts book current (secondPart tariff counts bytes (tripOf bytes) c)
   unfolding secondPart
   good-second c broken =
       let fields = good-fields good in
@@ -68,7 +69,7 @@ module _ (tariff : List ℕ) (counts : Counts) (book bytes : List ℕ) (read : R
       good-between c (countAt bytes 0 - 1) 0 (omega arith) (omega (arith, fields .ranges .least)) (omega arith)
 
   -- so each of its rides
-  pub good-rides : EachRide (Rideable tariff counts book) (ridesOf tariff counts bytes (tripOf bytes))
+  pub good-rides : EachRide (Rideable tariff counts book current) (ridesOf tariff counts bytes (tripOf bytes))
   good-rides =
-      each-ride tariff counts bytes (tripOf bytes) (Rideable tariff counts book) (λ unbroken. good-ride)
+      each-ride tariff counts bytes (tripOf bytes) (Rideable tariff counts book current) (λ unbroken. good-ride)
       (λ c broken. (good-first c broken, good-second c broken))

@@ -1,4 +1,4 @@
--- What a ride leaves in the book, word by word: the window's three words, the riders' sums with their charges, the bicycles' covering
+-- What a ride leaves in the book, word by word: the window's four words, the riders' sums with their charges, the bicycles' covering
 -- areas and payments, and every other word as it was.
 -- Assumes nothing.
 use Prim.Native.Nat.{ℕ, _+_, _-_, _*_, _^_, _≤_, _<_}
@@ -33,11 +33,12 @@ use Rattle.ledger.specs.Words.{
   coverWord,
   paidPlace,
   paidWord,
+  editionPlace,
+  editionOf,
 }
 use Rattle.ledger.specs.Sound.{mostPaid}
 use Rattle.ledger.specs.Windows.{inWindow, opened}
 use Rattle.ledger.proofs.WordLaws.{word-put-same, word-put-other, size-put}
-use Rattle.ledger.proofs.SoundLaws.{sound-has}
 use Rattle.ledger.proofs.Counting.{counting, Counting}
 use Rattle.cycles.specs.Bicycles.{newCover, paidWith, coverBicycles}
 use Rattle.cycles.proofs.BicycleLaws.{cover-there, paid-with-most}
@@ -47,17 +48,20 @@ use Rattle.charging.specs.Charging.{carries, placeOf, chargesOf}
 use Rattle.charging.specs.Contracts.{Rideable}
 use Rattle.charging.specs.After.{addList, posted}
 use Rattle.charging.proofs.Trees.{is-tree}
-use Rattle.charging.proofs.ChargeLaws.{charges-most}
+use Rattle.charging.proofs.ChargeLaws.{ride-words, charges-most}
 use Rattle.charging.proofs.SumLaws.{sumOf, counted, Fits, sum-by-words, list-size, list-other, list-riders, list-sum}
 
 -- ---- The window's words.
 
--- the book with the first of them put, and with the first two
+-- the book with the first of them put, with the first two and with the first three
 abbrev oneIn : Window → List ℕ → List ℕ
 oneIn window b = putWord b 0 (window .trips + 1)
 
 abbrev twoIn : Window → List ℕ → List ℕ
 twoIn window b = putWord (oneIn window b) 1 (window .opening .0)
+
+abbrev threeIn : Window → ℕ → List ℕ → List ℕ
+threeIn window checkout b = putWord (twoIn window b) 2 checkout
 
 module _ (window : Window) (checkout : ℕ) (b : List ℕ) where
   one-size : length (oneIn window b) ≡ length b
@@ -66,10 +70,13 @@ module _ (window : Window) (checkout : ℕ) (b : List ℕ) where
   two-size : length (twoIn window b) ≡ length b
   two-size = size-put (oneIn window b) 1 (window .opening .0) ∙ one-size
 
+  three-size : length (threeIn window checkout b) ≡ length b
+  three-size = size-put (twoIn window b) 2 checkout ∙ two-size
+
   -- Opening leaves the book as long as it was.
   pub opened-size : length (opened window checkout b) ≡ length b
   unfolding opened
-  opened-size = size-put (twoIn window b) 2 checkout ∙ two-size
+  opened-size = size-put (threeIn window checkout b) editionPlace (window .edition) ∙ three-size
 
   one-other : (j : ℕ) → 1 ≤ j → word (oneIn window b) j ≡ word b j
   one-other j h = word-put-other b 0 j (window .trips + 1) (λ e. omega arith)
@@ -77,30 +84,37 @@ module _ (window : Window) (checkout : ℕ) (b : List ℕ) where
   two-other : (j : ℕ) → (1 ≡ j → ⊥) → word (twoIn window b) j ≡ word (oneIn window b) j
   two-other j h = word-put-other (oneIn window b) 1 j (window .opening .0) h
 
-  out-other : (j : ℕ) → (2 ≡ j → ⊥) → word (opened window checkout b) j ≡ word (twoIn window b) j
-  unfolding opened
+  out-other : (j : ℕ) → (2 ≡ j → ⊥) → word (threeIn window checkout b) j ≡ word (twoIn window b) j
   out-other j h = word-put-other (twoIn window b) 2 j checkout h
 
-  -- Every word but the first three stays.
-  pub opened-other : (j : ℕ) → 3 ≤ j → word (opened window checkout b) j ≡ word b j
-  opened-other j h = out-other j (λ e. omega arith) ∙ two-other j (λ e. omega arith) ∙ one-other j (omega arith)
+  edition-other : (j : ℕ) → j < editionPlace → word (opened window checkout b) j ≡ word (threeIn window checkout b) j
+  unfolding opened
+  edition-other j h = word-put-other (threeIn window checkout b) editionPlace j (window .edition) (λ e. omega arith)
+
+  -- Every word but the first three and the last stays.
+  pub opened-other : (j : ℕ) → 3 ≤ j → j < editionPlace → word (opened window checkout b) j ≡ word b j
+  opened-other j h h′ = edition-other j h′ ∙ out-other j (λ e. omega arith) ∙ two-other j (λ e. omega arith) ∙ one-other j (omega arith)
 
   -- So every sum does.
-  pub opened-sum : (which : Bool) (rider x : ℕ) → x < 32 → sumOf which (opened window checkout b) rider x ≡ sumOf which b rider x
-  opened-sum which rider x hx = sum-by-words which _ b rider x (λ j low high. opened-other j (omega arith)) hx
+  pub opened-sum : (which : Bool) (rider x : ℕ) → rider < 21 → x < 32 → sumOf which (opened window checkout b) rider x ≡ sumOf which b rider x
+  opened-sum which rider x hr hx = sum-by-words which _ b rider x (λ j low high. opened-other j (omega arith) (omega arith)) hx
 
-  -- Word 0 is the window's trips with this one, word 1 its opening, word 2 the check-out.
+  -- Word 0 is the window's trips with this one, word 1 its opening, word 2 the check-out, and the last its edition.
   pub opened-trips : length b ≡ bookSize → window .trips < 2 ^ 31 → tripsOf (opened window checkout b) ≡ window .trips + 1
   opened-trips size small =
-      out-other 0 (λ e. omega arith) ∙ two-other 0 (λ e. omega arith) ∙ word-put-same b 0 (window .trips + 1) size (omega arith) (omega arith)
+      edition-other 0 (omega arith) ∙ out-other 0 (λ e. omega arith) ∙ two-other 0 (λ e. omega arith) ∙ word-put-same b 0 (window .trips + 1) size (omega arith) (omega arith)
 
   pub opened-opening : length b ≡ bookSize → window .opening .0 < 2 ^ 32 → openingOf (opened window checkout b) ≡ window .opening .0
   opened-opening size small =
-      out-other 1 (λ e. omega arith) ∙ word-put-same (oneIn window b) 1 (window .opening .0) (one-size ∙ size) (omega arith) small
+      edition-other 1 (omega arith) ∙ out-other 1 (λ e. omega arith) ∙ word-put-same (oneIn window b) 1 (window .opening .0) (one-size ∙ size) (omega arith) small
 
   pub opened-out : length b ≡ bookSize → checkout < 2 ^ 32 → lastOutOf (opened window checkout b) ≡ checkout
+  opened-out size small = edition-other 2 (omega arith) ∙ word-put-same (twoIn window b) 2 checkout (two-size ∙ size) (omega arith) small
+
+  pub opened-edition : length b ≡ bookSize → window .edition < 2 ^ 32 → editionOf (opened window checkout b) ≡ window .edition
   unfolding opened
-  opened-out size small = word-put-same (twoIn window b) 2 checkout (two-size ∙ size) (omega arith) small
+  opened-edition size small =
+      word-put-same (threeIn window checkout b) editionPlace (window .edition) (three-size ∙ size) (omega arith) small
 
 -- A rider's sums have room for one charge more.
 pub counting-room :
@@ -179,10 +193,10 @@ module _ (ride : Ride) (charges : List ℕ) where
 
 -- In a ride no rider's own charge is more than the most that a price is.
 pub own-range :
-    {tariff : List ℕ} {counts : Counts} {book : List ℕ} {ride : Ride} → Rideable tariff counts book ride → (window : Window) (rider : ℕ)
+    {tariff : List ℕ} {counts : Counts} {book : List ℕ} {ride : Ride} (window : Window) → Rideable tariff counts book (window .current) ride → (rider : ℕ)
     → ownCharge ride (chargesIn tariff counts book window ride) rider ≤ mostPrice
-own-range {tariff} {counts} {book} {ride} ok window =
-    own-most ride (chargesIn tariff counts book window ride) mostPrice (ok .adults) (charges-most ok (window .current))
+own-range {tariff} {counts} {book} {ride} window ok =
+    own-most ride (chargesIn tariff counts book window ride) mostPrice (ok .adults) (charges-most ok)
 
 -- the book with the window's words put and the adults' charges added, and with the children's too
 abbrev adultsIn : List ℕ → Counts → List ℕ → Window → ℕ → Ride → List ℕ
@@ -200,13 +214,13 @@ posted-is :
 unfolding posted
 posted-is tariff counts book window checkout ride = refl
 
-module _ {tariff : List ℕ} {counts : Counts} {book : List ℕ} {ride : Ride} (ok : Rideable tariff counts book ride) (window : Window)
+module _ {tariff : List ℕ} {counts : Counts} {book : List ℕ} {ride : Ride} (window : Window) (ok : Rideable tariff counts book (window .current) ride)
     (checkout : ℕ) (room : window .current ≡ true → tripsOf book ≤ 255) where
   t : FaultlessTariff tariff counts
   t = faultless tariff counts (ok .read)
 
   c : Counting (wordsIn window book) (counts .areas) (cond (window .current) (tripsOf book) 0)
-  c = counting (window .current) (sound-has book (counts .areas) (ok .sound-book)) room
+  c = counting (window .current) book (ride-words ok) room
 
   opened-sized : length (opened window checkout (wordsIn window book)) ≡ bookSize
   opened-sized = opened-size window checkout (wordsIn window book) ∙ c .size
@@ -247,7 +261,14 @@ module _ {tariff : List ℕ} {counts : Counts} {book : List ℕ} {ride : Ride} (
       (λ i hi. (λ e. omega arith, λ e. omega arith))
       ∙ riders-other j (inl h))
 
-  -- Word 0 is the window's trips with this one, word 1 its opening, word 2 the check-out.
+  last-word : editionOf (posted tariff counts book window checkout ride) ≡ editionOf (opened window checkout (wordsIn window book))
+  last-word =
+      rw posted-is
+      (cover-other tariff counts (ride .area) (ride .party .bicycles) (ridersIn tariff counts book window checkout ride) editionPlace
+      (λ i hi. (λ e. omega (arith, ok .bicycles), λ e. omega (arith, ok .bicycles)))
+      ∙ riders-other editionPlace (inr (omega arith)))
+
+  -- Word 0 is the window's trips with this one, word 1 its opening, word 2 the check-out, and the last its edition.
   pub posted-trips : window .trips < 2 ^ 31 → tripsOf (posted tariff counts book window checkout ride) ≡ window .trips + 1
   posted-trips small = head-word 0 (omega arith) ∙ opened-trips window checkout (wordsIn window book) (c .size) small
 
@@ -257,20 +278,23 @@ module _ {tariff : List ℕ} {counts : Counts} {book : List ℕ} {ride : Ride} (
   pub posted-out : checkout < 2 ^ 32 → lastOutOf (posted tariff counts book window checkout ride) ≡ checkout
   posted-out small = head-word 2 (omega arith) ∙ opened-out window checkout (wordsIn window book) (c .size) small
 
-  riders-cover : (k : ℕ) → coverWord (ridersIn tariff counts book window checkout ride) k ≡ coverWord (wordsIn window book) k
-  riders-cover k =
-      riders-other (coverPlace k) (inr (omega arith)) ∙ opened-other window checkout (wordsIn window book) (coverPlace k) (omega arith)
+  pub posted-edition : window .edition < 2 ^ 32 → editionOf (posted tariff counts book window checkout ride) ≡ window .edition
+  posted-edition small = last-word ∙ opened-edition window checkout (wordsIn window book) (c .size) small
 
-  riders-paid : (k : ℕ) → paidWord (ridersIn tariff counts book window checkout ride) k ≡ paidWord (wordsIn window book) k
-  riders-paid k =
-      riders-other (paidPlace k) (inr (omega arith)) ∙ opened-other window checkout (wordsIn window book) (paidPlace k) (omega arith)
+  riders-cover : (k : ℕ) → k < 10 → coverWord (ridersIn tariff counts book window checkout ride) k ≡ coverWord (wordsIn window book) k
+  riders-cover k few =
+      riders-other (coverPlace k) (inr (omega arith)) ∙ opened-other window checkout (wordsIn window book) (coverPlace k) (omega arith) (omega arith)
+
+  riders-paid : (k : ℕ) → k < 10 → paidWord (ridersIn tariff counts book window checkout ride) k ≡ paidWord (wordsIn window book) k
+  riders-paid k few =
+      riders-other (paidPlace k) (inr (omega arith)) ∙ opened-other window checkout (wordsIn window book) (paidPlace k) (omega arith) (omega arith)
 
   -- the bicycles' words before they are covered are in their ranges
   riders-covers : (i : ℕ) → i < ride .party .bicycles → coverWord (ridersIn tariff counts book window checkout ride) i ≤ counts .areas
-  riders-covers i h = rw (riders-cover i) (c .covers i (omega (arith, ok .bicycles)))
+  riders-covers i h = let few : i < 10 = omega (arith, ok .bicycles) in rw (riders-cover i few) (c .covers i few)
 
   riders-payments : (i : ℕ) → i < ride .party .bicycles → paidWord (ridersIn tariff counts book window checkout ride) i ≤ mostPaid
-  riders-payments i h = rw (riders-paid i) (c .payments i (omega (arith, ok .bicycles)))
+  riders-payments i h = let few : i < 10 = omega (arith, ok .bicycles) in rw (riders-paid i few) (c .payments i few)
 
   -- Each bicycle carried has its new covering area, and the others keep theirs.
   pub posted-cover :
@@ -280,7 +304,7 @@ module _ {tariff : List ℕ} {counts : Counts} {book : List ℕ} {ride : Ride} (
       rw posted-is
       (cover-new t (ride .area) (ok .area) (ride .party .bicycles) (ridersIn tariff counts book window checkout ride) riders-size (ok .bicycles)
       riders-covers k h
-      ∙ ap (λ (old : ℕ). 1 + newCover tariff counts (ride .area) old) (riders-cover k))
+      ∙ ap (λ (old : ℕ). 1 + newCover tariff counts (ride .area) old) (riders-cover k (omega (arith, ok .bicycles))))
 
   pub posted-uncovered :
       (k : ℕ) → ride .party .bicycles ≤ k → k < 10 → coverWord (posted tariff counts book window checkout ride) k ≡ coverWord (wordsIn window book) k
@@ -288,7 +312,7 @@ module _ {tariff : List ℕ} {counts : Counts} {book : List ℕ} {ride : Ride} (
       rw posted-is
       (cover-other tariff counts (ride .area) (ride .party .bicycles) (ridersIn tariff counts book window checkout ride) (coverPlace k)
       (λ i hi. (λ e. omega arith, λ e. omega arith))
-      ∙ riders-cover k)
+      ∙ riders-cover k few)
 
   -- It has its payments with what it pays per trip, and the others keep theirs.
   pub posted-paid :
@@ -299,15 +323,15 @@ module _ {tariff : List ℕ} {counts : Counts} {book : List ℕ} {ride : Ride} (
       rw posted-is
       (paid-new t (ride .area) (ok .area) (ride .party .bicycles) (ridersIn tariff counts book window checkout ride) riders-size (ok .bicycles)
       riders-covers riders-payments k h
-      ∙ rw (riders-cover k, riders-paid k))
+      ∙ rw (riders-cover k (omega (arith, ok .bicycles)), riders-paid k (omega (arith, ok .bicycles))))
 
   pub posted-unpaid :
-      (k : ℕ) → ride .party .bicycles ≤ k → paidWord (posted tariff counts book window checkout ride) k ≡ paidWord (wordsIn window book) k
-  posted-unpaid k h =
+      (k : ℕ) → ride .party .bicycles ≤ k → k < 10 → paidWord (posted tariff counts book window checkout ride) k ≡ paidWord (wordsIn window book) k
+  posted-unpaid k h few =
       rw posted-is
       (cover-other tariff counts (ride .area) (ride .party .bicycles) (ridersIn tariff counts book window checkout ride) (paidPlace k)
       (λ i hi. (λ e. omega (arith, ok .bicycles), λ e. omega arith))
-      ∙ riders-paid k)
+      ∙ riders-paid k few)
 
   -- So each bicycle's covering area is one of the tariff's.
   pub posted-covers : (k : ℕ) → k < 10 → coverWord (posted tariff counts book window checkout ride) k ≤ counts .areas
@@ -325,7 +349,7 @@ module _ {tariff : List ℕ} {counts : Counts} {book : List ℕ} {ride : Ride} (
         | yes on ↦
             rw (posted-paid k on)
             (paid-with-most t _ (cover-there t (ride .area) (coverWord (wordsIn window book) k) (ok .area) (c .covers k h)) _ (c .payments k h))
-        | no off ↦ omega (arith, posted-unpaid k (omega arith), c .payments k h)
+        | no off ↦ omega (arith, posted-unpaid k (omega arith) h, c .payments k h)
       ]
 
   -- the bicycles change no sum
@@ -348,12 +372,12 @@ module _ {tariff : List ℕ} {counts : Counts} {book : List ℕ} {ride : Ride} (
 
   -- and the adults' none past theirs
   adults-riders :
-      (which : Bool) (rider x : ℕ) → 1 + ride .party .adults ≤ rider → x < 32
+      (which : Bool) (rider x : ℕ) → rider < 21 → 1 + ride .party .adults ≤ rider → x < 32
       → sumOf which (adultsIn tariff counts book window checkout ride) rider x ≡ sumOf which (wordsIn window book) rider x
-  adults-riders which rider x past hx =
+  adults-riders which rider x hr past hx =
       list-riders t (ride .class) (ride .area) (ok .area) 0 (chargesIn tariff counts book window ride) 0 which (1 + ride .party .adults)
       (opened window checkout (wordsIn window book)) (omega (arith, ok .adults)) rider x (inr (omega arith)) hx
-      ∙ opened-sum window checkout (wordsIn window book) which rider x hx
+      ∙ opened-sum window checkout (wordsIn window book) which rider x hr hx
 
   -- The sums of a rider who is not carried are those of the words that count.
   posted-none :
@@ -362,7 +386,7 @@ module _ {tariff : List ℕ} {counts : Counts} {book : List ℕ} {ride : Ride} (
   posted-none which rider x hr out hx =
       posted-riders which rider x hr hx
       ∙ riders-adults which rider x (⊎-elim (λ h. inl (h .1)) inr out) hx
-      ∙ adults-riders which rider x (⊎-elim (λ h. h .0) (λ h. omega (arith, ok .adults)) out) hx
+      ∙ adults-riders which rider x hr (⊎-elim (λ h. h .0) (λ h. omega (arith, ok .adults)) out) hx
 
   -- The account holder's and each adult's sums are those with the rider's charge added.
   posted-adult :
@@ -375,11 +399,11 @@ module _ {tariff : List ℕ} {counts : Counts} {book : List ℕ} {ride : Ride} (
       (list-sum t (ride .class) (ride .area) (ok .area) 0 (chargesIn tariff counts book window ride) 0 which (1 + ride .party .adults)
       (opened window checkout (wordsIn window book)) opened-sized (omega (arith, ok .adults))
       (λ i hi y hy which′.
-      rw (zero-add i, opened-sum window checkout (wordsIn window book) which′ i y hy)
-      (counting-room c i (getD (chargesIn tariff counts book window ride) i 0) (omega (arith, ok .adults)) (charges-most ok (window .current) i) y hy which′))
+      rw (zero-add i, opened-sum window checkout (wordsIn window book) which′ i y (omega (arith, ok .adults)) hy)
+      (counting-room c i (getD (chargesIn tariff counts book window ride) i 0) (omega (arith, ok .adults)) (charges-most ok i) y hy which′))
       rider h x hx)
       ∙ ap (_+ added which tariff counts ride x (getD (chargesIn tariff counts book window ride) rider 0))
-      (opened-sum window checkout (wordsIn window book) which rider x hx)
+      (opened-sum window checkout (wordsIn window book) which rider x (omega (arith, ok .adults)) hx)
 
   -- So are each child's.
   posted-child :
@@ -392,12 +416,12 @@ module _ {tariff : List ℕ} {counts : Counts} {book : List ℕ} {ride : Ride} (
       ∙ list-sum t (ride .class) (ride .area) (ok .area) firstChild (chargesIn tariff counts book window ride) (1 + ride .party .adults) which (ride .party .children)
       (adultsIn tariff counts book window checkout ride) adults-size (omega (arith, ok .children))
       (λ k hk y hy which′.
-      rw (adults-riders which′ (firstChild + k) y (omega (arith, ok .adults)) hy)
+      rw (adults-riders which′ (firstChild + k) y (omega (arith, ok .children)) (omega (arith, ok .adults)) hy)
       (counting-room c (firstChild + k) (getD (chargesIn tariff counts book window ride) (1 + ride .party .adults + k) 0) (omega (arith, ok .children))
-      (charges-most ok (window .current) (1 + ride .party .adults + k)) y hy which′))
+      (charges-most ok (1 + ride .party .adults + k)) y hy which′))
       i h x hx
       ∙ ap (_+ added which tariff counts ride x (getD (chargesIn tariff counts book window ride) (1 + ride .party .adults + i) 0))
-      (adults-riders which (firstChild + i) x (omega (arith, ok .adults)) hx)
+      (adults-riders which (firstChild + i) x (omega (arith, ok .children)) (omega (arith, ok .adults)) hx)
 
   -- Every rider's sums grow by the rider's own charge in each area that the ride's area lies within, and in no other.
   pub posted-sum :

@@ -76,7 +76,8 @@ use Rattle.charging.proofs.EarlierLaws.{rider-fits, rider-after}
 -- ---- A ride's record can tell it.
 
 -- A ride's fields fit their widths.
-pub ride-fits : {tariff : List ℕ} {counts : Counts} {book : List ℕ} {ride : Ride} → Rideable tariff counts book ride → RideFits ride
+pub ride-fits :
+    {tariff : List ℕ} {counts : Counts} {book : List ℕ} {current : Bool} {ride : Ride} → Rideable tariff counts book current ride → RideFits ride
 ride-fits {tariff} {counts} ok =
     let few = faultless tariff counts (ok .read) .few-areas in
     record {
@@ -98,14 +99,14 @@ part-complete tariff counts book window earlier ride =
 
 -- The fields of its record hold what it says.
 pub can-record :
-    {tariff : List ℕ} {counts : Counts} {book : List ℕ} {ride : Ride} → Rideable tariff counts book ride → (window : Window)
+    {tariff : List ℕ} {counts : Counts} {book : List ℕ} {ride : Ride} (window : Window) → Rideable tariff counts book (window .current) ride
     → window .opening .0 < 2 ^ 32 → Recordable (partAfter tariff counts book window Nothing ride)
-can-record {tariff} {counts} {book} {ride} ok window fits =
+can-record {tariff} {counts} {book} {ride} window ok fits =
     record {
       opening = fits;
       ride = ride-fits ok;
       complete = part-complete tariff counts book window Nothing ride;
-      charges = λ i. omega (arith, charges-most ok (window .current) i);
+      charges = λ i. omega (arith, charges-most ok i);
       cuts =
           λ i h.
           let range = cuts-in-range ok (inWindow (window .current) book) uncut i h in
@@ -373,7 +374,7 @@ group-paid tariff counts book window ride (Part before) {s = s} {s′} {place} {
           let there : from + i < personsOf (before .party) = rw (right .party) (omega arith) in
           read-before wrote 4 (next + personSize * i - size) (omega arith)
           ∙ ap (getLe 4 s) at
-          ∙ person-is _ s (place - size) (stands .1) (can-record (right .rideable) window fits) (from + i) there
+          ∙ person-is _ s (place - size) (stands .1) (can-record window (right .rideable) fits) (from + i) there
           ∙ group-charges tariff counts (inWindow (window .current) book) ride before (right .party) k i h,
     )
 

@@ -23,7 +23,7 @@ use Rattle.statement.specs.Record.{personSize, personsOf, recordSize, chargeByt
 use Rattle.statement.specs.Contracts.{Wrote, StandsAt}
 use Rattle.ledger.specs.declared.Window.{Window}
 use Rattle.ledger.specs.Words.{tripsOf, secondSum, allSum}
-use Rattle.ledger.specs.Sound.{sound}
+use Rattle.ledger.specs.Sound.{coversSound, soundAlone}
 use Rattle.ledger.specs.Windows.{inWindow}
 use Rattle.charging.specs.declared.Riders.{Riders}
 use Rattle.charging.specs.declared.Person.{Person}
@@ -34,10 +34,12 @@ use Rattle.charging.specs.Charging.{isChild, carries, riderCharge, bicyc
 use Rattle.charging.specs.Cuts.{riderCut, cutsOf}
 use Rattle.charging.specs.After.{wordsAfter}
 
--- a ride of a faultless tariff, with its party in the ranges of 6, and a sound book
-pub record Rideable (tariff : List ℕ) (counts : Counts) (book : List ℕ) (ride : Ride) : Type 0 where
+-- a ride of a faultless tariff, with its party in the ranges of 6, and a book that is sound by itself. In the open window its bicycle words are
+-- within the tariff's areas; in the next they do not count, and the old window may have been another edition's
+pub record Rideable (tariff : List ℕ) (counts : Counts) (book : List ℕ) (current : Bool) (ride : Ride) : Type 0 where
   pub read : Read tariff counts
-  pub sound-book : sound book (counts .areas) ≡ true
+  pub alone : soundAlone book ≡ true
+  pub covers : current ≡ true → coversSound book (counts .areas) ≡ true
   pub area : ride .area < counts .areas
   pub km : ride .km .0 ≤ mostKm
   pub minutes : ride .minutes .0 ≤ dayMinutes
@@ -47,7 +49,7 @@ pub record Rideable (tariff : List ℕ) (counts : Counts) (book : List ℕ) (rid
 
 -- a part that goes before a ride of the same trip, in its class and for its party; the window has room for it
 pub record PartBefore (tariff : List ℕ) (counts : Counts) (book : List ℕ) (current : Bool) (ride before : Ride) : Type 0 where
-  pub rideable : Rideable tariff counts book before
+  pub rideable : Rideable tariff counts book current before
   pub room : current ≡ true → tripsOf book ≤ 255
   pub class : before .class ≡ ride .class
   pub party : before .party ≡ ride .party
@@ -59,7 +61,7 @@ EarlierRight tariff counts book current ride (Part before) = PartBefore tariff c
 
 -- a ride with what goes before it
 pub record Ridden (tariff : List ℕ) (counts : Counts) (book : List ℕ) (current : Bool) (ride : Ride) (earlier : Earlier) : Type 0 where
-  pub rideable : Rideable tariff counts book ride
+  pub rideable : Rideable tariff counts book current ride
   pub before : EarlierRight tariff counts book current ride earlier
 
 -- an area's sums lack an earlier part's charges where the part's area lies within it

@@ -15,18 +15,19 @@ use Rattle.trip.proofs.Shapes.{Filling, fills}
 use Rattle.fare.specs.declared.Breaking.{Breaking}
 use Rattle.fare.specs.Parts.{breakOf, ridesOf}
 use Rattle.ledger.specs.declared.Window.{Window}
-use Rattle.ledger.specs.Windows.{windowOf}
+use Rattle.editions.specs.declared.Editions.{Editions}
 use Rattle.statement.specs.Record.{statementSize}
 use Rattle.deciding.specs.declared.groups.Fields.{Fields}
 use Rattle.deciding.specs.declared.groups.Span.{Span}
 use Rattle.deciding.specs.declared.groups.Formed.the-variants as formed
 use Rattle.deciding.specs.declared.groups.Placed.the-variants as placed
 use Rattle.deciding.specs.declared.groups.Timed.the-variants as timed
+use Rattle.deciding.specs.declared.groups.Opened.the-variants as opened
 use Rattle.deciding.specs.declared.groups.Roomed.the-variants as roomed
 use Rattle.deciding.specs.declared.refusals.Refusal.{Refusal}
 use Rattle.deciding.specs.declared.refusals.Refusal.the-variants.{NoTrip, WrongParty, NoRoom}
-use Rattle.deciding.specs.Refusals.{row, tripRows, tariffRows, clockRows, roomRows, nothing, found, firstOf, testOf}
-use Rattle.deciding.specs.Deciding.{fieldsOf, spanOf, formedBy, placedBy, timedBy, roomRowsBy, roomedBy}
+use Rattle.deciding.specs.Refusals.{row, tripRows, clockRows, editionRows, tariffRows, roomRows, nothing, found, firstOf, testOf}
+use Rattle.deciding.specs.Deciding.{fieldsOf, spanOf, formedBy, placedBy, timedBy, windowOver, openedBy, roomRowsBy, roomedBy}
 use Rattle.deciding.specs.Contracts.{WellFormed}
 use Rattle.deciding.proofs.Rides.{rides-count, rides-size}
 use Rattle.deciding.proofs.Rows.{told-refused, told-clear, none-holds}
@@ -76,25 +77,36 @@ module _ (book trip : List ℕ) where
   unfolding timedBy
   over-timed e = let (none, same) = told-clear timed.Refused _ _ (λ why is. let z : _≡_ {A = ℕ} 0 1 = cc in omega arith) e in (none, cc)
 
+-- ---- That of the window's edition.
+
+module _ (editions : Editions) (book : List ℕ) (span : Span) where
+  pub refused-opened :
+      {why : Refusal} → openedBy editions book span ≡ opened.Refused why → firstOf (editionRows (windowOver editions book span)) ≡ found why
+  unfolding openedBy
+  refused-opened e = told-refused opened.Refused _ _ (λ a b is. cc) (λ a is. let z : _≡_ {A = ℕ} 0 1 = cc in omega arith) e
+
+  pub in-opened :
+      {window : Window} → openedBy editions book span ≡ opened.In window
+      → (firstOf (editionRows (windowOver editions book span)) ≡ nothing) × (window ≡ windowOver editions book span)
+  unfolding openedBy
+  in-opened e = let (none, same) = told-clear opened.Refused _ _ (λ why is. let z : _≡_ {A = ℕ} 0 1 = cc in omega arith) e in (none, cc)
+
 -- ---- Those of room.
 
-module _ (book : List ℕ) (span : Span) (breaking : Breaking) (party : Party) (room : ℕ) where
-  pub refused-roomed :
-      {why : Refusal} → roomedBy book span breaking party room ≡ roomed.Refused why → firstOf (roomRowsBy book span breaking party room) ≡ found why
+module _ (window : Window) (breaking : Breaking) (party : Party) (room : ℕ) where
+  pub refused-roomed : {why : Refusal} → roomedBy window breaking party room ≡ roomed.Refused why → firstOf (roomRowsBy window breaking party room) ≡ found why
   unfolding roomedBy
   refused-roomed e = told-refused roomed.Refused _ _ (λ a b is. cc) (λ a is. let z : _≡_ {A = ℕ} 0 1 = cc in omega arith) e
 
-  pub in-roomed :
-      {window : Window} → roomedBy book span breaking party room ≡ roomed.In window
-      → (firstOf (roomRowsBy book span breaking party room) ≡ nothing) × (window ≡ windowOf book (span .checkin .0) (span .checkout .0))
+  pub enough-roomed : roomedBy window breaking party room ≡ roomed.Enough → firstOf (roomRowsBy window breaking party room) ≡ nothing
   unfolding roomedBy
-  in-roomed e = let (none, same) = told-clear roomed.Refused _ _ (λ why is. let z : _≡_ {A = ℕ} 0 1 = cc in omega arith) e in (none, cc)
+  enough-roomed e = told-clear roomed.Refused _ _ (λ why is. let z : _≡_ {A = ℕ} 0 1 = cc in omega arith) e .0
 
 -- Of what the groups before them have found they are the table's last rows.
 pub last-rows :
-    (tariff : List ℕ) (counts : Counts) (book trip : List ℕ) (room : ℕ) {fields : Fields} {breaking : Breaking} {span : Span} → fields ≡ fieldsOf trip
-    → breaking ≡ breakOf tariff counts trip (countAt trip 0) → span ≡ spanOf trip
+    (tariff : List ℕ) (counts : Counts) (trip : List ℕ) (room : ℕ) (window : Window) {fields : Fields} {breaking : Breaking} → fields ≡ fieldsOf trip
+    → breaking ≡ breakOf tariff counts trip (countAt trip 0)
     → let rides = ridesOf tariff counts trip (tripOf trip) in
-    roomRows book trip rides (row NoRoom (ltb room (statementSize rides))) ≡ roomRowsBy book span breaking (fields .party) room
-last-rows tariff counts book trip room fields-are breaking-is span-is =
-    rw (fields-are, breaking-is, span-is, rides-count tariff counts trip (tripOf trip), rides-size tariff counts trip (tripOf trip))
+    roomRows window rides (row NoRoom (ltb room (statementSize rides))) ≡ roomRowsBy window breaking (fields .party) room
+last-rows tariff counts trip room window fields-are breaking-is =
+    rw (fields-are, breaking-is, rides-count tariff counts trip (tripOf trip), rides-size tariff counts trip (tripOf trip))

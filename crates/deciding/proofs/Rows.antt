@@ -10,10 +10,10 @@ use mathlib.Core.List.{List, [], _∷_, _++_}
 use borrow.Author.Tests.{eq-eqb, ne-eqb, eqb-true, leb-true, not-true}
 use lib.Dec.{eqb, leb}
 use lib.ListN.{take}
-use Rattle.layout.specs.declared.Counts.{Counts}
+use Rattle.editions.specs.declared.Editions.{Editions}
 use Rattle.wire.proofs.Tests.{both-left, both-right, one-of}
 use Rattle.deciding.specs.declared.refusals.Refusal.{Refusal}
-use Rattle.deciding.specs.declared.refusals.Refusal.the-variants.{Mistap, NoRoom}
+use Rattle.deciding.specs.declared.refusals.Refusal.the-variants.{Mistap, NoEdition, NoRoom}
 use Rattle.deciding.specs.Refusals.{
   refusal,
   lastRefusal,
@@ -98,11 +98,22 @@ unfoldable pub distinct : List Row → Bool
 distinct [] = true
 distinct (r ∷ rest) = not (has rowOf (rowOf (r .why)) rest) && distinct rest
 
--- all numbers are 4 to the last row's, or 17
+-- all numbers are 4 to the last row's, or 17 or 22
+unfoldable pub numbered : ℕ → ℕ → Bool
+numbered last n = leb n last || (eqb n (refusal Mistap) || eqb n (refusal NoEdition))
+
+numbered-is : (last n : ℕ) → numbered last n ≡ true → Numbered last n
+unfolding numbered
+numbered-is last n t =
+    one-of (leb n last) (eqb n (refusal Mistap) || eqb n (refusal NoEdition)) t (λ low. inl (leb-true n last low))
+    (λ high.
+    inr
+    (one-of (eqb n (refusal Mistap)) (eqb n (refusal NoEdition)) high (λ m. inl (eqb-true n (refusal Mistap) m))
+    (λ m. inr (eqb-true n (refusal NoEdition) m))))
+
 unfoldable pub inRange : ℕ → List Row → Bool
 inRange last [] = true
-inRange last (r ∷ rest) =
-    leb 4 (refusal (r .why)) && ((leb (refusal (r .why)) last || eqb (refusal (r .why)) (refusal Mistap)) && inRange last rest)
+inRange last (r ∷ rest) = leb 4 (refusal (r .why)) && (numbered last (refusal (r .why)) && inRange last rest)
 
 pub first-range :
     (last : ℕ) (table : List Row) {why : Refusal} → inRange last table ≡ true → firstOf table ≡ found why → (4 ≤ refusal why) × Numbered last (refusal why)
@@ -110,11 +121,10 @@ unfolding firstOf inRange
 first-range last [] range e = absurd (let z : _≡_ {A = ℕ} 0 1 = cc in omega arith)
 first-range last (r ∷ rest) {why} range e =
     let n = refusal (r .why) in
-    let least = both-left (leb 4 n) ((leb n last || eqb n (refusal Mistap)) && inRange last rest) range in
-    let above = both-right (leb 4 n) ((leb n last || eqb n (refusal Mistap)) && inRange last rest) range in
-    let most = both-left (leb n last || eqb n (refusal Mistap)) (inRange last rest) above in
-    go (r .test) e (leb-true 4 n least) (one-of (leb n last) (eqb n (refusal Mistap)) most (λ t. inl (leb-true n last t)) (λ t. inr (eqb-true n (refusal Mistap) t)))
-    (first-range last rest (both-right (leb n last || eqb n (refusal Mistap)) (inRange last rest) above))
+    let least = both-left (leb 4 n) (numbered last n && inRange last rest) range in
+    let above = both-right (leb 4 n) (numbered last n && inRange last rest) range in
+    go (r .test) e (leb-true 4 n least) (numbered-is last n (both-left (numbered last n) (inRange last rest) above))
+    (first-range last rest (both-right (numbered last n) (inRange last rest) above))
   where
     go : (t : Bool) → cond t (found (r .why)) (firstOf rest) ≡ found why → 4 ≤ refusal (r .why) → Numbered last (refusal (r .why))
         → (firstOf rest ≡ found why → (4 ≤ refusal why) × Numbered last (refusal why)) → (4 ≤ refusal why) × Numbered last (refusal why)
@@ -229,21 +239,21 @@ module _ (holds : Refusal → Type 0) where
 
 -- ---- The table of settling.
 
-module _ (tariff : List ℕ) (counts : Counts) (book trip : List ℕ) (room : ℕ) where
-  pub rows-distinct : distinct (rows tariff counts book trip room) ≡ true
+module _ (file : List ℕ) (editions : Editions) (book trip : List ℕ) (room : ℕ) where
+  pub rows-distinct : distinct (rows file editions book trip room) ≡ true
   unfolding rows distinct has
   rows-distinct = refl
 
-  pub rows-range : inRange lastRefusal (rows tariff counts book trip room) ≡ true
-  unfolding rows inRange
+  pub rows-range : inRange lastRefusal (rows file editions book trip room) ≡ true
+  unfolding rows inRange numbered
   rows-range = refl
 
 -- ---- Tables that end in another row.
 
-module _ (tariff : List ℕ) (counts : Counts) (book trip : List ℕ) where
+module _ (file : List ℕ) (editions : Editions) (book trip : List ℕ) where
   -- 4 to 11: all rows but the last, whichever that is
   abbrev pub earlierRows : List Row
-  earlierRows = take 10 (rowsTo tariff counts book trip (row NoRoom false))
+  earlierRows = take 11 (rowsTo file editions book trip (row NoRoom false))
 
-  pub earlier-and-last : (last : Row) → rowsTo tariff counts book trip last ≡ earlierRows ++ last ∷ []
+  pub earlier-and-last : (last : Row) → rowsTo file editions book trip last ≡ earlierRows ++ last ∷ []
   earlier-and-last last = refl

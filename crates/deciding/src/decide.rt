@@ -1,18 +1,22 @@
-// What is decided before anything is written: the table's rows from 5 on, group by group. 1 to 4 go before, where the tariff is read and the
+// What is decided before anything is written: the table's rows from 5 on, group by group. 1 to 4 go before, where the file is read and the
 // book is looked through.
 use crate::groups::Fields;
 use crate::groups::Formed;
+use crate::groups::Opened;
 use crate::groups::Placed;
 use crate::groups::Roomed;
 use crate::groups::Span;
 use crate::groups::Timed;
 use crate::groups::clock_rows;
+use crate::groups::edition_rows;
 use crate::groups::room_rows;
 use crate::groups::tariff_rows;
 use crate::groups::trip_rows;
 use crate::refusals::Refusal;
+use editions::Editions;
+use editions::counts_in;
+use editions::tariff_in;
 use fare::Breaking;
-use layout::Counts;
 use ledger::Window;
 use trip::Trip;
 ghost use mathlib.Core.Path.{_≡_};
@@ -42,27 +46,32 @@ fn trip_of(fields: Fields, span: Span) -> Trip
     }
 }
 
-// Under a faultless tariff, on a sound book.
-pub fn decide(tariff: &[u8], counts: Counts, book: &[u8], trip: &[u8], room: usize) -> Decision
-    requires { ⌜ Ready (now tariff) counts (now book) ⌝ }
-    ensures { λ r. ⌜ r ≡ decidedUnder (now (tariff .entry)) counts (now (book .entry)) (now (trip .entry)) room ⌝ }
+// Under a faultless file, on a sound book. From 7 on it is the window's edition that is asked.
+pub fn decide(file: &[u8], editions: Editions, book: &[u8], trip: &[u8], room: usize) -> Decision
+    requires { ⌜ Ready (now file) editions (now book) ⌝ }
+    ensures { λ r. ⌜ r ≡ decidedUnder (now (file .entry)) editions (now (book .entry)) (now (trip .entry)) room ⌝ }
 {
     let fields = match trip_rows(trip) {
         Formed::Refused(why) => return Decision::Refused(why),
         Formed::As(fields) => fields,
     };
-    let breaking = match tariff_rows(tariff, counts, trip, fields) {
-        Placed::Refused(why) => return Decision::Refused(why),
-        Placed::Broken(breaking) => breaking,
-    };
     let span = match clock_rows(book, trip, fields) {
         Timed::Refused(why) => return Decision::Refused(why),
         Timed::Over(span) => span,
     };
+    let window = match edition_rows(editions, book, span) {
+        Opened::Refused(why) => return Decision::Refused(why),
+        Opened::In(window) => window,
+    };
+    let tariff = tariff_in(file, editions, window.edition);
+    let counts = counts_in(editions, window.edition);
+    let breaking = match tariff_rows(tariff, counts, trip, fields) {
+        Placed::Refused(why) => return Decision::Refused(why),
+        Placed::Broken(breaking) => breaking,
+    };
     let party = fields.party;
-    let areas = counts.areas as usize;
-    match room_rows(book, areas, span, breaking, party, room) {
+    match room_rows(window, breaking, party, room) {
         Roomed::Refused(why) => Decision::Refused(why),
-        Roomed::In(window) => Decision::Clear(trip_of(fields, span), window, breaking),
+        Roomed::Enough => Decision::Clear(trip_of(fields, span), window, breaking),
     }
 }

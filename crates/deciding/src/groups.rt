@@ -1,7 +1,8 @@
-// The table's rows from 5 on in four groups: the trip's own, the tariff's, those of clock and book, and those of room. A group answers the
-// first of its refusals that holds, each an early return; or what it has found on the way. The second and the third ask only for what the
-// first has found, so that they can change places.
+// The table's rows from 5 on in five groups: the trip's own, those of clock and book, that of the window's edition, that edition's tariff's, and
+// those of room. A group answers the first of its refusals that holds, each an early return; or what it has found on the way.
 use crate::refusals::Refusal;
+use editions::Editions;
+use editions::in_force;
 use fare::Breaking;
 use fare::parts::break_of;
 use fare::towns::town_refuses;
@@ -29,8 +30,8 @@ ghost use Prim.Native.Nat.{_≤_};
 ghost use lib.ListN.{length};
 ghost use Rattle.layout.specs.Scan.{Read};
 ghost use Rattle.ledger.specs.Words.{bookSize};
-ghost use Rattle.ledger.specs.Sound.{sound};
-ghost use Rattle.deciding.specs.Deciding.{ridesIn, recordsSize, formedBy, placedBy, timedBy, roomedBy};
+ghost use Rattle.deciding.specs.Refusals.{soundIn};
+ghost use Rattle.deciding.specs.Deciding.{ridesIn, recordsSize, formedBy, placedBy, timedBy, openedBy, roomedBy};
 ghost use Rattle.deciding.specs.Contracts.{WellFormed};
 
 // What a trip record says besides its stamps.
@@ -62,9 +63,14 @@ pub enum Timed {
     Over(Span),
 }
 
-pub enum Roomed {
+pub enum Opened {
     Refused(Refusal),
     In(Window),
+}
+
+pub enum Roomed {
+    Refused(Refusal),
+    Enough,
 }
 
 // The trip's own: 5 and 6.
@@ -88,23 +94,6 @@ pub fn trip_rows(trip: &[u8]) -> Formed
     })
 }
 
-// The tariff's: 7, and the town's 6.
-pub fn tariff_rows(tariff: &[u8], counts: Counts, trip: &[u8], fields: Fields) -> Placed
-    requires { ⌜ Read (now tariff) counts × WellFormed (now trip) fields ⌝ }
-    ensures { λ r. ⌜ r ≡ placedBy (now (tariff .entry)) counts (now (trip .entry)) ⌝ }
-{
-    let stops = fields.stops;
-    let class = fields.class;
-    if !stops_known(trip, stops, counts.stops as usize) {
-        return Placed::Refused(Refusal::UnknownStop);
-    }
-    let breaking = break_of(tariff, counts, trip, stops);
-    if town_refuses(tariff, counts, trip, stops, class, breaking) {
-        return Placed::Refused(Refusal::NoFirstClass);
-    }
-    Placed::Broken(breaking)
-}
-
 // Those of clock and book: 8, 9, 17 and 10.
 pub fn clock_rows(book: &[u8], trip: &[u8], fields: Fields) -> Timed
     requires { ⌜ (length (now book) ≡ bookSize) × WellFormed (now trip) fields ⌝ }
@@ -124,6 +113,37 @@ pub fn clock_rows(book: &[u8], trip: &[u8], fields: Fields) -> Timed
         return Timed::Refused(Refusal::TooEarly);
     }
     Timed::Over(Span { checkin, checkout })
+}
+
+// That of the window's edition: 22. The trip's window is the open one with its edition, or a new one under the edition in force at the check-in.
+pub fn edition_rows(editions: Editions, book: &[u8], span: Span) -> Opened
+    requires { ⌜ soundIn editions (now book) ≡ true ⌝ }
+    ensures { λ r. ⌜ r ≡ openedBy editions (now (book .entry)) span ⌝ }
+{
+    let checkin = span.checkin;
+    let checkout = span.checkout;
+    let window = window_of(book, checkin, checkout, in_force(editions, checkin));
+    if window.edition == 0 {
+        return Opened::Refused(Refusal::NoEdition);
+    }
+    Opened::In(window)
+}
+
+// The tariff's, which is the window's edition: 7, and the town's 6.
+pub fn tariff_rows(tariff: &[u8], counts: Counts, trip: &[u8], fields: Fields) -> Placed
+    requires { ⌜ Read (now tariff) counts × WellFormed (now trip) fields ⌝ }
+    ensures { λ r. ⌜ r ≡ placedBy (now (tariff .entry)) counts (now (trip .entry)) ⌝ }
+{
+    let stops = fields.stops;
+    let class = fields.class;
+    if !stops_known(trip, stops, counts.stops as usize) {
+        return Placed::Refused(Refusal::UnknownStop);
+    }
+    let breaking = break_of(tariff, counts, trip, stops);
+    if town_refuses(tariff, counts, trip, stops, class, breaking) {
+        return Placed::Refused(Refusal::NoFirstClass);
+    }
+    Placed::Broken(breaking)
 }
 
 // How many rides a trip is charged as.
@@ -147,25 +167,15 @@ fn records_size(breaking: Breaking, party: Party) -> usize
 }
 
 // Those of room: 11 in the window, 12 in the statement.
-pub fn room_rows(
-    book: &[u8],
-    areas: usize,
-    span: Span,
-    breaking: Breaking,
-    party: Party,
-    room: usize,
-) -> Roomed
-    requires { ⌜ sound (now book) areas ≡ true ⌝ }
-    ensures { λ r. ⌜ r ≡ roomedBy (now (book .entry)) span breaking party room ⌝ }
+pub fn room_rows(window: Window, breaking: Breaking, party: Party, room: usize) -> Roomed
+    requires { ⌜ window .trips ≤ 256 ⌝ }
+    ensures { λ r. ⌜ r ≡ roomedBy window breaking party room ⌝ }
 {
-    let checkin = span.checkin;
-    let checkout = span.checkout;
-    let window = window_of(book, areas, checkin, checkout);
     if 256 < window.trips + rides_in(breaking) {
         return Roomed::Refused(Refusal::FullWindow);
     }
     if room < records_size(breaking, party) {
         return Roomed::Refused(Refusal::NoRoom);
     }
-    Roomed::In(window)
+    Roomed::Enough
 }

@@ -1,8 +1,8 @@
 // Deciding: the table of refusals from 4 on, whose first row that holds decides. Nothing is written here.
 //
 // refusals.rt the refusals by their names, with their numbers
-// ready.rt    tariff and book, before any trip
-// groups.rt   the table's rows in four groups
+// ready.rt    file and book, before any trip
+// groups.rt   the table's rows in five groups
 // decide.rt   the groups one after another: what is decided of a trip
 
 pub mod decide;

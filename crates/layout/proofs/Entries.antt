@@ -146,7 +146,7 @@ pub stop-tests :
 stop-tests body soFar due e = search told
 
 -- where no record is due, there is an area, and every factor record
-none-due : (soFar : Counts) (due : ℕ) → stillDue soFar due ≡ false → (0 < soFar .areas) × (due ≤ soFar .factors)
+pub none-due : (soFar : Counts) (due : ℕ) → stillDue soFar due ≡ false → (0 < soFar .areas) × (due ≤ soFar .factors)
 none-due soFar due e = (
   elim (ℕ-discrete (soFar .areas) 0) [
     | yes none ↦ absurd (false≢true (sym e ∙ rw (eq-eqb (soFar .areas) 0 none)))
@@ -256,7 +256,7 @@ module _ (b : List ℕ) (at : ℕ) (soFar : Counts) where
       let (long, no-stop, few) = factor-tests body soFar (factorsDue b soFar) due in
       record { frame = rw long at frame; no-stop = no-stop; few = few }
 
-  factor-holds : FactorInPlace b at soFar → factorDue factorBody soFar (factorsDue b soFar) ≡ true
+  pub factor-holds : FactorInPlace b at soFar → factorDue factorBody soFar (factorsDue b soFar) ≡ true
   factor-holds here = rw (eq-eqb (soFar .stops) 0 (here .no-stop), lt-ltb (soFar .factors) (factorsDue b soFar) (here .few))
 
   factor-out : (body : ℕ) → frameAt b at ≡ Whole 5 body → factorDue body soFar (factorsDue b soFar) ≡ false → FactorInPlace b at soFar → ⊥

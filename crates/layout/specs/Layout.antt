@@ -84,6 +84,10 @@ factorPlace counts number = areasEnd counts + factorSize * number
 abbrev pub stopPlace : Counts → ℕ → ℕ
 stopPlace counts number = areasEnd counts + factorSize * counts .factors + stopSize * number
 
+-- where the stops end, and so a tariff
+abbrev pub tariffSize : Counts → ℕ
+tariffSize counts = stopPlace counts (counts .stops)
+
 -- the longest tariff, in which every area but the state is of kind 8, and the bytes that decide what any is read as: a record too many
 -- follows it
 abbrev pub longestTariff : ℕ

@@ -7,7 +7,7 @@ use crate::fields::STOP_SIZE;
 ghost use mathlib.Core.Path.{_≡_};
 ghost use Prim.Native.Nat.{_%_, _^_, _<_};
 ghost use lib.ListN.{length};
-ghost use Rattle.layout.specs.Layout.{mostAreas, areaPlace, stopPlace, factorPlace};
+ghost use Rattle.layout.specs.Layout.{mostAreas, areaPlace, stopPlace, factorPlace, tariffSize};
 ghost use Rattle.layout.specs.Contracts.{AreaThere};
 
 // Which areas before one are of kind 8: the bits below its own.
@@ -50,4 +50,14 @@ pub fn stop_place(tariff: &[u8], counts: Counts, number: usize) -> usize
     ensures { λ r. ⌜ r ≡ stopPlace counts number ⌝ }
 {
     tariff.len() - STOP_SIZE * (counts.stops as usize - number)
+}
+
+// Where the tariff ends that has these counts.
+pub fn tariff_size(counts: Counts) -> usize
+    ensures { λ r. ⌜ r ≡ tariffSize counts ⌝ }
+{
+    AREA_SIZE * counts.areas as usize
+        + LONG_MORE * u32::count_ones(counts.longs) as usize
+        + FACTOR_SIZE * counts.factors as usize
+        + STOP_SIZE * counts.stops as usize
 }

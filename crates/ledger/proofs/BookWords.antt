@@ -10,20 +10,21 @@ use mathlib.Core.List.{List}
 use lib.ListN.{length, getD, replicate}
 use lib.Seq.{ext-getD}
 use Rattle.wire.specs.Number.{getLe, Bytes}
-use Rattle.ledger.specs.Words.{bookSize, bookWords, word, pairPlace, coverPlace, paidPlace}
+use Rattle.ledger.specs.Words.{bookSize, bookWords, word, pairPlace, coverPlace, paidPlace, editionPlace}
 use Rattle.ledger.specs.Windows.{inWindow}
 
 -- ---- The words there are.
 
--- Each word is the trips, the opening, the last check-out, one of a rider's two sums in an area, or a bicycle's covering area
--- or payments.
+-- Each word is the trips, the opening, the last check-out, one of a rider's two sums in an area, a bicycle's covering area or payments, or the
+-- edition.
 pub each-word :
     (P : ℕ → Type 0) → P 0 → P 1 → P 2 → ((rider area : ℕ) → rider < 21 → area < 32 → P (pairPlace rider area) × P (pairPlace rider area + 1))
-    → ((k : ℕ) → k < 10 → P (coverPlace k)) → ((k : ℕ) → k < 10 → P (paidPlace k)) → (i : ℕ) → i < bookWords → P i
-each-word P trips opening last sums covers payments zero h = trips
-each-word P trips opening last sums covers payments (suc zero) h = opening
-each-word P trips opening last sums covers payments (suc (suc zero)) h = last
-each-word P trips opening last sums covers payments (suc (suc (suc n))) h =
+    → ((k : ℕ) → k < 10 → P (coverPlace k)) → ((k : ℕ) → k < 10 → P (paidPlace k)) → P editionPlace → (i : ℕ) → i < bookWords
+    → P i
+each-word P trips opening last sums covers payments edition zero h = trips
+each-word P trips opening last sums covers payments edition (suc zero) h = opening
+each-word P trips opening last sums covers payments edition (suc (suc zero)) h = last
+each-word P trips opening last sums covers payments edition (suc (suc (suc n))) h =
     elim (decLt n 1344) [
       | yes sum ↦
           let pair = sums (n / 64) (n % 64 / 2) (omega arith) (omega arith) in
@@ -34,7 +35,11 @@ each-word P trips opening last sums covers payments (suc (suc (suc n))) h =
       | no past ↦
           elim (decLt n 1354) [
             | yes cover ↦ let e : coverPlace (n - 1344) ≡ suc (suc (suc n)) = omega arith in subst P e (covers (n - 1344) (omega arith))
-            | no behind ↦ let e : paidPlace (n - 1354) ≡ suc (suc (suc n)) = omega arith in subst P e (payments (n - 1354) (omega arith))
+            | no behind ↦
+                elim (decLt n 1364) [
+                  | yes paid ↦ let e : paidPlace (n - 1354) ≡ suc (suc (suc n)) = omega arith in subst P e (payments (n - 1354) (omega arith))
+                  | no last ↦ let e : editionPlace ≡ suc (suc (suc n)) = omega arith in subst P e edition
+                ]
           ]
     ]
 

@@ -1,29 +1,25 @@
 -- What the words that count have, in the open window and in the next.
 -- Assumes nothing.
-use Prim.Native.Nat.{ℕ, _+_, _≤_, _<_, _*_}
+use Prim.Native.Nat.{ℕ, _≤_, _<_, _*_}
 use native.Mathlib.Omega.{arith}
-use mathlib.Core.Path.{_≡_, refl}
+use mathlib.Core.Path.{_≡_, refl, subst, _∙_}
 use mathlib.Core.Bool.{Bool, true, false, cond}
 use mathlib.Core.List.{List}
 use lib.ListN.{length}
 use Rattle.units.specs.Price.{mostPrice}
-use Rattle.ledger.specs.Words.{secondSum, allSum, coverPlace, coverWord, paidPlace, paidWord, bookSize, freshBook, tripsOf, pairPlace}
-use Rattle.ledger.specs.Sound.{mostPaid}
+use Rattle.ledger.specs.Words.{coverWord, paidWord, bookSize, freshBook, tripsOf}
+use Rattle.ledger.specs.Sound.{mostPaid, coversSound, soundAlone, sound}
 use Rattle.ledger.specs.Windows.{inWindow}
-use Rattle.ledger.proofs.WordLaws.{word-fresh, fresh-size}
-use Rattle.ledger.proofs.SoundLaws.{SoundBook, PairSound}
+use Rattle.ledger.proofs.WordLaws.{word-fresh}
+use Rattle.ledger.proofs.SoundLaws.{SoundBook, PairSound, told-alone, fresh-sound}
 
--- In a sound book each bicycle's covering area is one of the tariff's, and in a new window no bicycle has one.
-pub cover-known :
-    {b : List ℕ} {areas : ℕ} (current : Bool) → SoundBook b areas → (k : ℕ) → k < 10 → coverWord (inWindow current b) k ≤ areas
-cover-known true s k few = s .covers k few
-cover-known false s k few = omega (arith, word-fresh (coverPlace k))
-
--- So its payments are in their range, and in a new window it has none.
-pub paid-known :
-    {b : List ℕ} {areas : ℕ} (current : Bool) → SoundBook b areas → (k : ℕ) → k < 10 → paidWord (inWindow current b) k ≤ mostPaid
-paid-known true s k few = s .payments k few
-paid-known false s k few = omega (arith, word-fresh (paidPlace k))
+-- The words that count are sound under a tariff where the book is by itself and, in the open window, has bicycle words within the areas: in
+-- the next window those of the old one do not count.
+pub words-sound :
+    (current : Bool) (book : List ℕ) (areas : ℕ) → soundAlone book ≡ true → (current ≡ true → coversSound book areas ≡ true)
+    → sound (inWindow current book) areas ≡ true
+words-sound true book areas alone covers = told-alone book areas alone ∙ covers refl
+words-sound false book areas alone covers = fresh-sound areas
 
 -- what the words that count have: so many trips before, of which there may be 255; and what these trips can have left
 pub record Counting (w : List ℕ) (areas before : ℕ) : Type 0 where
@@ -33,22 +29,16 @@ pub record Counting (w : List ℕ) (areas before : ℕ) : Type 0 where
   pub covers : (k : ℕ) → k < 10 → coverWord w k ≤ areas
   pub payments : (k : ℕ) → k < 10 → paidWord w k ≤ mostPaid
 
--- The open window has the trips of a sound book, and the next window none.
+-- The open window has the trips of the book, and the next window none.
 pub counting :
-    (current : Bool) {book : List ℕ} {areas : ℕ} → SoundBook book areas → (current ≡ true → tripsOf book ≤ 255)
+    (current : Bool) (book : List ℕ) {areas : ℕ} → SoundBook (inWindow current book) areas → (current ≡ true → tripsOf book ≤ 255)
     → Counting (inWindow current book) areas (cond current (tripsOf book) 0)
-counting true s room = record { size = s .size; few = room refl; pairs = s .pairs; covers = s .covers; payments = s .payments }
-counting false {book} {areas} s room =
+counting true book s room = record { size = s .size; few = room refl; pairs = s .pairs; covers = s .covers; payments = s .payments }
+counting false book s room =
     record {
-      size = fresh-size;
+      size = s .size;
       few = omega arith;
-      pairs = λ rider area hr ha. (none rider area, all rider area);
-      covers = cover-known false s;
-      payments = paid-known false s;
+      pairs = λ rider area hr ha. subst (λ (n : ℕ). PairSound freshBook (n * mostPrice) rider area) (word-fresh 0) (s .pairs rider area hr ha);
+      covers = s .covers;
+      payments = s .payments;
     }
-  where
-    none : (rider area : ℕ) → secondSum freshBook rider area ≤ allSum freshBook rider area
-    none rider area = omega (arith, word-fresh (pairPlace rider area))
-
-    all : (rider area : ℕ) → allSum freshBook rider area ≤ 0 * mostPrice
-    all rider area = omega (arith, word-fresh (pairPlace rider area + 1))

@@ -32,6 +32,7 @@ use Rattle.ledger.specs.Words.{
   coverWord,
   paidPlace,
   paidWord,
+  editionOf,
 }
 use Rattle.ledger.specs.Sound.{allZero, headSound, pairsSound, coversSound, mostPaid, paymentsSound, soundAlone, sound}
 use Rattle.ledger.specs.Contracts.{HeadRight}
@@ -48,6 +49,7 @@ pub record AloneBook (b : List ℕ) : Type 0 where
   pub pairs : (rider area : ℕ) → rider < 21 → area < 32 → PairSound b (tripsOf b * mostPrice) rider area
   pub payments : (k : ℕ) → k < 10 → paidWord b k ≤ mostPaid
   pub opened : 0 < tripsOf b → HeadRight (tripsOf b) (openingOf b) (lastOutOf b)
+  pub edition : 0 < tripsOf b → 1 ≤ editionOf b
   pub fresh : tripsOf b ≡ 0 → (i : ℕ) → i < bookWords → word b i ≡ 0
 
 -- and what a sound book has under a tariff
@@ -171,7 +173,7 @@ pub record InUse (b : List ℕ) (t opening out : ℕ) : Type 0 where
   pub last : out ≡ lastOutOf b
 
 pub told-used : (b : List ℕ) {t opening out : ℕ} → InUse b t opening out
-    → soundAlone b ≡ headSound t opening out && (pairsSound b (t * mostPrice) && paymentsSound b)
+    → soundAlone b ≡ headSound t opening out && (pairsSound b (t * mostPrice) && (paymentsSound b && leb 1 (editionOf b)))
 unfolding soundAlone
 told-used b u =
     rw (u .trips, u .opened, u .last, eq-eqb (length b) bookSize (u .size), ne-eqb (tripsOf b) 0 (λ none. u .some (u .trips ∙ none)))
@@ -181,7 +183,7 @@ pub told-wrong : (b : List ℕ) {t opening out : ℕ} → InUse b t opening out 
 told-wrong b u head = told-used b u ∙ rw head
 
 pub told-right : (b : List ℕ) {t opening out : ℕ} → InUse b t opening out → HeadRight t opening out
-    → soundAlone b ≡ pairsSound b (t * mostPrice) && paymentsSound b
+    → soundAlone b ≡ pairsSound b (t * mostPrice) && (paymentsSound b && leb 1 (editionOf b))
 told-right b u head = told-used b u ∙ rw (head-back _ _ _ head)
 
 -- A book is sound under a tariff exactly where it is sound by itself and its bicycle words are within the areas.
@@ -222,18 +224,21 @@ alone-has b e =
                 );
             payments = λ k h. omega (arith, zeros (paidPlace k) (omega arith));
             opened = λ some. absurd (omega arith);
+            edition = λ some. absurd (omega arith);
             fresh = λ _. zeros;
           }
       | no some ↦
           let all = sym (told-used b (record { size = size; some = some; trips = refl; opened = refl; last = refl })) ∙ e in
           let head = head-has _ _ _ (both-left (headSound (tripsOf b) (openingOf b) (lastOutOf b)) _ all) in
           let rest = both-right (headSound (tripsOf b) (openingOf b) (lastOutOf b)) _ all in
+          let last = both-right (pairsSound b (tripsOf b * mostPrice)) _ rest in
           record {
             size = size;
             trips = head .few;
             pairs = pairs-have b (tripsOf b * mostPrice) (both-left _ _ rest);
-            payments = payments-have b (both-right (pairsSound b (tripsOf b * mostPrice)) _ rest);
+            payments = payments-have b (both-left _ _ last);
             opened = λ _. head;
+            edition = λ _. leb-true _ _ (both-right (paymentsSound b) _ last);
             fresh = λ none. absurd (some none);
           }
     ]
@@ -253,32 +258,33 @@ sound-has b areas e =
     }
 
 -- A sound book without trips is a fresh one.
-pub fresh-is : {b : List ℕ} {areas : ℕ} → SoundBook b areas → tripsOf b ≡ 0 → b ≡ freshBook
+pub fresh-is : {b : List ℕ} → AloneBook b → tripsOf b ≡ 0 → b ≡ freshBook
 fresh-is {b} s none = zeros-fresh b (s .size) (s .fresh none)
 
 -- A sound book's opening is a minute of the calendar.
-pub opening-most : (b : List ℕ) (areas : ℕ) → sound b areas ≡ true → openingOf b ≤ lastMinute
-opening-most b areas e =
-    let has = sound-has b areas e in
+pub opening-most : (b : List ℕ) → soundAlone b ≡ true → openingOf b ≤ lastMinute
+opening-most b e =
+    let has = alone-has b e in
     elim (ℕ-discrete (tripsOf b) 0) [
       | yes none ↦ omega (arith, has .fresh none 1 (omega arith))
       | no some ↦ let head = has .opened (omega arith) in omega arith
     ]
 
--- A book in use whose window, pairs and bicycles are right is sound.
+-- A book in use whose window, edition, pairs and bicycles are right is sound.
 pub sound-back : (b : List ℕ) (areas : ℕ) → length b ≡ bookSize
     → headSound (tripsOf b) (openingOf b) (lastOutOf b) ≡ true
+    → 1 ≤ editionOf b
     → ((rider area : ℕ) → rider < 21 → area < 32 → PairSound b (tripsOf b * mostPrice) rider area)
     → ((k : ℕ) → k < 10 → coverWord b k ≤ areas)
     → ((k : ℕ) → k < 10 → paidWord b k ≤ mostPaid)
     → sound b areas ≡ true
-sound-back b areas size head pairs covers payments =
+sound-back b areas size head edition pairs covers payments =
     let right = head-has (tripsOf b) (openingOf b) (lastOutOf b) head in
     let used : InUse b (tripsOf b) (openingOf b) (lastOutOf b) =
     record { size = size; some = λ none. omega arith; trips = refl; opened = refl; last = refl }
     in
     let alone : soundAlone b ≡ true =
-    told-right b used right ∙ rw (pairs-back b (tripsOf b * mostPrice) pairs, payments-back b payments)
+    told-right b used right ∙ rw (pairs-back b (tripsOf b * mostPrice) pairs, payments-back b payments, le-leb 1 (editionOf b) edition)
     in
     told-alone b areas alone ∙ covers-back b areas covers
 

@@ -3,7 +3,7 @@
 use Prim.Native.Nat.{ℕ, _+_, _*_, _^_, _≤_, _<_}
 use native.Mathlib.Omega.{arith}
 use native.Mathlib.Decide.{ℕ-discrete, decLt}
-use mathlib.Core.Path.{_≡_, refl, sym, ap, _∙_}
+use mathlib.Core.Path.{_≡_, refl, sym, _∙_}
 use mathlib.Core.Bool.{Bool, true, false}
 use mathlib.Core.List.{List}
 use borrow.Author.Tests.{eq-eqb, ne-eqb}
@@ -20,17 +20,6 @@ use Rattle.ledger.proofs.SoundLaws.{zeros-have, zeros-back}
 -- no words
 pub bits-none : (b : List ℕ) → BitsOf b 0 0 0
 bits-none b = record { none = λ none k from to. absurd (omega arith); clear = λ zero. refl }
-
--- one word
-pub bits-one : (b : List ℕ) (p r : ℕ) → r ≡ word b p → BitsOf b p (p + 1) r
-bits-one b p r is =
-    record {
-      none = λ none k from to. ap (word b) (here k from to) ∙ sym is ∙ none;
-      clear = λ zero. is ∙ zero p (omega arith) (omega arith);
-    }
-  where
-    here : (k : ℕ) → p ≤ k → k < p + 1 → k ≡ p
-    here k from to = omega arith
 
 -- eight bytes are two words
 pub bits-two : (b : List ℕ) (p at r : ℕ) → Number 8 b at r → at ≡ 4 * p → BitsOf b p (p + 2) r

@@ -31,8 +31,11 @@ pub record HeadRight (t opening out : ℕ) : Type 0 where
   pub last : out ≤ lastMinute
   pub day : out ≤ opening + dayMinutes
 
--- what the window of a trip has: the trips of the words that count, and with one more a head, whose opening that is right for the check-out
+-- what the window of a trip has: the trips of the words that count, and with one more a head whose opening is right for the check-out; and an
+-- edition, which a byte holds
 pub record WindowRight (book : List ℕ) (window : Window) (checkout : ℕ) : Type 0 where
   pub trips : window .trips ≡ cond (window .current) (tripsOf book) 0
   pub used : window .current ≡ true → 1 ≤ tripsOf book
   pub head : HeadRight (window .trips + 1) (window .opening .0) checkout
+  pub edition : 1 ≤ window .edition
+  pub small : window .edition ≤ 255

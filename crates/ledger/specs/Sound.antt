@@ -8,7 +8,7 @@ use Rattle.units.specs.Day.{dayMinutes}
 use Rattle.units.specs.Price.{mostPrice}
 use Rattle.calendar.specs.Stamps.{lastMinute}
 use Rattle.wire.specs.Each.{each}
-use Rattle.ledger.specs.Words.{bookSize, bookWords, word, pairs, pairAt, tripsOf, openingOf, lastOutOf, coverWord, paidWord}
+use Rattle.ledger.specs.Words.{bookSize, bookWords, word, pairs, pairAt, tripsOf, openingOf, lastOutOf, coverWord, paidWord, editionOf}
 
 -- word 0 is 0 and all others are 0
 unfoldable pub allZero : List ℕ → Bool
@@ -34,13 +34,14 @@ mostPaid = 15360000
 unfoldable pub paymentsSound : List ℕ → Bool
 paymentsSound book = each 10 (λ i. leb (paidWord book i) mostPaid)
 
--- A book by itself: it has its length, and either word 0 is 0 and all others are 0, or it is in use: all sums ≤ word 0 × the most that a price is.
+-- A book by itself: it has its length, and either word 0 is 0 and all others are 0, or it is in use: all sums ≤ word 0 × the most that a price is,
+-- and its window has an edition.
 unfoldable pub soundAlone : List ℕ → Bool
 soundAlone book =
     eqb (length book) bookSize
     && cond (eqb (tripsOf book) 0) (allZero book)
     (headSound (tripsOf book) (openingOf book) (lastOutOf book)
-    && (pairsSound book (tripsOf book * mostPrice) && paymentsSound book))
+    && (pairsSound book (tripsOf book * mostPrice) && (paymentsSound book && leb 1 (editionOf book))))
 
 -- A book under a tariff: sound by itself, and its bicycle words are within the tariff's areas, as those of a book without trips always are.
 unfoldable pub sound : List ℕ → ℕ → Bool

@@ -1,14 +1,14 @@
--- Rules, section 12: 5,468 bytes, 1,367 little-endian words of 4 bytes.
+-- Rules, section 12: 5,472 bytes, 1,368 little-endian words of 4 bytes.
 use Prim.Native.Nat.{ℕ, _+_, _*_}
 use mathlib.Core.List.{List}
 use lib.ListN.{replicate}
 use Rattle.wire.specs.Number.{getLe, putLe}
 
 abbrev pub bookSize : ℕ
-bookSize = 5468
+bookSize = 5472
 
 abbrev pub bookWords : ℕ
-bookWords = 1367
+bookWords = 1368
 
 -- a fresh book is all zero
 abbrev pub freshBook : List ℕ
@@ -65,3 +65,10 @@ paidPlace bicycle = 1357 + bicycle
 
 abbrev pub paidWord : List ℕ → ℕ → ℕ
 paidWord book bicycle = word book (paidPlace bicycle)
+
+-- word 1,367, the last: the edition of the tariff that the window was opened under
+abbrev pub editionPlace : ℕ
+editionPlace = 1367
+
+abbrev pub editionOf : List ℕ → ℕ
+editionOf book = word book editionPlace

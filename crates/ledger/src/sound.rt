@@ -1,6 +1,7 @@
 // Whether any byte string is a sound book: by itself, which knows no tariff, and under a tariff with so many areas.
 // The loops have no early way out, so that the compiler can take many words at a time.
 use crate::gaps::pairs_clear;
+use crate::words::EDITION;
 use crate::words::LAST_OUT;
 use crate::words::OPENING;
 use crate::words::PAIRS;
@@ -83,7 +84,7 @@ pub fn is_sound_alone(book: &[u8]) -> bool
     if !head_sound(trips, get(book, OPENING), get(book, LAST_OUT)) {
         return false;
     }
-    pairs_sound(book, trips * MOST_PRICE) & payments_sound(book)
+    pairs_sound(book, trips * MOST_PRICE) & (payments_sound(book) & (1 <= get(book, EDITION)))
 }
 
 // Each bicycle word is at most the number of areas.

@@ -7,7 +7,7 @@ ghost use lib.ListN.{length};
 ghost use Rattle.ledger.specs.Words.{bookSize, bookWords, putWord, pairPlace, pairs, pairAt, coverPlace, paidPlace};
 ghost use Rattle.ledger.specs.Contracts.{Word};
 
-pub const SIZE: usize = 5_468;
+pub const SIZE: usize = 5_472;
 
 pub const TRIPS: usize = 0;
 
@@ -51,6 +51,9 @@ pub fn payments(bicycle: usize) -> usize
 {
     1_357 + bicycle
 }
+
+// The edition of the window: the last word.
+pub const EDITION: usize = 1_367;
 
 pub fn get(book: &[u8], place: usize) -> u32
     requires { ⌜ (length (now book) ≡ bookSize) × (place < bookWords) ⌝ }

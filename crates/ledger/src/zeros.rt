@@ -2,7 +2,6 @@
 //
 // The words of a turn are straight code, which the compiler takes 16 bytes at a time, and there is no early way out. A book is no whole
 // number of turns: with the words after the last turn some come again.
-use crate::words::get;
 use wire::eight_at;
 ghost use mathlib.Core.Path.{_≡_};
 ghost use Prim.Native.Nat.{_+_, _≤_};
@@ -40,5 +39,5 @@ pub fn bits_of_all(book: &[u8]) -> u64
             | bits_of_32(book, place + 32)
             | bits_of_32(book, place + 64);
     }
-    bits | bits_of_32(book, 1_334) | get(book, 1_366) as u64
+    bits | bits_of_32(book, 1_336)
 }

@@ -8,7 +8,7 @@ use mathlib.Core.List.{List, _++_}
 use borrow.Author.Tests.{eqb-false}
 use lib.ListN.{length, take}
 use lib.Dec.{eqb}
-use Rattle.layout.specs.declared.Counts.{Counts}
+use Rattle.editions.specs.declared.Editions.{Editions}
 use Rattle.roll.specs.declared.Line.{Line}
 use Rattle.roll.specs.declared.Line.the-variants.{Charged, Both, Refused}
 use Rattle.roll.specs.declared.Step.{Step}
@@ -110,21 +110,21 @@ line-range {tally = tally} {line = line} {used = used} {last = last} {place = pl
 
 -- ---- The ways through a turn.
 
-module _ {tariff : List ℕ} {counts : Counts} {book piece : List ℕ} {more : Bool} {tally : Tally} {statement book′ statement′ : List ℕ} {s : Step}
-    (ready : Ready tariff counts book) (counting : Counting tally) (step : Stepped tariff (counts .areas) book piece more statement book′ statement′ s)
+module _ {file : List ℕ} {editions : Editions} {book piece : List ℕ} {more : Bool} {tally : Tally} {statement book′ statement′ : List ℕ} {s : Step}
+    (ready : Ready file editions book) (counting : Counting tally) (step : Stepped file editions book piece more statement book′ statement′ s)
   where
-    again : Ready tariff counts book′
+    again : Ready file editions book′
     again = record { read = ready .read; sound-book = step .sound-again }
 
-    pub more-turned : {a : List ℕ} {place : ℕ} → s ≡ More → Turned tariff counts book piece more tally a place book′ a turn.More
+    pub more-turned : {a : List ℕ} {place : ℕ} → s ≡ More → Turned file editions book piece more tally a place book′ a turn.More
     unfolding effectOf
     more-turned is =
         let found = sym (step .found) ∙ is in
-        record { did = rw found (asked refl); book-is = step .book-is; again = again; range = more-short tariff book piece more found }
+        record { did = rw found (asked refl); book-is = step .book-is; again = again; range = more-short file book piece more found }
 
     pub end-turned :
         {a b : List ℕ} {place end : ℕ} → s ≡ End → Behind (tailOf tally) mostLine a place b end
-        → Turned tariff counts book piece more tally a place book′ b (turn.Over end)
+        → Turned file editions book piece more tally a place book′ b (turn.Over end)
     unfolding effectOf
     end-turned is x =
         let found = sym (step .found) ∙ is in
@@ -132,7 +132,7 @@ module _ {tariff : List ℕ} {counts : Counts} {book piece : List ℕ} {more : B
 
     pub broken-turned :
         {a b : List ℕ} {place : ℕ} {r : Turn} → s ≡ Broken → LineTaken tally (Refused 5) 0 true a place b r
-        → Turned tariff counts book piece more tally a place book′ b r
+        → Turned file editions book piece more tally a place book′ b r
     unfolding effectOf
     broken-turned is x =
         let found = sym (step .found) ∙ is in
@@ -140,7 +140,7 @@ module _ {tariff : List ℕ} {counts : Counts} {book piece : List ℕ} {more : B
 
     pub record-turned :
         {line : Line} {used : ℕ} {a b : List ℕ} {place : ℕ} {r : Turn} → s ≡ Record line used → LineTaken tally line used false a place b r
-        → Turned tariff counts book piece more tally a place book′ b r
+        → Turned file editions book piece more tally a place book′ b r
     unfolding effectOf
     record-turned {line} {used} is x =
         let found = sym (step .found) ∙ is in
@@ -148,7 +148,7 @@ module _ {tariff : List ℕ} {counts : Counts} {book piece : List ℕ} {more : B
           did = rw found (x .did);
           book-is = step .book-is;
           again = again;
-          range = line-range piece more x counting (record-within tariff book piece more line used found .1);
+          range = line-range piece more x counting (record-within file book piece more line used found .1);
         }
 
 -- what a record's line says

@@ -6,7 +6,7 @@ use mathlib.Core.List.{List, [], _∷_, _++_}
 use lib.ListN.{length, take}
 use Rattle.text.specs.Texts.{bytes, decimal}
 use Rattle.text.specs.Contracts.{Behind}
-use Rattle.layout.specs.declared.Counts.{Counts}
+use Rattle.editions.specs.declared.Editions.{Editions}
 use Rattle.roll.specs.declared.Line.{Line}
 use Rattle.statement.specs.Record.{mostParts}
 use Rattle.deciding.specs.Contracts.{Ready}
@@ -74,10 +74,10 @@ Range piece more tally place (On used end after) =
 Range piece more tally place (Over end) = end ≤ place + mostTurn
 
 pub record Turned
-    (tariff : List ℕ) (counts : Counts) (book piece : List ℕ) (more : Bool) (tally : Tally) (out : List ℕ) (place : ℕ) (book′ out′ : List ℕ)
+    (file : List ℕ) (editions : Editions) (book piece : List ℕ) (more : Bool) (tally : Tally) (out : List ℕ) (place : ℕ) (book′ out′ : List ℕ)
     (r : Turn)
     : Type 0 where
-  pub did : Did out place out′ (effectOf (stepOf tariff book piece more) tally) r
-  pub book-is : book′ ≡ bookStep tariff book piece more
-  pub again : Ready tariff counts book′
+  pub did : Did out place out′ (effectOf (stepOf file book piece more) tally) r
+  pub book-is : book′ ≡ bookStep file book piece more
+  pub again : Ready file editions book′
   pub range : Range piece more tally place r

@@ -4,7 +4,7 @@ use crate::tally::count;
 use crate::texts::put_line;
 use crate::texts::put_refused;
 use crate::texts::put_tail;
-use layout::Counts;
+use editions::Editions;
 use roll::Line;
 use roll::MOST_RECORDS;
 use roll::Step;
@@ -72,8 +72,8 @@ fn take_broken(out: &mut [u8], place: usize, tally: Tally) -> Turn
 // What stands at the start of a piece, and what it comes to on the book; `more` says whether the roll can go on behind the piece. Up to
 // `place` the output holds what was put before; the statement is lent for a record's.
 pub fn take_turn(
-    tariff: &[u8],
-    counts: Counts,
+    file: &[u8],
+    editions: Editions,
     book: &mut [u8],
     piece: &[u8],
     more: bool,
@@ -82,11 +82,11 @@ pub fn take_turn(
     place: usize,
     tally: Tally,
 ) -> Turn
-    requires { ⌜ Ready (now tariff) counts (now book) × ((place + mostTurn ≤ length (now out)) × (Counting tally × StatementRoom (now statement))) ⌝ }
-    ensures { λ r. ⌜ Turned (now (tariff .entry)) counts (now (book .entry)) (now (piece .entry)) more tally
+    requires { ⌜ Ready (now file) editions (now book) × ((place + mostTurn ≤ length (now out)) × (Counting tally × StatementRoom (now statement))) ⌝ }
+    ensures { λ r. ⌜ Turned (now (file .entry)) editions (now (book .entry)) (now (piece .entry)) more tally
         (now (out .entry)) place (now (book .exit)) (now (out .exit)) r ⌝ }
 {
-    match next(tariff, counts, book, piece, more, statement) {
+    match next(file, editions, book, piece, more, statement) {
         Step::More => Turn::More,
         Step::Record { line, used } => take_line(out, place, tally, line, used),
         Step::Broken => take_broken(out, place, tally),

@@ -1,8 +1,8 @@
 // What C is offered: each exported function takes plain byte strings, has the library do the work, and answers one number.
-use layout::Reading;
+use editions::FileReading;
+use editions::read_file;
 use reader::fields::Filled;
 use reader::fields::read_into;
-use scan::read_tariff;
 use settle::Answer;
 use settle::quotes::post_quote;
 use settle::quotes::quote;
@@ -29,14 +29,15 @@ fn encoded(answer: Answer) -> u64
     }
 }
 
-// Checks a tariff alone. Faultless: its length. Else 1 to 3, × 2^32 + the place of the first faulty record, as settling under it answers.
+// Checks a tariff file alone, with its one or two editions. Faultless: its length. Else 1 to 3, × 2^32 + the place of the first faulty record,
+// as settling under it answers.
 #[no_mangle]
 pub extern "C" fn milecopper_check_tariff(tariff: &[u8]) -> u64
     ensures { λ r. ⌜ r ≡ tariffAnswer (now (tariff .entry)) ⌝ }
 {
-    match read_tariff(tariff) {
-        Reading::Fault { number, at } => encoded(Answer::Refused { number, place: at }),
-        Reading::Faultless(_) => encoded(Answer::Written(tariff.len())),
+    match read_file(tariff) {
+        FileReading::Fault { number, at } => encoded(Answer::Refused { number, place: at }),
+        FileReading::Faultless(_) => encoded(Answer::Written(tariff.len())),
     }
 }
 

@@ -9,7 +9,7 @@ ghost use Rattle.accounts.specs.Members.{Changed};
 ghost use Rattle.accounts.specs.Associations.{addedFor, closedFor, settledFor};
 
 // Adds a member of an association: the number and a fresh book go to the lowest free place of the association.
-// Accepted: the number of bytes written, 5,472. Refused: the refusal's number × 2^32, 18 to 21, and the page is not touched.
+// Accepted: the number of bytes written, 5,476. Refused: the refusal's number × 2^32, 18 to 21, and the page is not touched.
 #[no_mangle]
 pub extern "C" fn milecopper_add(page: &mut [u8], association: u32, member: u32) -> u64
     ensures { λ r. ⌜ Changed (addedFor association (now (page .entry)) member) (now (page .entry)) (now (page .exit)) r ⌝ }
@@ -18,7 +18,7 @@ pub extern "C" fn milecopper_add(page: &mut [u8], association: u32, member: u32)
 }
 
 // Closes the account of a member of an association: its place is cleared.
-// Accepted: the number of bytes written, 5,472. Refused: the refusal's number × 2^32, 18, 19 or 21, and the page is not touched.
+// Accepted: the number of bytes written, 5,476. Refused: the refusal's number × 2^32, 18, 19 or 21, and the page is not touched.
 #[no_mangle]
 pub extern "C" fn milecopper_close(page: &mut [u8], association: u32, member: u32) -> u64
     ensures { λ r. ⌜ Changed (closedFor association (now (page .entry)) member) (now (page .entry)) (now (page .exit)) r ⌝ }

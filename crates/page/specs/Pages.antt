@@ -21,13 +21,13 @@ numberSize = 4
 
 -- a place: the member's number, then the book
 abbrev pub placeSize : ℕ
-placeSize = 5472
+placeSize = 5476
 
 abbrev pub places : ℕ
 places = 12
 
 abbrev pub pageSize : ℕ
-pageSize = 65664
+pageSize = 65712
 
 -- where a place begins
 abbrev pub startOf : ℕ → ℕ

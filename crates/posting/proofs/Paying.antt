@@ -22,14 +22,12 @@ use Rattle.ledger.specs.declared.Window.{Window}
 use Rattle.ledger.specs.Words.{freshBook, tripsOf, coverWord, paidPlace, paidWord}
 use Rattle.ledger.specs.Windows.{inWindow}
 use Rattle.ledger.proofs.WordLaws.{word-fresh}
-use Rattle.ledger.proofs.SoundLaws.{sound-has}
-use Rattle.ledger.proofs.Counting.{cover-known}
 use Rattle.cycles.specs.Bicycles.{newCover, payment, bicycleCharge, paidWith}
 use Rattle.cycles.specs.InWords.{WithinCap, RidePays}
 use Rattle.cycles.proofs.InWords.{per-trip-says, cover-says}
 use Rattle.charging.specs.After.{posted}
 use Rattle.charging.specs.Contracts.{Rideable}
-use Rattle.charging.proofs.ChargeLaws.{bicycle-stands}
+use Rattle.charging.proofs.ChargeLaws.{bicycle-stands, ride-words}
 use Rattle.charging.proofs.PostedLaws.{wordsIn, chargesIn, posted-cover, posted-uncovered, posted-paid, posted-unpaid}
 
 -- Where the new covering area is of kind 8, the charge is the payment per trip, and it is added.
@@ -84,7 +82,7 @@ module _ {tariff : List ℕ} {counts : Counts} (t : FaultlessTariff tariff count
             le-trans (s .covered inner is (ap (λ (kind : ℕ). eqb kind aachenKind) (sym same) ∙ aachen)) (flat-within t inner new there same inside)
       ]
 
-module _ {tariff : List ℕ} {counts : Counts} {book : List ℕ} {ride : Ride} (ok : Rideable tariff counts book ride) (window : Window)
+module _ {tariff : List ℕ} {counts : Counts} {book : List ℕ} {ride : Ride} (window : Window) (ok : Rideable tariff counts book (window .current) ride)
     (checkout : ℕ) (room : window .current ≡ true → tripsOf book ≤ 255) where
   t : FaultlessTariff tariff counts
   t = faultless tariff counts (ok .read)
@@ -100,7 +98,7 @@ module _ {tariff : List ℕ} {counts : Counts} {book : List ℕ} {ride : Ride} (
       let old = coverWord (wordsIn window book) k in
       let paid = paidWord (wordsIn window book) k in
       let new = newCover tariff counts (ride .area) old in
-      let known = cover-known (window .current) (sound-has book (counts .areas) (ok .sound-book)) k (omega (arith, ok .bicycles)) in
+      let known = ride-words ok .covers k (omega (arith, ok .bicycles)) in
       let under = still-within t (ride .area) old paid (ok .area) known s aachen in
       let pays = per-trip-says tariff counts new paid in
       let within = pays .within-cap under in
@@ -108,7 +106,7 @@ module _ {tariff : List ℕ} {counts : Counts} {book : List ℕ} {ride : Ride} (
       rw (
         bicycle-stands tariff counts (wordsIn window book) ride k h,
         charge-paid tariff counts (ride .area) old paid aachen,
-        posted-paid ok window checkout room k h,
+        posted-paid window ok checkout room k h,
         payment-added tariff counts new paid aachen,
       )
       (record { added = refl; at-most-price = pays .at-most-price; within-cap = within; full = full })
@@ -122,7 +120,7 @@ module _ {tariff : List ℕ} {counts : Counts} {book : List ℕ} {ride : Ride} (
       elim (decLt k (ride .party .bicycles)) [
         | yes on ↦
             let new = newCover tariff counts (ride .area) (coverWord (wordsIn window book) k) in
-            let covers = posted-cover ok window checkout room k on in
+            let covers = posted-cover window ok checkout room k on in
             record {
               unused = λ none. absurd (omega arith);
               covered = λ cover is aachen.
@@ -130,5 +128,5 @@ module _ {tariff : List ℕ} {counts : Counts} {book : List ℕ} {ride : Ride} (
                   rw same
                   (ride-pays k on s (ap (isAachen tariff) (sym same) ∙ aachen) .within-cap);
             }
-        | no off ↦ rw (posted-uncovered ok window checkout room k (omega arith) few, posted-unpaid ok window checkout room k (omega arith)) s
+        | no off ↦ rw (posted-uncovered window ok checkout room k (omega arith) few, posted-unpaid window ok checkout room k (omega arith) few) s
       ]

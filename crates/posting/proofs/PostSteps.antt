@@ -19,14 +19,13 @@ use Rattle.statement.specs.Reading.{areaIn, adultsIn, childrenIn, bicyclesIn, s
 use Rattle.statement.specs.Contracts.{RecordAt}
 use Rattle.statement.proofs.Records.{area-is, adults-is, children-is, bicycles-is, person-is, record-at}
 use Rattle.ledger.specs.declared.Window.{Window}
-use Rattle.ledger.specs.Words.{bookSize, word, tripsOf, firstChild, coverPlace, paidPlace}
+use Rattle.ledger.specs.Words.{bookSize, word, tripsOf, firstChild, coverPlace, paidPlace, editionPlace}
 use Rattle.ledger.specs.Windows.{opened}
-use Rattle.ledger.proofs.SoundLaws.{sound-has}
 use Rattle.ledger.proofs.Counting.{Counting, counting}
 use Rattle.cycles.specs.Bicycles.{coverBicycles}
 use Rattle.charging.specs.After.{addList, posted}
 use Rattle.charging.proofs.SumLaws.{list-size, list-other}
-use Rattle.charging.proofs.ChargeLaws.{charges-most}
+use Rattle.charging.proofs.ChargeLaws.{ride-book, ride-words, charges-most}
 use Rattle.charging.proofs.PostedLaws.{wordsIn, chargesIn, opened-other}
 use Rattle.posting.specs.Contracts.{Room, chargesFrom, Adding, RidersPosted, Covering, Postable}
 use Rattle.posting.proofs.PostTurns.{from-at, room-same}
@@ -109,13 +108,13 @@ module _ {t : List ℕ} {counts : Counts} {b : List ℕ} {window : Window} {clas
       ap (λ (j : ℕ). getD (chargesFrom s from n) j 0) (zero-add i) ∙ from-at s from n i h ∙ ap (getLe 4 s) behind ∙ charge-there (k + i) few
 
   charge-small : (i : ℕ) → i < personsOf (part .ride .party) → getLe 4 s (place + headSize + personSize * i) ≤ mostPrice
-  charge-small i h = rw (charge-there i h) (charges-most (p .rideable) (window .current) i)
+  charge-small i h = rw (charge-there i h) (charges-most (p .rideable) i)
 
   room : window .current ≡ true → tripsOf b ≤ 255
   room current = omega (arith, rw current at (p .trips), p .few)
 
   window-words : Counting (wordsIn window b) (counts .areas) (cond (window .current) (tripsOf b) 0)
-  window-words = counting (window .current) (sound-has b (counts .areas) (p .rideable .sound-book)) room
+  window-words = counting (window .current) b (ride-words (p .rideable)) room
 
   -- After the window is opened.
   module _ (checkout : ℕ) {b₁ : List ℕ} (e₁ : b₁ ≡ opened window checkout (wordsIn window b)) (kept₁ : length b₁ ≡ length b)
@@ -141,14 +140,14 @@ module _ {t : List ℕ} {counts : Counts} {b : List ℕ} {window : Window} {clas
         )
 
     size₁ : length b₁ ≡ bookSize
-    size₁ = kept₁ ∙ sound-has b (counts .areas) (p .rideable .sound-book) .size
+    size₁ = kept₁ ∙ ride-book (p .rideable) .size
 
-    word₁ : (j : ℕ) → 3 ≤ j → word b₁ j ≡ word (wordsIn window b) j
-    word₁ j h = ap (λ (l : List ℕ). word l j) e₁ ∙ opened-other window checkout (wordsIn window b) j h
+    word₁ : (j : ℕ) → 3 ≤ j → j < editionPlace → word b₁ j ≡ word (wordsIn window b) j
+    word₁ j h h′ = ap (λ (l : List ℕ). word l j) e₁ ∙ opened-other window checkout (wordsIn window b) j h h′
 
     room₁ : (rider : ℕ) → rider < 21 → Room b₁ rider
     room₁ rider h =
-        room-same (wordsIn window b) b₁ rider (λ j low high. word₁ j (omega arith))
+        room-same (wordsIn window b) b₁ rider (λ j low high. word₁ j (omega arith) (omega arith))
         (λ area h′. omega (arith, window-words .few, window-words .pairs rider area h h′))
 
     -- After the adults' charges are added: the words behind theirs are as they were.
@@ -170,12 +169,12 @@ module _ {t : List ℕ} {counts : Counts} {b : List ℕ} {window : Window} {clas
           ∙ list-size right class at there firstChild _ 0 children _ (omega (arith, p .rideable .children, says .children-are))
           ∙ kept₂ refl ∙ kept₁
 
-      word₃ : (j : ℕ) → coverPlace 0 ≤ j → word b₃ j ≡ word (wordsIn window b) j
-      word₃ j h =
+      word₃ : (j : ℕ) → coverPlace 0 ≤ j → j < editionPlace → word b₃ j ≡ word (wordsIn window b) j
+      word₃ j h h′ =
           ap (λ (l : List ℕ). word l j) e₃
           ∙ list-other right class at there firstChild _ 0 children _
           (omega (arith, p .rideable .children, says .children-are)) j (inr (omega (arith, p .rideable .children, says .children-are)))
-          ∙ word₂ refl j (omega arith) ∙ word₁ j (omega arith)
+          ∙ word₂ refl j (omega arith) ∙ word₁ j (omega arith) h′
 
     pub group-ready :
         {k first count next : ℕ} {b′ : List ℕ} → k < 2 → Groups t counts class at adults children s first-charge b₁ k first count next b′
@@ -219,12 +218,16 @@ module _ {t : List ℕ} {counts : Counts} {b : List ℕ} {window : Window} {clas
     covers-ready all (one-group here is) = absurd (omega arith)
     covers-ready all (two-groups here is) =
         record {
-          size = kept₃ is ∙ sound-has b (counts .areas) (p .rideable .sound-book) .size;
+          size = kept₃ is ∙ ride-book (p .rideable) .size;
           read = p .rideable .read;
           area = there;
           few = rw (says .bicycles-are) (p .rideable .bicycles);
-          covers = λ i h. rw (word₃ is (coverPlace i) (omega arith)) (window-words .covers i (omega (arith, p .rideable .bicycles, says .bicycles-are)));
-          payments = λ i h. rw (word₃ is (paidPlace i) (omega arith)) (window-words .payments i (omega (arith, p .rideable .bicycles, says .bicycles-are)));
+          covers = λ i h.
+              let few : i < 10 = omega (arith, p .rideable .bicycles, says .bicycles-are) in
+              rw (word₃ is (coverPlace i) (omega arith) (omega arith)) (window-words .covers i few);
+          payments = λ i h.
+              let few : i < 10 = omega (arith, p .rideable .bicycles, says .bicycles-are) in
+              rw (word₃ is (paidPlace i) (omega arith) (omega arith)) (window-words .payments i few);
         }
 
     -- After the last step the book is what the part's ride leaves, and behind the bicycles' charges the record ends.

@@ -36,6 +36,7 @@ use Rattle.ledger.specs.Words.{
   coverWord,
   paidPlace,
   paidWord,
+  editionPlace,
 }
 use Rattle.ledger.specs.Sound.{mostPaid}
 use Rattle.ledger.specs.Windows.{inWindow, opened}
@@ -65,12 +66,13 @@ window-left true trips size fresh read same e = record { value = e; size = ap le
 window-left false trips size fresh read same e =
     record { value = e ∙ fresh (sym read ∙ eqb-true trips 0 (not-false _ same)); size = ap length e ∙ size }
 
--- Then its three words are put.
-pub three-put :
-    (window : Window) (checkout : ℕ) {w b b₁ b₂ b₃ : List ℕ} → b ≡ w → b₁ ≡ putWord b 0 (window .trips + 1)
-    → b₂ ≡ putWord b₁ 1 (window .opening .0) → b₃ ≡ putWord b₂ 2 checkout → b₃ ≡ opened window checkout w
+-- Then its four words are put.
+pub four-put :
+    (window : Window) (checkout : ℕ) {w b b₁ b₂ b₃ b₄ : List ℕ} → b ≡ w → b₁ ≡ putWord b 0 (window .trips + 1)
+    → b₂ ≡ putWord b₁ 1 (window .opening .0) → b₃ ≡ putWord b₂ 2 checkout → b₄ ≡ putWord b₃ editionPlace (window .edition)
+    → b₄ ≡ opened window checkout w
 unfolding opened
-three-put window checkout e e₁ e₂ e₃ = rw (e₃, e₂, e₁, e)
+four-put window checkout e e₁ e₂ e₃ e₄ = rw (e₄, e₃, e₂, e₁, e)
 
 -- Where the second-class sum has been seen to: in class 2 the charge is added to it, and the all-classes sum is as it was.
 pub record SecondAdded (b b′ : List ℕ) (rider class area amount : ℕ) : Type 0 where

@@ -27,7 +27,7 @@ twice-alike =
 
 opened-bytes : (window : Window) (checkout : ℕ) (b : List ℕ) → Bytes b → Bytes (opened window checkout b)
 unfolding opened
-opened-bytes window checkout b bytes = bytes-stay 4 _ _ _ (bytes-stay 4 _ _ _ (bytes-stay 4 _ _ _ bytes))
+opened-bytes window checkout b bytes = bytes-stay 4 _ _ _ (bytes-stay 4 _ _ _ (bytes-stay 4 _ _ _ (bytes-stay 4 _ _ _ bytes)))
 
 -- A ride leaves a book of bytes where the words that count are one.
 pub posted-bytes :

@@ -19,10 +19,11 @@ use Rattle.ledger.specs.declared.Window.{Window}
 use Rattle.ledger.specs.Sound.{sound}
 use Rattle.ledger.specs.Windows.{tooEarly, windowOf}
 use Rattle.ledger.specs.Contracts.{WindowRight}
-use Rattle.ledger.proofs.SoundLaws.{PairSound, head-back, sound-has, sound-back}
+use Rattle.ledger.proofs.SoundLaws.{PairSound, head-back, sound-back}
 use Rattle.ledger.proofs.Counting.{counting}
 use Rattle.ledger.proofs.WindowLaws.{window-right, window-room}
 use Rattle.charging.specs.Caps.{treeOf}
+use Rattle.charging.proofs.ChargeLaws.{ride-book, ride-words}
 use Rattle.charging.specs.Contracts.{Rideable}
 use Rattle.charging.specs.After.{posted}
 use Rattle.charging.proofs.PostedLaws.{
@@ -32,6 +33,7 @@ use Rattle.charging.proofs.PostedLaws.{
   posted-trips,
   posted-opening,
   posted-out,
+  posted-edition,
   posted-covers,
   posted-payments,
   posted-sum,
@@ -44,7 +46,7 @@ added-less : (s v : Bool) (c : ℕ) → cond (s && v) c 0 ≤ cond v c 0
 added-less true v c = le-refl _
 added-less false v c = omega arith
 
-module _ {tariff : List ℕ} {counts : Counts} {book : List ℕ} {ride : Ride} (ok : Rideable tariff counts book ride) {window : Window}
+module _ {tariff : List ℕ} {counts : Counts} {book : List ℕ} {ride : Ride} {window : Window} (ok : Rideable tariff counts book (window .current) ride)
     {checkout : ℕ} (right : WindowRight book window checkout) where
   -- Each rider's sums in an area are right for one trip more.
   pub posted-pair :
@@ -53,12 +55,12 @@ module _ {tariff : List ℕ} {counts : Counts} {book : List ℕ} {ride : Ride} (
       let room = window-room right in
       let own = ownCharge ride (chargesIn tariff counts book window ride) rider in
       let inside = within (treeOf tariff counts false) (ride .area) area in
-      let before = counting (window .current) (sound-has book (counts .areas) (ok .sound-book)) room .pairs rider area hr ha in
-      let second = posted-sum ok window checkout room true rider area hr ha in
-      let all = posted-sum ok window checkout room false rider area hr ha in
+      let before = counting (window .current) book (ride-words ok) room .pairs rider area hr ha in
+      let second = posted-sum window ok checkout room true rider area hr ha in
+      let all = posted-sum window ok checkout room false rider area hr ha in
       let less = added-less (eqb (ride .class) 2) inside own in
       let most = added-most inside own in
-      let charge = own-range ok window rider in
+      let charge = own-range window ok rider in
       let one = right .trips in
       (omega arith, omega arith)
 
@@ -67,19 +69,20 @@ module _ {tariff : List ℕ} {counts : Counts} {book : List ℕ} {ride : Ride} (
   posted-sound =
       let room = window-room right in
       let head = right .head in
-      let trips = posted-trips ok window checkout room (omega arith) in
-      let opening = posted-opening ok window checkout room (omega arith) in
-      let out = posted-out ok window checkout room (omega arith) in
-      sound-back (posted tariff counts book window checkout ride) (counts .areas) (posted-size ok window checkout room)
-      (rw (trips, opening, out) (head-back _ _ _ head))
-      (λ rider area hr ha. rw trips (posted-pair rider area hr ha)) (posted-covers ok window checkout room)
-      (posted-payments ok window checkout room)
+      let trips = posted-trips window ok checkout room (omega arith) in
+      let opening = posted-opening window ok checkout room (omega arith) in
+      let out = posted-out window ok checkout room (omega arith) in
+      let edition = posted-edition window ok checkout room (omega (arith, right .small)) in
+      sound-back (posted tariff counts book window checkout ride) (counts .areas) (posted-size window ok checkout room)
+      (rw (trips, opening, out) (head-back _ _ _ head)) (rw edition (right .edition))
+      (λ rider area hr ha. rw trips (posted-pair rider area hr ha)) (posted-covers window ok checkout room)
+      (posted-payments window ok checkout room)
 
 -- A sound book with room for the trip is sound again after the ride, under the same tariff.
 pub sound-again :
-    {tariff : List ℕ} {counts : Counts} {book : List ℕ} {ride : Ride} → Rideable tariff counts book ride
-    → {window : Window} {checkin checkout : ℕ} → window ≡ windowOf book checkin checkout → window .trips + 1 ≤ 256 → checkin ≤ checkout
-    → checkout ≤ checkin + dayMinutes → checkout ≤ lastMinute → tooEarly book checkin ≡ false
+    {tariff : List ℕ} {counts : Counts} {book : List ℕ} {ride : Ride} (window : Window) → Rideable tariff counts book (window .current) ride
+    → {checkin checkout : ℕ} (next : ℕ) → window ≡ windowOf book checkin checkout next → window .trips + 1 ≤ 256 → 1 ≤ window .edition
+    → window .edition ≤ 255 → checkin ≤ checkout → checkout ≤ checkin + dayMinutes → checkout ≤ lastMinute → tooEarly book checkin ≡ false
     → sound (posted tariff counts book window checkout ride) (counts .areas) ≡ true
-sound-again {counts = counts} {book = book} ok {window = window} is few order day last early =
-    posted-sound ok (window-right (sound-has book (counts .areas) (ok .sound-book)) order day last early window is few)
+sound-again window ok next is few some small order day last early =
+    posted-sound ok (window-right (ride-book ok) next order day last early window is few some small)

@@ -110,7 +110,7 @@ pub record Covering (tariff : List ℕ) (counts : Counts) (book : List ℕ) (at 
 -- record stands at a place of the statement
 pub record Postable (tariff : List ℕ) (counts : Counts) (book : List ℕ) (window : Window) (class : ℕ)
     (part : Part) (statement : List ℕ) (place : ℕ) : Type 0 where
-  pub rideable : Rideable tariff counts book (part .ride)
+  pub rideable : Rideable tariff counts book (window .current) (part .ride)
   pub class-is : part .ride .class ≡ class
   pub trips : window .trips ≡ cond (window .current) (tripsOf book) 0
   pub few : window .trips ≤ 255

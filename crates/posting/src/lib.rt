@@ -6,6 +6,7 @@ use cycles::bicycles::words_with;
 use cycles::terms::terms_of;
 use layout::Counts;
 use ledger::Window;
+use ledger::words::EDITION;
 use ledger::words::FIRST_CHILD;
 use ledger::words::LAST_OUT;
 use ledger::words::OPENING;
@@ -58,7 +59,7 @@ fn clear(book: &mut [u8])
 }
 
 // The trip's window: cleared if it is new, unless the book is fresh and there is nothing to clear; word 0 the trips with this one, word 1
-// the opening, word 2 the check-out.
+// the opening, word 2 the check-out, and the last its edition.
 fn open_window(book: &mut [u8], window: Window, checkout: Minutes)
     requires { ⌜ (length (now book) ≡ bookSize) × (FreshOrUsed (now book) × (window .trips ≤ 255)) ⌝ }
     ensures { λ _. ⌜ now (book .exit) ≡ opened window (checkout .0) (inWindow (window .current) (now (book .entry))) ⌝ }
@@ -70,6 +71,7 @@ fn open_window(book: &mut [u8], window: Window, checkout: Minutes)
     put(book, TRIPS, window.trips + 1);
     put(book, OPENING, opening.0);
     put(book, LAST_OUT, checkout.0);
+    put(book, EDITION, window.edition as u32);
 }
 
 // A charge added to a rider's sums in one area: in all classes, and in second class if that is the class.

@@ -1,5 +1,5 @@
--- Books the same in every word but the opening minute and the last check-out: a ride is charged the same on both, with the
--- same cuts, and leaves two such books.
+-- Books the same in every word but the opening minute and the last check-out: a ride is charged the same on both, with the same cuts, and
+-- leaves two such books, where its windows are of one edition.
 -- Assumes nothing.
 use Prim.Native.Nat.{ℕ, _+_, _*_, _≤_, _<_}
 use native.Mathlib.Omega.{arith}
@@ -13,7 +13,7 @@ use Rattle.layout.specs.declared.Counts.{Counts}
 use Rattle.areas.specs.Areas.{FaultlessTariff}
 use Rattle.trip.specs.declared.Ride.{Ride}
 use Rattle.ledger.specs.declared.Window.{Window}
-use Rattle.ledger.specs.Words.{freshBook, word, putWord}
+use Rattle.ledger.specs.Words.{freshBook, editionPlace, word, putWord}
 use Rattle.ledger.specs.Windows.{inWindow, opened}
 use Rattle.charging.specs.Charging.{chargesOf}
 use Rattle.charging.specs.Cuts.{cutsOf}
@@ -71,15 +71,18 @@ touches counts ride =
       bicycles = λ i h. (omega arith, omega arith);
     }
 
--- the window's words put in both, with the same trips
+-- the window's words put in both, with the same trips and edition
 opened-same :
     (window window′ : Window) (checkout checkout′ : ℕ) {b b′ : List ℕ} → SameWords b b′ → window′ .trips ≡ window .trips
-    → SameWords (opened window checkout b) (opened window′ checkout′ b′)
+    → window′ .edition ≡ window .edition → SameWords (opened window checkout b) (opened window′ checkout′ b′)
 unfolding opened
-opened-same window window′ checkout checkout′ {b} {b′} s trips =
-    put-between
+opened-same window window′ checkout checkout′ {b} {b′} s trips edition =
+    rw edition
+    (words-alike .put _ _
+    (put-between
     (put-between (rw trips (words-alike .put b b′ s 0 (window .trips + 1))) 1 (window .opening .0) (window′ .opening .0) (omega arith) (omega arith))
-    2 checkout checkout′ (omega arith) (omega arith)
+    2 checkout checkout′ (omega arith) (omega arith))
+    editionPlace (window .edition))
 
 -- The words that count in a window: both books', or a fresh book's.
 pub window-same : (current : Bool) {book book′ : List ℕ} → SameWords book book′ → SameWords (inWindow current book) (inWindow current book′)
@@ -101,10 +104,10 @@ module _ {tariff : List ℕ} {counts : Counts} (t : FaultlessTariff tariff count
   -- A ride leaves two such books on two such books.
   pub posted-same :
       (window window′ : Window) (checkout checkout′ : ℕ) {book book′ : List ℕ} → SameWords book book′ → window′ .current ≡ window .current
-      → window′ .trips ≡ window .trips
+      → window′ .trips ≡ window .trips → window′ .edition ≡ window .edition
       → SameWords (posted tariff counts book window checkout ride) (posted tariff counts book′ window′ checkout′ ride)
-  posted-same window window′ checkout checkout′ {book} {book′} s current trips =
+  posted-same window window′ checkout checkout′ {book} {book′} s current trips edition =
       let words : SameWords (inWindow (window .current) book) (inWindow (window′ .current) book′) =
       rw current (window-same (window .current) s) in
       posted-by-words words-alike t ride there (touches counts ride) window window′ checkout checkout′ book book′ words
-      (opened-same window window′ checkout checkout′ words trips)
+      (opened-same window window′ checkout checkout′ words trips edition)

@@ -11,14 +11,19 @@ use lib.ListN.{length, getD}
 use Rattle.caps.specs.Named.{CapHere, all-classes, second-class}
 use Rattle.caps.proofs.Climb.{within-there}
 use Rattle.layout.specs.declared.Counts.{Counts}
-use Rattle.layout.specs.Layout.{longestTariff}
+use Rattle.layout.specs.Scan.{Read}
+use Rattle.editions.specs.declared.Editions.{Editions}
+use Rattle.editions.specs.declared.FileReading.the-variants.{Fault}
+use Rattle.editions.specs.Editions.{inForce}
+use Rattle.editions.specs.Reading.{longestFile}
+use Rattle.editions.proofs.FileLaws.{file-exactly}
+use Rattle.editions.proofs.Parts.{edition-read}
+use Rattle.editions.proofs.Places.{many-most}
+use Rattle.editions.proofs.Cases.{file-fault-most}
 use Rattle.areas.specs.Areas.{FaultlessTariff}
-use Rattle.layout.specs.Scan.{FaultlessUntil, FaultSays}
-use Rattle.layout.specs.Scan as scan
 use Rattle.areas.proofs.Faultless.{faultless}
-use Rattle.scan.proofs.Faults.{fault-exactly, fault-number, fault-most}
 use Rattle.trip.specs.Record.{classAt, levelAt, partyAt, countAt}
-use Rattle.trip.specs.Moments.{checkoutOf}
+use Rattle.trip.specs.Moments.{checkinOf, checkoutOf}
 use Rattle.trip.specs.Trips.{tripOf}
 use Rattle.trip.proofs.Ranges.{PartyRanges}
 use Rattle.trip.proofs.Clear.{good-fields}
@@ -36,6 +41,7 @@ use Rattle.ledger.specs.declared.Window.{Window}
 use Rattle.caps.specs.declared.Cut.{Cut}
 use Rattle.ledger.specs.Windows.{inWindow}
 use Rattle.ledger.specs.Words.{secondSum, allSum, coverWord, paidWord}
+use Rattle.ledger.specs.Sound.{soundAlone, coversSound}
 use Rattle.charging.specs.Caps.{treeOf}
 use Rattle.charging.specs.Charging.{isChild, carries, placeOf, chargesOf}
 use Rattle.charging.specs.Cuts.{cutsOf}
@@ -43,7 +49,7 @@ use Rattle.charging.specs.InWords.{ChargeSays, CutSays}
 use Rattle.cycles.specs.InWords.{BicycleSays}
 use Rattle.charging.specs.Contracts.{Rideable}
 use Rattle.charging.specs.After.{posted}
-use Rattle.ledger.proofs.SoundLaws.{sound-has}
+use Rattle.ledger.proofs.SoundLaws.{sound-alone, sound-covers, alone-has}
 use Rattle.ledger.specs.Contracts.{WindowRight}
 use Rattle.ledger.proofs.WindowLaws.{window-right}
 use Rattle.posting.proofs.NextPart.{next-right}
@@ -51,6 +57,7 @@ use Rattle.posting.proofs.SoundAgain.{posted-sound}
 use Rattle.charging.proofs.Trees.{is-tree}
 use Rattle.charging.proofs.ChargeLaws.{
   place-there,
+  ride-words,
   charges-length,
   cuts-length,
   adult-stands,
@@ -61,7 +68,6 @@ use Rattle.charging.proofs.ChargeLaws.{
   child-cut-stands,
   rider-cut-stands,
 }
-use Rattle.ledger.proofs.Counting.{cover-known}
 use Rattle.charging.proofs.CutLaws.{cut-says, cut-one, cut-full}
 use Rattle.charging.proofs.InWords.{charge-says}
 use Rattle.cycles.proofs.InWords.{bicycle-says}
@@ -86,22 +92,21 @@ use Rattle.statement.proofs.Records.{
   cap-class-is,
   second-stands,
 }
-use Rattle.deciding.specs.Refusals.{lastRefusal, Numbered, rows}
+use Rattle.deciding.specs.Refusals.{lastRefusal, Numbered, windowIn, tariffFor, countsFor, rows}
 use Rattle.settle.specs.Outcome.{Outcome, refused, accepted, partOf, oneMore, partsOf, acceptedTrip, settled, answerOf, Settled}
 use Rattle.deciding.proofs.Rows.{first-holds, first-range, rows-range}
 use Rattle.settle.proofs.Clear.{part-complete, can-record}
-use Rattle.deciding.proofs.Decisions.{refused-first, clear-first, NoneHolds, no-row}
+use Rattle.deciding.proofs.Decisions.{refused-first, clear-first, in-alone, covers-there, edition-known, NoneHolds, no-row}
 use Rattle.settle.proofs.Ways.{fault-way, refused-way, accepted-way}
 use Rattle.promises.specs.Conditions.{
   tripRides,
-  tripWindow,
   condition,
   NoCondition,
   RefusedBy,
-  by-tariff,
+  by-file,
   by-others,
   AcceptedBy,
-  ridesFor,
+  ridesIn,
   minutesOf,
   rideOn,
   cutIn,
@@ -111,41 +116,57 @@ use Rattle.promises.specs.Conditions.{
   as-one,
   as-two,
 }
-use Rattle.promises.proofs.Refusing.{first-exactly, none-exactly, counts-are, no-fault, Answered, refusing, accepting, answered}
+use Rattle.promises.proofs.Refusing.{first-exactly, none-exactly, fault-some, editions-one, no-fault, Answered, refusing, accepting, answered}
+
+-- ---- What an acceptance has.
+
+module _ {file book bytes : List ℕ} {room : ℕ} {new : List ℕ} {parts : List Part} (a : AcceptedBy file book bytes room new parts) where
+  -- the window that the trip belongs to or opens, and the tariff of its edition
+  abbrev pub windowBy : Window
+  windowBy = windowIn (a .editions) book bytes
+
+  abbrev pub tariffBy : List ℕ
+  tariffBy = tariffFor file (a .editions) book bytes
+
+  abbrev pub countsBy : Counts
+  countsBy = countsFor (a .editions) book bytes
+
+  -- which is faultless
+  pub read-by : Read tariffBy countsBy
+  read-by = edition-read file (a .editions) (a .read) (windowBy .edition)
+
+  -- where no row holds: the book is sound, the trip good and on time, its window not full, and there is room for its records
+  pub clear : NoneHolds file (a .editions) book bytes room
+  clear =
+      no-row file (a .editions) book bytes room (none-exactly file (a .editions) (a .read) book bytes room .1 (a .none))
+
+  pub alone-by : soundAlone book ≡ true
+  alone-by = in-alone (a .editions) book (clear .sound-book)
+
+  -- in the open window the book's bicycles are within the areas of the edition
+  pub covers-by : windowBy .current ≡ true → coversSound book (countsBy .areas) ≡ true
+  covers-by = covers-there (a .editions) book bytes (clear .sound-book)
+
+  -- each of its rides can be charged, there is one at least, and its window is right for the first
+  pub charged-rides : EachRide (Rideable tariffBy countsBy book (windowBy .current)) (tripRides tariffBy countsBy bytes)
+  charged-rides = good-rides tariffBy countsBy book (windowBy .current) bytes read-by alone-by covers-by (clear .good)
+
+  pub some-rides : 1 ≤ length (tripRides tariffBy countsBy bytes)
+  some-rides = few-rides tariffBy countsBy bytes (tripOf bytes) .0
+
+  pub right-window : WindowRight book windowBy (checkoutOf bytes)
+  right-window =
+      let fields = good-fields (clear .good) in
+      window-right (alone-has book alone-by) (inForce (a .editions) (checkinOf bytes)) (fields .forward) (fields .short) (fields .range)
+      (clear .on-time) windowBy refl (omega (arith, clear .few, some-rides)) (clear .some-edition)
+      (omega (arith, edition-known (a .editions) book bytes (clear .sound-book), many-most (a .editions)))
 
 -- ---- What a record says.
-
--- where no row holds: the book is sound, the trip good and on time, its window not full, and there is room for its records
-pub clear :
-    {tariff book bytes : List ℕ} {room : ℕ} {new : List ℕ} {parts : List Part} (a : AcceptedBy tariff book bytes room new parts)
-    → NoneHolds tariff (a .counts) book bytes room
-clear {tariff} {book} {bytes} {room} a =
-    no-row tariff (a .counts) book bytes room (none-exactly tariff (a .counts) book bytes room .1 (a .none))
-
--- each of its rides can be charged, there is one at least, and its window is right for the first
-pub charged-rides :
-    {tariff book bytes : List ℕ} {room : ℕ} {new : List ℕ} {parts : List Part} (a : AcceptedBy tariff book bytes room new parts)
-    → EachRide (Rideable tariff (a .counts) book) (tripRides tariff (a .counts) bytes)
-charged-rides {tariff} {book} {bytes} a = good-rides tariff (a .counts) book bytes (a .read) (clear a .sound-book) (clear a .good)
-
-pub some-rides :
-    {tariff book bytes : List ℕ} {room : ℕ} {new : List ℕ} {parts : List Part} (a : AcceptedBy tariff book bytes room new parts)
-    → 1 ≤ length (tripRides tariff (a .counts) bytes)
-some-rides {tariff} {bytes = bytes} a = few-rides tariff (a .counts) bytes (tripOf bytes) .0
-
-pub right-window :
-    {tariff book bytes : List ℕ} {room : ℕ} {new : List ℕ} {parts : List Part} (a : AcceptedBy tariff book bytes room new parts)
-    → WindowRight book (tripWindow book bytes) (checkoutOf bytes)
-right-window {tariff} {book} {bytes} a =
-    let c = clear a in
-    let fields = good-fields (c .good) in
-    window-right (sound-has book (a .counts .areas) (c .sound-book)) (fields .forward) (fields .short) (fields .range) (c .on-time)
-    (tripWindow book bytes) refl (omega (arith, c .few, some-rides a))
 
 -- a part for each ride
 parts-rides :
     (tariff : List ℕ) (counts : Counts) (checkout : ℕ) (rides : List Ride) (book : List ℕ) (window : Window)
-    → ridesFor (partsOf tariff counts book window checkout rides) ≡ rides
+    → ridesIn (partsOf tariff counts book window checkout rides) ≡ rides
 unfolding partsOf partOf
 parts-rides tariff counts checkout [] book window = refl
 parts-rides tariff counts checkout (ride ∷ rides) book window =
@@ -153,18 +174,18 @@ parts-rides tariff counts checkout (ride ∷ rides) book window =
     (parts-rides tariff counts checkout rides (posted tariff counts book window checkout ride) (oneMore window))
 
 pub rides-are :
-    {tariff book bytes : List ℕ} {room : ℕ} {new : List ℕ} {parts : List Part} (a : AcceptedBy tariff book bytes room new parts)
-    → ridesFor parts ≡ tripRides tariff (a .counts) bytes
-rides-are {tariff} {book} {bytes} a =
-    ap ridesFor (a .parts-is)
-    ∙ parts-rides tariff (a .counts) (checkoutOf bytes) (tripRides tariff (a .counts) bytes) book (tripWindow book bytes)
+    {file book bytes : List ℕ} {room : ℕ} {new : List ℕ} {parts : List Part} (a : AcceptedBy file book bytes room new parts)
+    → ridesIn parts ≡ tripRides (tariffBy a) (countsBy a) bytes
+rides-are {file} {book} {bytes} a =
+    ap ridesIn (a .parts-is)
+    ∙ parts-rides (tariffBy a) (countsBy a) (checkoutOf bytes) (tripRides (tariffBy a) (countsBy a) bytes) book (windowBy a)
 
-pub rides-length : (parts : List Part) → length (ridesFor parts) ≡ length parts
+pub rides-length : (parts : List Part) → length (ridesIn parts) ≡ length parts
 rides-length [] = refl
 rides-length (part ∷ parts) = ap suc (rides-length parts)
 
 pub some-parts :
-    {tariff book bytes : List ℕ} {room : ℕ} {new : List ℕ} {parts : List Part} → AcceptedBy tariff book bytes room new parts → 1 ≤ length parts
+    {file book bytes : List ℕ} {room : ℕ} {new : List ℕ} {parts : List Part} → AcceptedBy file book bytes room new parts → 1 ≤ length parts
 some-parts {parts = parts} a = omega (arith, rides-length parts, ap length (rides-are a), some-rides a)
 
 -- a cut that is what the words say names a cap only where something is taken off: a cap's area is the tariff's, and its class 1 or 2
@@ -199,8 +220,8 @@ same-cut : {k k′ : Cut} → k .reduction .0 ≡ k′ .reduction .0 → k .area
 same-cut e e′ e″ = rw (e, e′, e″)
 
 -- a ride's part, and its record where it stands in a statement
-module _ {tariff : List ℕ} {counts : Counts} {book : List ℕ} {ride : Ride} (ok : Rideable tariff counts book ride) {window : Window} {checkout : ℕ}
-    (right : WindowRight book window checkout) where
+module _ {tariff : List ℕ} {counts : Counts} {book : List ℕ} {ride : Ride} {window : Window} (ok : Rideable tariff counts book (window .current) ride)
+    {checkout : ℕ} (right : WindowRight book window checkout) where
   abbrev w : List ℕ
   w = inWindow (window .current) book
 
@@ -259,11 +280,10 @@ module _ {tariff : List ℕ} {counts : Counts} {book : List ℕ} {ride : Ride} (
     bicycle-pays i h =
         let behind = 1 + ride .party .adults + ride .party .children + i in
         let there : behind < length (chargesOf tariff counts w ride) = omega (arith, charges-length tariff counts w ride) in
-        let sound-words = sound-has book (counts .areas) (ok .sound-book) in
         subst (BicycleSays tariff counts (ride .area) (coverWord w i) (paidWord w i))
         (sym (charge-stands behind there ∙ bicycle-stands tariff counts w ride i h))
         (bicycle-says (faultless tariff counts (ok .read)) (ride .area) (coverWord w i) (paidWord w i) (ok .area)
-        (cover-known (window .current) sound-words i (omega (arith, ok .bicycles))))
+        (ride-words ok .covers i (omega (arith, ok .bicycles))))
 
 -- the smallest area containing the stops of a trip from one to another
 smallest :
@@ -275,8 +295,8 @@ smallest stops from to order inside =
 
 -- the record of a ride from the one to the other
 module _ {tariff : List ℕ} {counts : Counts} {book bytes : List ℕ} (stops : Riding tariff counts bytes (countAt bytes 0)) {from to minutes : ℕ}
-    (order : from ≤ to) (inside : to < countAt bytes 0) (ok : Rideable tariff counts book (rideOn tariff counts bytes from to minutes))
-    {window : Window} {checkout : ℕ} (right : WindowRight book window checkout) {statement : List ℕ} {place : ℕ}
+    (order : from ≤ to) (inside : to < countAt bytes 0) {window : Window}
+    (ok : Rideable tariff counts book (window .current) (rideOn tariff counts bytes from to minutes)) {checkout : ℕ} (right : WindowRight book window checkout) {statement : List ℕ} {place : ℕ}
     (stands : StandsAt (partOf tariff counts book window (rideOn tariff counts bytes from to minutes)) statement place) where
   said : RecordSays tariff bytes (inWindow (window .current) book) counts (window .opening .0) from to minutes statement place
   unfolding rideBetween partOf
@@ -314,15 +334,18 @@ module _ {tariff : List ℕ} {counts : Counts} {book bytes : List ℕ} (stops : 
 
 -- ---- What the statement says.
 
-module _ {tariff book bytes : List ℕ} {room : ℕ} {new : List ℕ} {parts : List Part} (a : AcceptedBy tariff book bytes room new parts) where
+module _ {file book bytes : List ℕ} {room : ℕ} {new : List ℕ} {parts : List Part} (a : AcceptedBy file book bytes room new parts) where
+  abbrev tariff : List ℕ
+  tariff = tariffBy a
+
   abbrev counts : Counts
-  counts = a .counts
+  counts = countsBy a
 
   abbrev window : Window
-  window = tripWindow book bytes
+  window = windowBy a
 
   stops-there : Riding tariff counts bytes (countAt bytes 0)
-  stops-there = riding (a .read) (clear a .good)
+  stops-there = riding (read-by a) (clear a .good)
 
   two-stops : 2 ≤ countAt bytes 0
   two-stops = good-fields (clear a .good) .ranges .least
@@ -331,12 +354,14 @@ module _ {tariff book bytes : List ℕ} {room : ℕ} {new : List ℕ} {parts : L
   parts-with rides e = a .parts-is ∙ ap (partsOf tariff counts book window (checkoutOf bytes)) e
 
   -- one record
-  says-one : breakOf tariff counts bytes (countAt bytes 0) ≡ Unbroken → StatementSays tariff book bytes counts (statementOf parts)
+  says-one : breakOf tariff counts bytes (countAt bytes 0) ≡ Unbroken → StatementSays tariff counts window book bytes (statementOf parts)
   unfolding rideOf partsOf rideBetween
   says-one e =
       let ride = rideOn tariff counts bytes 0 (countAt bytes 0 - 1) (minutesOf bytes) in
       let part = partOf tariff counts book window ride in
-      let ok : Rideable tariff counts book ride = good-ride tariff counts book bytes (a .read) (clear a .sound-book) (clear a .good) in
+      let ok : Rideable tariff counts book (window .current) ride =
+      good-ride tariff counts book (window .current) bytes (read-by a) (alone-by a) (covers-by a) (clear a .good)
+      in
       let bytes-are : statementOf parts ≡ recordOf part =
       ap statementOf (parts-with (ride ∷ []) (one-ride tariff counts bytes (tripOf bytes) e)) ∙ one-part part
       in
@@ -345,7 +370,7 @@ module _ {tariff book bytes : List ℕ} {room : ℕ} {new : List ℕ} {parts : L
       (said stops-there (omega arith) (omega (arith, two-stops)) ok (right-window a) stands)
 
   -- two records
-  says-two : (c : ℕ) → breakOf tariff counts bytes (countAt bytes 0) ≡ At c → StatementSays tariff book bytes counts (statementOf parts)
+  says-two : (c : ℕ) → breakOf tariff counts bytes (countAt bytes 0) ≡ At c → StatementSays tariff counts window book bytes (statementOf parts)
   unfolding firstPart secondPart partsOf oneMore statementOf rideBetween
   says-two c e =
       let first = rideOn tariff counts bytes 0 c (minutesOf bytes) in
@@ -356,9 +381,15 @@ module _ {tariff book bytes : List ℕ} {room : ℕ} {new : List ℕ} {parts : L
       let right = right-window a in
       let inside = broken-between stops-there c e in
       let few = rw (two-rides tariff counts bytes (tripOf bytes) c e) at (clear a .few) in
-      let ok : Rideable tariff counts book first = good-first tariff counts book bytes (a .read) (clear a .sound-book) (clear a .good) c e in
+      let ok : Rideable tariff counts book (window .current) first =
+      good-first tariff counts book (window .current) bytes (read-by a) (alone-by a) (covers-by a) (clear a .good) c e
+      in
       let again = next-right ok right (omega arith) in
-      let ok′ : Rideable tariff counts between second = good-second tariff counts between bytes (a .read) (posted-sound ok right) (clear a .good) c e in
+      let left = posted-sound ok right in
+      let ok′ : Rideable tariff counts between true second =
+      good-second tariff counts between true bytes (read-by a) (sound-alone between (counts .areas) left) (λ _. sound-covers between (counts .areas) left)
+      (clear a .good) c e
+      in
       let bytes-are : statementOf parts ≡ statementOf (part ∷ next ∷ []) =
       ap statementOf (parts-with (first ∷ second ∷ []) (two-rides tariff counts bytes (tripOf bytes) c e))
       in
@@ -371,64 +402,54 @@ module _ {tariff book bytes : List ℕ} {room : ℕ} {new : List ℕ} {parts : L
       as-two c (broken-says stops-there c e) (ap length bytes-are ∙ length-two part next ∙ rw (size, record-size ok′ again))
       (said stops-there (omega arith) (omega arith) ok right stands) (said stops-there (omega arith) (omega (arith, two-stops)) ok′ again behind)
 
-  statement-said : StatementSays tariff book bytes counts (statementOf parts)
+  statement-said : StatementSays tariff counts window book bytes (statementOf parts)
   statement-said = go (breakOf tariff counts bytes (countAt bytes 0)) refl
     where
-      go : (b : Breaking) → breakOf tariff counts bytes (countAt bytes 0) ≡ b → StatementSays tariff book bytes counts (statementOf parts)
+      go : (b : Breaking) → breakOf tariff counts bytes (countAt bytes 0) ≡ b → StatementSays tariff counts window book bytes (statementOf parts)
       go (Unbroken) e = says-one e
       go (At c) e = says-two c e
 
 -- ---- The answers.
 
-module _ (tariff book bytes : List ℕ) (room : ℕ) where
-  -- What an acceptance says: the tariff is faultless, the book is sound, the trip is good and on time, its window has at most 256 with
+module _ (file book bytes : List ℕ) (room : ℕ) where
+  -- What an acceptance says: the file is faultless, the book is sound, the trip is good and on time, its window has at most 256 with
   -- its rides, there is room for their records; the new book and the parts are those of its rides.
-  pub accepted-is : {new : List ℕ} {parts : List Part} → settled tariff book bytes room ≡ accepted new parts → AcceptedBy tariff book bytes room new parts
-  accepted-is {new} {parts} e = met (rw e at (answered tariff book bytes room))
+  pub accepted-is : {new : List ℕ} {parts : List Part} → settled file book bytes room ≡ accepted new parts → AcceptedBy file book bytes room new parts
+  accepted-is {new} {parts} e = met (rw e at (answered file book bytes room))
     where
-      met : Answered tariff book bytes room (accepted new parts) → AcceptedBy tariff book bytes room new parts
+      met : Answered file book bytes room (accepted new parts) → AcceptedBy file book bytes room new parts
       met (accepting says) = says
 
   -- What a refusal says. 1 to 3: every record before its place is faultless, and the one there is faulty in the way of the number, where 1
-  -- goes before 2 and 2 before 3. 4 to 12: the tariff is faultless, the condition of the number holds, and no condition before it does.
-  pub refused-is : {n place : ℕ} → settled tariff book bytes room ≡ refused n place → RefusedBy tariff book bytes room n place
-  refused-is {n} {place} e = met (rw e at (answered tariff book bytes room))
+  -- goes before 2 and 2 before 3. 4 to 12: the file is faultless, the condition of the number holds, and no condition before it does.
+  pub refused-is : {n place : ℕ} → settled file book bytes room ≡ refused n place → RefusedBy file book bytes room n place
+  refused-is {n} {place} e = met (rw e at (answered file book bytes room))
     where
-      met : Answered tariff book bytes room (refused n place) → RefusedBy tariff book bytes room n place
+      met : Answered file book bytes room (refused n place) → RefusedBy file book bytes room n place
       met (refusing says) = says
 
   -- Where no condition holds, the trip is accepted.
   pub accepts :
-      NoCondition tariff book bytes room → (new : List ℕ) × (parts : List Part) × (settled tariff book bytes room ≡ accepted new parts)
-  accepts none = go (settled tariff book bytes room) refl
+      NoCondition file book bytes room → (new : List ℕ) × (parts : List Part) × (settled file book bytes room ≡ accepted new parts)
+  accepts none = go (settled file book bytes room) refl
     where
-      no-fault-says : (n place : ℕ) (soFar : Counts) → FaultlessUntil tariff place soFar → FaultSays tariff place soFar n → ⊥
-      no-fault-says n place soFar passed (scan.one e w) =
-          none .no-broken-frame (record { place = place; soFar = soFar; passed = passed; wrong = w })
-      no-fault-says n place soFar passed (scan.two e w) =
-          none .none-out-of-place (record { place = place; soFar = soFar; passed = passed; wrong = w })
-      no-fault-says n place soFar passed (scan.three e w) =
-          none .no-wrong-value (record { place = place; soFar = soFar; passed = passed; wrong = w })
+      met : {n place : ℕ} → RefusedBy file book bytes room n place → ⊥
+      met {n} {place} (by-file says) = none .no-fault n place says
+      met (by-others editions read why is at first) =
+          none .none-of-table editions read why (first-holds (condition file editions book bytes room) (rows file editions book bytes room) first)
 
-      met : {n place : ℕ} → RefusedBy tariff book bytes room n place → ⊥
-      met {n} {place} (by-tariff soFar found says) = no-fault-says n place soFar (found .passed) says
-      met (by-others counts read why is at first) =
-          none .none-of-table why (rw (counts-are tariff counts read) (first-holds (condition tariff counts book bytes room) (rows tariff counts book bytes room) first))
-
-      go : (o : Outcome) → settled tariff book bytes room ≡ o
-          → (new : List ℕ) × (parts : List Part) × (settled tariff book bytes room ≡ accepted new parts)
+      go : (o : Outcome) → settled file book bytes room ≡ o
+          → (new : List ℕ) × (parts : List Part) × (settled file book bytes room ≡ accepted new parts)
       go (refused n place) e = absurd (met (refused-is e))
       go (accepted new parts) e = (new, parts, e)
 
   -- And an accepted trip meets none.
-  pub accepted-meets-none : {new : List ℕ} {parts : List Part} → AcceptedBy tariff book bytes room new parts → NoCondition tariff book bytes room
+  pub accepted-meets-none : {new : List ℕ} {parts : List Part} → AcceptedBy file book bytes room new parts → NoCondition file book bytes room
   accepted-meets-none a =
-      let never = no-fault tariff (a .counts) (a .read) in
       record {
-        no-broken-frame = λ w. never 1 (w .place) (w .soFar) (w .passed) (scan.one refl (w .wrong));
-        none-out-of-place = λ w. never 2 (w .place) (w .soFar) (w .passed) (scan.two refl (w .wrong));
-        no-wrong-value = λ w. never 3 (w .place) (w .soFar) (w .passed) (scan.three refl (w .wrong));
-        none-of-table = rw (counts-are tariff (a .counts) (a .read)) (a .none);
+        no-fault = no-fault file (a .editions) (a .read);
+        none-of-table = λ editions read why.
+            subst (λ (e : Editions). condition file e book bytes room why → ⊥) (editions-one file (a .editions) (a .read) editions read) (a .none why);
       }
 
   -- The statement of an accepted trip has one record, or two where it is broken at a change, one behind the other. Each says the window's
@@ -436,93 +457,93 @@ module _ (tariff book bytes : List ℕ) (room : ℕ) where
   -- charges in the order holder, adults, children, bicycles, with each person's what caps took off and the cap that is named for it. The
   -- first has check-out less check-in as its minutes; the second 0, and is charged on what the first left.
   pub record-says :
-      {new : List ℕ} {parts : List Part} (a : AcceptedBy tariff book bytes room new parts)
-      → StatementSays tariff book bytes (a .counts) (statementOf parts)
+      {new : List ℕ} {parts : List Part} (a : AcceptedBy file book bytes room new parts)
+      → StatementSays (tariffBy a) (countsBy a) (windowBy a) book bytes (statementOf parts)
   record-says a = statement-said a
 
   -- An acceptance is given exactly when what it says holds.
-  pub accepted-exactly : (new : List ℕ) (parts : List Part) → settled tariff book bytes room ≡ accepted new parts ↔ AcceptedBy tariff book bytes room new parts
+  pub accepted-exactly : (new : List ℕ) (parts : List Part) → settled file book bytes room ≡ accepted new parts ↔ AcceptedBy file book bytes room new parts
   unfolding acceptedTrip
   accepted-exactly new parts = (accepted-is, back)
     where
-      back : AcceptedBy tariff book bytes room new parts → settled tariff book bytes room ≡ accepted new parts
+      back : AcceptedBy file book bytes room new parts → settled file book bytes room ≡ accepted new parts
       back a =
-          accepted-way tariff book bytes room (a .counts) (a .read) _ _
-          (clear-first tariff (a .counts) book bytes room (none-exactly tariff (a .counts) book bytes room .1 (a .none)))
+          accepted-way file book bytes room (a .editions) (a .read) _ _
+          (clear-first file (a .editions) book bytes room (none-exactly file (a .editions) (a .read) book bytes room .1 (a .none)))
           ∙ rw (a .new-is, a .parts-is)
 
   -- A trip is accepted exactly when no condition holds.
   pub accepts-exactly :
-      ((new : List ℕ) × (parts : List Part) × (settled tariff book bytes room ≡ accepted new parts))
-      ↔ NoCondition tariff book bytes room
+      ((new : List ℕ) × (parts : List Part) × (settled file book bytes room ≡ accepted new parts))
+      ↔ NoCondition file book bytes room
   accepts-exactly = (λ w. accepted-meets-none (accepted-is (w .2)), accepts)
 
   -- A refusal is given exactly when what it says holds.
-  pub refused-exactly : (n place : ℕ) → settled tariff book bytes room ≡ refused n place ↔ RefusedBy tariff book bytes room n place
+  pub refused-exactly : (n place : ℕ) → settled file book bytes room ≡ refused n place ↔ RefusedBy file book bytes room n place
   refused-exactly n place = (refused-is, back)
     where
-      back : RefusedBy tariff book bytes room n place → settled tariff book bytes room ≡ refused n place
-      back (by-tariff soFar found says) =
-          fault-way tariff book bytes room n place (fault-exactly tariff n place .1 (soFar, found .passed, says))
-      back (by-others counts read why is at first) =
+      back : RefusedBy file book bytes room n place → settled file book bytes room ≡ refused n place
+      back (by-file says) = fault-way file book bytes room n place (file-exactly file (Fault n place) .1 says)
+      back (by-others editions read why is at first) =
           rw (is, at)
-          (refused-way tariff book bytes room counts read
-          (refused-first tariff counts book bytes room (first-exactly tariff counts book bytes room why .1 first)))
+          (refused-way file book bytes room editions read
+          (refused-first file editions book bytes room (first-exactly file editions read book bytes room why .1 first)))
 
-  -- A refusal's number is 1 to 12, or 17; its place is at most 14,523, the length of the longest tariff, and 0 from 4 on.
+  -- A refusal's number is 1 to 12, 17 or 22; its place is at most 29,062, the length of the longest file, and 0 from 4 on.
   pub refused-number :
-      {n place : ℕ} → settled tariff book bytes room ≡ refused n place → (1 ≤ n) × Numbered lastRefusal n × (place ≤ longestTariff) × (4 ≤ n → place ≡ 0)
+      {n place : ℕ} → settled file book bytes room ≡ refused n place → (1 ≤ n) × Numbered lastRefusal n × (place ≤ longestFile) × (4 ≤ n → place ≡ 0)
   refused-number {n} {place} e = met (refused-is e)
     where
-      met : RefusedBy tariff book bytes room n place → (1 ≤ n) × Numbered lastRefusal n × (place ≤ longestTariff) × (4 ≤ n → place ≡ 0)
-      met (by-others counts read why is at first) =
+      met : RefusedBy file book bytes room n place → (1 ≤ n) × Numbered lastRefusal n × (place ≤ longestFile) × (4 ≤ n → place ≡ 0)
+      met (by-others editions read why is at first) =
           let (low, high) =
-          first-range lastRefusal (rows tariff counts book bytes room) (rows-range tariff counts book bytes room) (first-exactly tariff counts book bytes room why .1 first)
+          first-range lastRefusal (rows file editions book bytes room) (rows-range file editions book bytes room)
+          (first-exactly file editions read book bytes room why .1 first)
           in
           rw is (omega arith, high, omega (arith, at), λ _. at)
-      met (by-tariff soFar found says) =
-          let number = fault-number tariff n place soFar found in
-          let (high, near) = fault-most tariff n place (fault-exactly tariff n place .1 (soFar, found .passed, says)) in
-          (⊎-elim (λ is. omega arith) (⊎-elim (λ is. omega arith) (λ is. omega arith)) number, inl (omega arith), near, λ h. absurd (omega arith))
+      met (by-file says) =
+          let (high, near) = file-fault-most file n place (file-exactly file (Fault n place) .1 says) in
+          (fault-some says, inl (omega arith), near, λ h. absurd (omega arith))
 
   -- ---- What comes back.
 
   -- A refusal leaves the book and every statement byte as they were.
   pub refusal-leaves :
-      {n place : ℕ} {book′ statement statement′ : List ℕ} {r : ℕ} → settled tariff book bytes room ≡ refused n place
-      → Settled (settled tariff book bytes room) book book′ statement statement′ r → (book′ ≡ book) × (statement′ ≡ statement)
+      {n place : ℕ} {book′ statement statement′ : List ℕ} {r : ℕ} → settled file book bytes room ≡ refused n place
+      → Settled (settled file book bytes room) book book′ statement statement′ r → (book′ ≡ book) × (statement′ ≡ statement)
   refusal-leaves {n} {place} {book′} {statement} {statement′} {r} e s =
       let s′ : Settled (refused n place) book book′ statement statement′ r = rw e at s in (s′ .book-is, s′ .statement-is)
 
   -- A refusal answers 2 ^ 32 or more: its number in the upper 32 bits, its place in the lower.
   pub refused-answer :
-      {n place : ℕ} → settled tariff book bytes room ≡ refused n place
-      → (2 ^ 32 ≤ answerOf (settled tariff book bytes room))
-      × (answerOf (settled tariff book bytes room) / 2 ^ 32 ≡ n)
-      × (answerOf (settled tariff book bytes room) % 2 ^ 32 ≡ place)
+      {n place : ℕ} → settled file book bytes room ≡ refused n place
+      → (2 ^ 32 ≤ answerOf (settled file book bytes room))
+      × (answerOf (settled file book bytes room) / 2 ^ 32 ≡ n)
+      × (answerOf (settled file book bytes room) % 2 ^ 32 ≡ place)
   refused-answer {n} {place} e =
       let (low, high, near, none) = refused-number e in
       rw e (omega arith, omega arith, omega arith)
 
   -- An acceptance answers the bytes written, 26 to 532.
   pub accepted-answer :
-      {new : List ℕ} {parts : List Part} → settled tariff book bytes room ≡ accepted new parts
-      → (26 ≤ answerOf (settled tariff book bytes room)) × (answerOf (settled tariff book bytes room) ≤ 532)
+      {new : List ℕ} {parts : List Part} → settled file book bytes room ≡ accepted new parts
+      → (26 ≤ answerOf (settled file book bytes room)) × (answerOf (settled file book bytes room) ≤ 532)
   accepted-answer {new} {parts} e = rw e (go (record-says (accepted-is e)))
     where
       party : PartyRanges (classAt bytes 0) (levelAt bytes 0) (partyAt bytes 0) (countAt bytes 0)
       party = good-fields (clear (accepted-is e) .good) .ranges
 
-      go : StatementSays tariff book bytes (accepted-is e .counts) (statementOf parts) → (26 ≤ length (statementOf parts)) × (length (statementOf parts) ≤ 532)
+      go : StatementSays (tariffBy (accepted-is e)) (countsBy (accepted-is e)) (windowBy (accepted-is e)) book bytes (statementOf parts)
+          → (26 ≤ length (statementOf parts)) × (length (statementOf parts) ≤ 532)
       go (as-one whole size says) = (omega (arith, size), omega (arith, size, party))
       go (as-two c broken size first second) = (omega (arith, size), omega (arith, size, party))
 
 -- Two results that the exported contract allows for the same input are equal: the answer, the book and every byte of the statement.
 pub determined :
-    (tariff book trip statement : List ℕ) {b₁ b₂ s₁ s₂ : List ℕ} {r₁ r₂ : ℕ}
-    → Settled (settled tariff book trip (length statement)) book b₁ statement s₁ r₁
-    → Settled (settled tariff book trip (length statement)) book b₂ statement s₂ r₂ → (r₁ ≡ r₂) × (b₁ ≡ b₂) × (s₁ ≡ s₂)
-determined tariff book trip statement one other = (
+    (file book trip statement : List ℕ) {b₁ b₂ s₁ s₂ : List ℕ} {r₁ r₂ : ℕ}
+    → Settled (settled file book trip (length statement)) book b₁ statement s₁ r₁
+    → Settled (settled file book trip (length statement)) book b₂ statement s₂ r₂ → (r₁ ≡ r₂) × (b₁ ≡ b₂) × (s₁ ≡ s₂)
+determined file book trip statement one other = (
   one .answer ∙ sym (other .answer),
   one .book-is ∙ sym (other .book-is),
   one .statement-is ∙ sym (other .statement-is),

@@ -26,7 +26,7 @@ use Rattle.fare.specs.Contracts as each
 use Rattle.fare.proofs.Breaks.{said-broken}
 use Rattle.fare.proofs.GoodTrips.{riding}
 use Rattle.ledger.specs.declared.Window.{Window}
-use Rattle.ledger.specs.Words.{word, tripsOf, openingOf, lastOutOf, secondSum, allSum, coverWord, paidWord}
+use Rattle.ledger.specs.Words.{word, tripsOf, openingOf, lastOutOf, editionOf, secondSum, allSum, coverWord, paidWord}
 use Rattle.ledger.specs.Windows.{inWindow}
 use Rattle.charging.specs.Caps.{treeOf}
 use Rattle.charging.specs.Charging.{carries, chargesOf}
@@ -36,14 +36,13 @@ use Rattle.charging.specs.After.{posted}
 use Rattle.charging.specs.InWords.{ChargeSays}
 use Rattle.cycles.specs.InWords.{CoverSays, BicycleSays}
 use Rattle.charging.proofs.Trees.{lies-within}
-use Rattle.ledger.proofs.SoundLaws.{sound-has}
-use Rattle.charging.proofs.ChargeLaws.{rider-stands, bicycle-stands}
-use Rattle.ledger.proofs.Counting.{cover-known}
+use Rattle.charging.proofs.ChargeLaws.{rider-stands, bicycle-stands, ride-words}
 use Rattle.charging.proofs.PostedLaws.{
   posted-size,
   posted-trips,
   posted-opening,
   posted-out,
+  posted-edition,
   posted-sum,
   posted-cover,
   posted-uncovered,
@@ -61,10 +60,10 @@ use Rattle.posting.proofs.PostedBytes.{posted-bytes}
 use Rattle.charging.proofs.GoodRides.{good-first}
 use Rattle.statement.specs.Record.{Part}
 use Rattle.settle.specs.Outcome.{partOf, oneMore, partsOf, postedAll}
-use Rattle.promises.specs.Conditions.{tripRides, tripWindow, AcceptedBy, minutesOf, rideOn, wordsBefore, wordsBetween}
+use Rattle.promises.specs.Conditions.{tripRides, AcceptedBy, minutesOf, rideOn, wordsBefore, wordsBetween}
 use Rattle.promises.specs.Books.{CountsIn, Takes, chargeOf, BookSays, BooksSay, none, more}
 use Rattle.promises.proofs.RideLaws.{on-another}
-use Rattle.promises.proofs.Answers.{clear, charged-rides, right-window, some-parts}
+use Rattle.promises.proofs.Answers.{windowBy, tariffBy, countsBy, read-by, clear, alone-by, covers-by, charged-rides, right-window, some-parts}
 
 -- ---- One ride.
 
@@ -76,8 +75,8 @@ takes true true amount old new e to from = record { grows = λ _. e; stays = λ 
 takes true false amount old new e to from = record { grows = λ h. absurd (false≢true (to h .1)); stays = λ _. e ∙ add-zero old }
 takes false v amount old new e to from = record { grows = λ h. absurd (false≢true (to h .0)); stays = λ _. e ∙ add-zero old }
 
-module _ {tariff : List ℕ} {counts : Counts} {book : List ℕ} {ride : Ride} (ok : Rideable tariff counts book ride) {window : Window} {checkout : ℕ}
-    (right : WindowRight book window checkout) where
+module _ {tariff : List ℕ} {counts : Counts} {book : List ℕ} {ride : Ride} {window : Window} (ok : Rideable tariff counts book (window .current) ride)
+    {checkout : ℕ} (right : WindowRight book window checkout) where
   abbrev w : List ℕ
   w = inWindow (window .current) book
 
@@ -102,7 +101,7 @@ module _ {tariff : List ℕ} {counts : Counts} {book : List ℕ} {ride : Ride} (
       → Takes (CountsIn tariff counts ride rider area) (chargeOf ride charges rider) (allSum w rider area) (allSum new rider area)
   all-takes rider area hr ha =
       takes (inTree area) (carries (ride .party) rider) (chargeOf ride charges rider) (allSum w rider area) (allSum new rider area)
-      (posted-sum ok window checkout (window-room right) false rider area hr ha)
+      (posted-sum window ok checkout (window-room right) false rider area hr ha)
       (λ c. (sym (inside area) ∙ c .inside, c .on-trip)) (λ s v. record { on-trip = v; inside = inside area ∙ s })
 
   second-takes :
@@ -111,7 +110,7 @@ module _ {tariff : List ℕ} {counts : Counts} {book : List ℕ} {ride : Ride} (
       (secondSum new rider area)
   second-takes rider area hr ha =
       takes (eqb (ride .class) 2 && inTree area) (carries (ride .party) rider) (chargeOf ride charges rider) (secondSum w rider area)
-      (secondSum new rider area) (posted-sum ok window checkout (window-room right) true rider area hr ha)
+      (secondSum new rider area) (posted-sum window ok checkout (window-room right) true rider area hr ha)
       (λ c. (rw (eq-eqb (ride .class) 2 (c .0)) (sym (inside area) ∙ c .1 .inside), c .1 .on-trip))
       (λ s v. (
         eqb-true (ride .class) 2 (both-left (eqb (ride .class) 2) (inTree area) s),
@@ -138,13 +137,14 @@ module _ {tariff : List ℕ} {counts : Counts} {book : List ℕ} {ride : Ride} (
   ride-says =
       let room = window-room right in
       let head = right .head in
-      let known = cover-known (window .current) (sound-has book (counts .areas) (ok .sound-book)) in
+      let known = ride-words ok .covers in
       record {
-        size = posted-size ok window checkout room;
+        size = posted-size window ok checkout room;
         bytes = posted-bytes t ride (ok .area) book window checkout;
-        trips = posted-trips ok window checkout room (omega arith);
-        opening = posted-opening ok window checkout room (omega arith);
-        last-out = posted-out ok window checkout room (omega arith);
+        trips = posted-trips window ok checkout room (omega arith);
+        opening = posted-opening window ok checkout room (omega arith);
+        last-out = posted-out window ok checkout room (omega arith);
+        edition = posted-edition window ok checkout room (omega (arith, right .small));
         charged = λ rider on.
             subst (ChargeSays tariff counts w ride rider) (sym (rider-stands tariff counts w ride rider on)) (charge-says t w ride (ok .area) rider);
         bicycles-charged = λ k h.
@@ -155,20 +155,20 @@ module _ {tariff : List ℕ} {counts : Counts} {book : List ℕ} {ride : Ride} (
         covered = λ k h.
             record {
               new = newCover tariff counts (ride .area) (coverWord w k);
-              cover-is = posted-cover ok window checkout room k h;
+              cover-is = posted-cover window ok checkout room k h;
               covers = cover-says t (ride .area) (coverWord w k) (ok .area) (known k (omega (arith, ok .bicycles)));
               payments =
                   payments-take (ride .area) (coverWord w k) (paidWord w k) (bicycle-stands tariff counts w ride k h)
-                  (posted-paid ok window checkout room k h);
+                  (posted-paid window ok checkout room k h);
             };
-        uncovered = λ k h few. (posted-uncovered ok window checkout room k h few, posted-unpaid ok window checkout room k h);
+        uncovered = λ k h few. (posted-uncovered window ok checkout room k h few, posted-unpaid window ok checkout room k h few);
       }
 
 -- ---- The rides of a trip.
 
 -- What rides leave in the book, one after another, is what the words say, where the window has room for them.
 pub rides-say :
-    {tariff : List ℕ} {counts : Counts} {checkout : ℕ} (rides : List Ride) {book : List ℕ} {window : Window} → EachRide (Rideable tariff counts book) rides
+    {tariff : List ℕ} {counts : Counts} {checkout : ℕ} (rides : List Ride) {book : List ℕ} {window : Window} → EachRide (Rideable tariff counts book (window .current)) rides
     → (window .trips + 1 ≤ 256 → WindowRight book window checkout) → window .trips + length rides ≤ 256
     → BooksSay tariff counts checkout book window (partsOf tariff counts book window checkout rides)
     (postedAll tariff counts book window checkout rides)
@@ -180,44 +180,55 @@ rides-say {tariff} {counts} {checkout} (ride ∷ rides) {book} {window} (each.mo
     (rides-say rides (on-another (posted tariff counts book window checkout ride) (posted-sound ok here) oks)
     (λ room. next-right ok here (omega arith)) (omega arith))
 
--- The first three words of the book after one part or more of a window.
+-- The first three words of the book and its last after one part or more of a window.
 pub record HeadSays (window : Window) (checkout parts : ℕ) (new : List ℕ) : Type 0 where
   pub trips : tripsOf new ≡ window .trips + parts
   pub opening : openingOf new ≡ window .opening .0
   pub last-out : lastOutOf new ≡ checkout
+  pub edition : editionOf new ≡ window .edition
 
 pub head-says :
     {tariff : List ℕ} {counts : Counts} {checkout : ℕ} {book new : List ℕ} {window : Window} (parts : List Part)
     → BooksSay tariff counts checkout book window parts new → 1 ≤ length parts → HeadSays window checkout (length parts) new
 unfolding oneMore
 head-says [] says some = absurd (omega arith)
-head-says (part ∷ []) (more s none) some = record { trips = s .trips; opening = s .opening; last-out = s .last-out }
+head-says (part ∷ []) (more s none) some = record { trips = s .trips; opening = s .opening; last-out = s .last-out; edition = s .edition }
 head-says (part ∷ next ∷ parts) (more s rest) some =
     let after = head-says (next ∷ parts) rest (omega arith) in
-    record { trips = omega (arith, after .trips); opening = after .opening; last-out = after .last-out }
+    record { trips = omega (arith, after .trips); opening = after .opening; last-out = after .last-out; edition = after .edition }
 
-module _ {tariff book bytes : List ℕ} {room : ℕ} {new : List ℕ} {parts : List Part} (a : AcceptedBy tariff book bytes room new parts) where
+module _ {file book bytes : List ℕ} {room : ℕ} {new : List ℕ} {parts : List Part} (a : AcceptedBy file book bytes room new parts) where
+  abbrev tariff : List ℕ
+  tariff = tariffBy a
+
+  abbrev counts : Counts
+  counts = countsBy a
+
+  abbrev window : Window
+  window = windowBy a
+
   -- What an accepted trip leaves in the book is what the words say, part by part.
-  pub book-says : BooksSay tariff (a .counts) (checkoutOf bytes) book (tripWindow book bytes) parts new
+  pub book-says : BooksSay tariff counts (checkoutOf bytes) book window parts new
   book-says =
-      rw (a .new-is, a .parts-is)
-      (rides-say (tripRides tariff (a .counts) bytes) (charged-rides a) (λ room. right-window a) (clear a .few))
+      rw (a .new-is, a .parts-is) (rides-say (tripRides tariff counts bytes) (charged-rides a) (λ room. right-window a) (clear a .few))
 
   -- Where the trip is broken, the words that its second part is charged on are those that the first leaves.
   pub between-says :
-      (c : ℕ) → BrokenAt tariff (a .counts) bytes (countAt bytes 0) c
-      → BookSays tariff (a .counts) (wordsBefore book bytes) (tripWindow book bytes) (checkoutOf bytes)
-      (rideOn tariff (a .counts) bytes 0 c (minutesOf bytes))
-      (chargesOf tariff (a .counts) (wordsBefore book bytes) (rideOn tariff (a .counts) bytes 0 c (minutesOf bytes)))
-      (wordsBetween tariff (a .counts) book bytes c)
+      (c : ℕ) → BrokenAt tariff counts bytes (countAt bytes 0) c
+      → BookSays tariff counts (wordsBefore window book) window (checkoutOf bytes) (rideOn tariff counts bytes 0 c (minutesOf bytes))
+      (chargesOf tariff counts (wordsBefore window book) (rideOn tariff counts bytes 0 c (minutesOf bytes)))
+      (wordsBetween tariff counts window book bytes c)
   unfolding firstPart
   between-says c is =
-      let there = riding (a .read) (clear a .good) in
-      let ok = good-first tariff (a .counts) book bytes (a .read) (clear a .sound-book) (clear a .good) c (said-broken there c is) in
+      let there = riding (read-by a) (clear a .good) in
+      let ok =
+      good-first tariff counts book (window .current) bytes (read-by a) (alone-by a) (covers-by a) (clear a .good) c (said-broken there c is)
+      in
       ride-says ok (right-window a)
 
-  -- So each part counts as one of the window's trips: a broken trip as two. The opening is the window's, the last check-out the trip's.
-  pub book-head : HeadSays (tripWindow book bytes) (checkoutOf bytes) (length parts) new
+  -- So each part counts as one of the window's trips: a broken trip as two. The opening and the edition are the window's, the last check-out the
+  -- trip's.
+  pub book-head : HeadSays window (checkoutOf bytes) (length parts) new
   book-head = head-says parts book-says (some-parts a)
 
 -- ---- There is no other.
@@ -275,7 +286,7 @@ module _ {tariff : List ℕ} {counts : Counts} (t : FaultlessTariff tariff count
   book-one {charges} {charges′} {new} {new′} s s′ bytes bytes′ =
       words-same new new′ (s .size) (s′ .size) bytes bytes′
       (each-word (λ i. word new i ≡ word new′ i) (s .trips ∙ sym (s′ .trips)) (s .opening ∙ sym (s′ .opening))
-      (s .last-out ∙ sym (s′ .last-out)) sums (λ k few. bicycles k few .0) (λ k few. bicycles k few .1))
+      (s .last-out ∙ sym (s′ .last-out)) sums (λ k few. bicycles k few .0) (λ k few. bicycles k few .1) (s .edition ∙ sym (s′ .edition)))
     where
       same : (rider area : ℕ) → CountsIn tariff counts ride rider area → chargeOf ride charges rider ≡ chargeOf ride charges′ rider
       same rider area c = charge-one (s .charged rider (c .on-trip)) (s′ .charged rider (c .on-trip))
@@ -320,6 +331,6 @@ books-one {book = book} {window} t bytes (more s rest) (more s′ rest′) =
 
 -- So the new book of an accepted trip is the only one.
 pub book-only :
-    {tariff book bytes : List ℕ} {room : ℕ} {new : List ℕ} {parts : List Part} (a : AcceptedBy tariff book bytes room new parts) → Bytes book
-    → (other : List ℕ) → BooksSay tariff (a .counts) (checkoutOf bytes) book (tripWindow book bytes) parts other → other ≡ new
-book-only {tariff} a bytes other says = books-one (faultless tariff (a .counts) (a .read)) bytes says (book-says a)
+    {file book bytes : List ℕ} {room : ℕ} {new : List ℕ} {parts : List Part} (a : AcceptedBy file book bytes room new parts) → Bytes book
+    → (other : List ℕ) → BooksSay (tariffBy a) (countsBy a) (checkoutOf bytes) book (windowBy a) parts other → other ≡ new
+book-only a bytes other says = books-one (faultless (tariffBy a) (countsBy a) (read-by a)) bytes says (book-says a)

@@ -8,8 +8,9 @@ use mathlib.Core.Logic.{_↔_}
 use mathlib.Core.List.{List, [], _∷_}
 use lib.ListN.{length}
 use Rattle.layout.specs.declared.Counts.{Counts}
-use Rattle.layout.specs.Scan.{Read}
-use Rattle.areas.proofs.Faultless.{read-one}
+use Rattle.editions.specs.declared.Editions.{Editions}
+use Rattle.editions.specs.Reading.{ReadFile}
+use Rattle.editions.proofs.Parts.{edition-read}
 use Rattle.trip.specs.Record.{countAt}
 use Rattle.trip.specs.Trips.{tripOf}
 use Rattle.trip.specs.Contracts.{GoodTrip}
@@ -24,24 +25,35 @@ use Rattle.fare.proofs.Breaks.{said-broken, broken-says, said-unbroken, never-i
 use Rattle.fare.proofs.PartLaws.{one-ride, two-rides}
 use Rattle.fare.proofs.GoodTrips.{riding}
 use Rattle.statement.specs.Record.{Part}
+use Rattle.deciding.specs.Refusals.{windowIn, tariffFor, countsFor, ridesFor}
 use Rattle.settle.specs.Outcome.{accepted, settled}
-use Rattle.promises.specs.Conditions.{tripRides, AcceptedBy, ridesFor, minutesOf, rideOn}
+use Rattle.promises.specs.Conditions.{tripRides, AcceptedBy, ridesIn, minutesOf, rideOn}
+use Rattle.promises.proofs.Refusing.{editions-one}
 use Rattle.promises.proofs.Answers.{accepted-is, clear, rides-are, rides-length}
 
-module _ (tariff : List ℕ) (counts : Counts) (read : Read tariff counts) (book bytes : List ℕ) (room : ℕ) {new : List ℕ} {parts : List Part}
-    (e : settled tariff book bytes room ≡ accepted new parts) where
-  says : AcceptedBy tariff book bytes room new parts
-  says = accepted-is tariff book bytes room e
+module _ (file : List ℕ) (editions : Editions) (read : ReadFile file editions) (book bytes : List ℕ) (room : ℕ) {new : List ℕ} {parts : List Part}
+    (e : settled file book bytes room ≡ accepted new parts) where
+  -- under the edition of the trip's window
+  abbrev tariff : List ℕ
+  tariff = tariffFor file editions book bytes
 
-  same : says .counts ≡ counts
-  same = read-one tariff (says .counts) counts (says .read) read
+  abbrev counts : Counts
+  counts = countsFor editions book bytes
+
+  says : AcceptedBy file book bytes room new parts
+  says = accepted-is file book bytes room e
+
+  same : says .editions ≡ editions
+  same = editions-one file (says .editions) (says .read) editions read
 
   -- a part for each of its rides
-  are : ridesFor parts ≡ tripRides tariff counts bytes
-  are = rides-are says ∙ ap (λ (c : Counts). tripRides tariff c bytes) same
+  are : ridesIn parts ≡ tripRides tariff counts bytes
+  are = rides-are says ∙ ap (λ (these : Editions). ridesFor file these book bytes) same
 
   there : Riding tariff counts bytes (countAt bytes 0)
-  there = riding read (subst (λ (c : Counts). GoodTrip bytes (c .stops)) same (clear says .good))
+  there =
+      riding (edition-read file editions read (windowIn editions book bytes .edition))
+      (subst (λ (these : Editions). GoodTrip bytes (countsFor these book bytes .stops)) same (clear says .good))
 
   many : (rides : List Ride) → tripRides tariff counts bytes ≡ rides → length parts ≡ length rides
   many rides is = sym (rides-length parts) ∙ ap length (are ∙ is)
@@ -50,13 +62,13 @@ module _ (tariff : List ℕ) (counts : Counts) (read : Read tariff counts) (book
   -- with 0 minutes.
   pub broken-parts :
       (c : ℕ) → BrokenAt tariff counts bytes (countAt bytes 0) c
-      → ridesFor parts ≡ rideOn tariff counts bytes 0 c (minutesOf bytes) ∷ rideOn tariff counts bytes c (countAt bytes 0 - 1) 0 ∷ []
+      → ridesIn parts ≡ rideOn tariff counts bytes 0 c (minutesOf bytes) ∷ rideOn tariff counts bytes c (countAt bytes 0 - 1) 0 ∷ []
   unfolding firstPart secondPart
   broken-parts c is = are ∙ two-rides tariff counts bytes (tripOf bytes) c (said-broken there c is)
 
   -- Nowhere broken it has one, from the first stop to the last.
   pub whole-part :
-      ((c : ℕ) → BrokenAt tariff counts bytes (countAt bytes 0) c → ⊥) → ridesFor parts ≡ rideOn tariff counts bytes 0 (countAt bytes 0 - 1) (minutesOf bytes) ∷ []
+      ((c : ℕ) → BrokenAt tariff counts bytes (countAt bytes 0) c → ⊥) → ridesIn parts ≡ rideOn tariff counts bytes 0 (countAt bytes 0 - 1) (minutesOf bytes) ∷ []
   unfolding rideOf
   whole-part nowhere = are ∙ one-ride tariff counts bytes (tripOf bytes) (said-unbroken there nowhere)
 

@@ -4,18 +4,17 @@
 use Prim.Native.Nat.{ℕ, _+_, _^_, _≤_, _<_}
 use native.Mathlib.Omega.{arith}
 use mathlib.Core.Path.{_≡_, refl, sym, ap, _∙_}
-use mathlib.Core.Logic.{⊎-elim}
 use mathlib.Core.Bool.{false}
 use mathlib.Core.List.{List, [], _∷_}
 use borrow.Author.Tests.{le-ltb, lt-ltb, eq-eqb, ne-eqb}
 use lib.ListN.{length}
 use lib.Seq.{take-append-seam}
-use Rattle.layout.specs.declared.Counts.{Counts}
-use Rattle.layout.specs.declared.Reading.{Reading}
-use Rattle.layout.specs.declared.Reading.the-variants.{Fault, Faultless}
-use Rattle.layout.specs.Scan.{readTariff, Read}
-use Rattle.layout.specs.Layout.{longestTariff}
-use Rattle.scan.proofs.Faults.{first-fault, fault-number, fault-most}
+use Rattle.editions.specs.declared.Editions.{Editions}
+use Rattle.editions.specs.declared.FileReading.{FileReading}
+use Rattle.editions.specs.declared.FileReading.the-variants.{Fault, Faultless}
+use Rattle.editions.specs.Reading.{readFile, ReadFile, longestFile}
+use Rattle.editions.proofs.FileLaws.{file-exactly}
+use Rattle.editions.proofs.Cases.{file-fault-most}
 use Rattle.ledger.specs.Words.{bookSize}
 use Rattle.statement.specs.Record.{Part, countOf, recordOf, statementOf}
 use Rattle.reader.specs.Fields.{fieldsOf}
@@ -65,6 +64,7 @@ use Rattle.promises.specs.Exported.{
   own-call,
   others-call,
 }
+use Rattle.promises.proofs.Refusing.{fault-some}
 use Rattle.promises.proofs.Answers.{refused-number, accepted-answer}
 use Rattle.promises.proofs.Quotes.{quote-refuses-alike, quote-accepts-alike}
 use Rattle.promises.proofs.ReadBack.{settled-readable, settled-read-back}
@@ -86,115 +86,111 @@ read-out statement place (part ∷ parts) (also complete ok each) (then e rest) 
     (to′ .answer, to′ .fields-are))
     (read-out statement (place + length (recordOf part)) parts each rest)
 
-module _ (tariff book trip statement : List ℕ) where
+module _ (file book trip statement : List ℕ) where
   -- Settled, and read: where the answer is that bytes were written, they are the charge records of the trip's parts, and `milecopper_read` tells
   -- these one after another, to the field.
   pub settle-then-read :
-      {book′ statement′ : List ℕ} {r : ℕ} → Settled (settled tariff book trip (length statement)) book book′ statement statement′ r → r < 2 ^ 32
+      {book′ statement′ : List ℕ} {r : ℕ} → Settled (settled file book trip (length statement)) book book′ statement statement′ r → r < 2 ^ 32
       → (parts : List Part)
-      × ((settled tariff book trip (length statement) ≡ accepted book′ parts) × ((length (statementOf parts) ≡ r) × ReadOut statement′ 0 parts))
-  settle-then-read {book′} {statement′} {r} s near = go (settled tariff book trip (length statement)) refl s
+      × ((settled file book trip (length statement) ≡ accepted book′ parts) × ((length (statementOf parts) ≡ r) × ReadOut statement′ 0 parts))
+  settle-then-read {book′} {statement′} {r} s near = go (settled file book trip (length statement)) refl s
     where
       go :
-          (o : Outcome) → settled tariff book trip (length statement) ≡ o → Settled o book book′ statement statement′ r
+          (o : Outcome) → settled file book trip (length statement) ≡ o → Settled o book book′ statement statement′ r
           → (parts : List Part)
-          × ((settled tariff book trip (length statement) ≡ accepted book′ parts) × ((length (statementOf parts) ≡ r) × ReadOut statement′ 0 parts))
+          × ((settled file book trip (length statement) ≡ accepted book′ parts) × ((length (statementOf parts) ≡ r) × ReadOut statement′ 0 parts))
       go (refused n place) is s′ =
-          absurd (omega (arith, s′ .answer, refused-number tariff book trip (length statement) is .0))
+          absurd (omega (arith, s′ .answer, refused-number file book trip (length statement) is .0))
       go (accepted new parts) is s′ =
-          let back = settled-read-back tariff book trip statement (length statement) is in
-          let readable = settled-readable tariff book trip (length statement) is in
+          let back = settled-read-back file book trip statement (length statement) is in
+          let readable = settled-readable file book trip (length statement) is in
           (parts, (is ∙ rw (s′ .book-is), (sym (s′ .answer), rw (s′ .statement-is) (read-out _ 0 parts readable back))))
 
   -- Quoted, and read.
   pub quote-then-read :
-      {statement′ : List ℕ} {r : ℕ} → Quoted (quoted tariff book trip (length statement)) statement statement′ r → r < 2 ^ 32
+      {statement′ : List ℕ} {r : ℕ} → Quoted (quoted file book trip (length statement)) statement statement′ r → r < 2 ^ 32
       → (parts : List Part)
-      × ((quoted tariff book trip (length statement) ≡ priced parts) × ((length (statementOf parts) ≡ r) × ReadOut statement′ 0 parts))
-  quote-then-read {statement′} {r} q near = go (quoted tariff book trip (length statement)) refl q
+      × ((quoted file book trip (length statement) ≡ priced parts) × ((length (statementOf parts) ≡ r) × ReadOut statement′ 0 parts))
+  quote-then-read {statement′} {r} q near = go (quoted file book trip (length statement)) refl q
     where
       go :
-          (o : Quote) → quoted tariff book trip (length statement) ≡ o → Quoted o statement statement′ r
+          (o : Quote) → quoted file book trip (length statement) ≡ o → Quoted o statement statement′ r
           → (parts : List Part)
-          × ((quoted tariff book trip (length statement) ≡ priced parts) × ((length (statementOf parts) ≡ r) × ReadOut statement′ 0 parts))
+          × ((quoted file book trip (length statement) ≡ priced parts) × ((length (statementOf parts) ≡ r) × ReadOut statement′ 0 parts))
       go (unquoted n place) is q′ =
-          let settles = quote-refuses-alike tariff book trip (length statement) n place .0 is in
-          absurd (omega (arith, q′ .answer, refused-number tariff book trip (length statement) settles .0))
+          let settles = quote-refuses-alike file book trip (length statement) n place .0 is in
+          absurd (omega (arith, q′ .answer, refused-number file book trip (length statement) settles .0))
       go (priced parts) is q′ =
-          let (new, settles) = quote-accepts-alike tariff book trip (length statement) parts .0 is in
-          let back = settled-read-back tariff book trip statement (length statement) settles in
-          let readable = settled-readable tariff book trip (length statement) settles in
+          let (new, settles) = quote-accepts-alike file book trip (length statement) parts .0 is in
+          let back = settled-read-back file book trip statement (length statement) settles in
+          let readable = settled-readable file book trip (length statement) settles in
           (parts, (is, (sym (q′ .answer), rw (q′ .statement-is) (read-out _ 0 parts readable back))))
 
 -- ---- A call on a page.
 
 -- a member's trip that is refused has a number; one that is accepted is accepted on a book
-module _ (tariff : List ℕ) (association : ℕ) (page : List ℕ) (member : ℕ) (trip : List ℕ) (room : ℕ) where
-  faulty-number : {n at : ℕ} → readTariff tariff ≡ Fault n at → (1 ≤ n) × (at ≤ longestTariff)
-  faulty-number {n} {at} e =
-      let (soFar, found) = first-fault tariff n at e in (
-        ⊎-elim (λ is. omega arith) (⊎-elim (λ is. omega arith) (λ is. omega arith)) (fault-number tariff n at soFar found),
-        fault-most tariff n at e .1,
-      )
+module _ (file : List ℕ) (association : ℕ) (page : List ℕ) (member : ℕ) (trip : List ℕ) (room : ℕ) where
+  faulty-number : {n at : ℕ} → readFile file ≡ Fault n at → (1 ≤ n) × (at ≤ longestFile)
+  faulty-number {n} {at} e = (fault-some (file-exactly file (Fault n at) .0 e), file-fault-most file n at e .1)
 
-  pub for-number : {n at : ℕ} → settledFor tariff association page member trip room ≡ refused n at → (1 ≤ n) × (at ≤ longestTariff)
-  for-number {n} {at} e = met (settling-refused-for association page member tariff trip room n at .0 e)
+  pub for-number : {n at : ℕ} → settledFor file association page member trip room ≡ refused n at → (1 ≤ n) × (at ≤ longestFile)
+  for-number {n} {at} e = met (settling-refused-for association page member file trip room n at .0 e)
     where
-      behind : {n at : ℕ} → words.SettlingRefused tariff (firstPlace association) ownPlaces page member trip room n at → (1 ≤ n) × (at ≤ longestTariff)
+      behind : {n at : ℕ} → words.SettlingRefused file (firstPlace association) ownPlaces page member trip room n at → (1 ≤ n) × (at ≤ longestFile)
       behind (settle-faulty n at e) = faulty-number e
-      behind (settle-eighteen counts read why) = (omega arith, omega arith)
-      behind (settle-nineteen counts read none absent) = (omega arith, omega arith)
-      behind (settle-table counts read none one n at e) =
+      behind (settle-eighteen editions read why) = (omega arith, omega arith)
+      behind (settle-nineteen editions read none absent) = (omega arith, omega arith)
+      behind (settle-table editions read none one n at e) =
           let (low, high, near, none-behind) =
-          refused-number tariff (bookAt page (one .place)) trip room (faultless-way tariff (bookAt page (one .place)) trip room counts read ∙ e)
+          refused-number file (bookAt page (one .place)) trip room (faultless-way file (bookAt page (one .place)) trip room editions read ∙ e)
           in
           (low, near)
 
-      met : {n at : ℕ} → refusals.SettlingRefusedFor tariff association page member trip room n at → (1 ≤ n) × (at ≤ longestTariff)
+      met : {n at : ℕ} → refusals.SettlingRefusedFor file association page member trip room n at → (1 ≤ n) × (at ≤ longestFile)
       met (refusals.for-faulty n at e) = faulty-number e
-      met (refusals.for-twenty-one counts read none) = (omega arith, omega arith)
-      met (refusals.for-others counts read one n at w) = behind w
+      met (refusals.for-twenty-one editions read none) = (omega arith, omega arith)
+      met (refusals.for-others editions read one n at w) = behind w
 
   -- in some places
   placed-few :
-      {new : List ℕ} {parts : List Part} → memberSettled tariff (firstPlace association) ownPlaces page member trip room ≡ accepted new parts
+      {new : List ℕ} {parts : List Part} → memberSettled file (firstPlace association) ownPlaces page member trip room ≡ accepted new parts
       → length (statementOf parts) < 2 ^ 32
-  placed-few {new} {parts} e = go (settling (firstPlace association) ownPlaces page member tariff trip room)
+  placed-few {new} {parts} e = go (settling (firstPlace association) ownPlaces page member file trip room)
     where
       by-book :
-          (counts : Counts) (q : ℕ) → Read tariff counts → (o : Outcome) → settledUnder tariff counts (bookAt page q) trip room ≡ o
+          (editions : Editions) (q : ℕ) → ReadFile file editions → (o : Outcome) → settledUnder file editions (bookAt page q) trip room ≡ o
           → onPage page q o ≡ accepted new parts → length (statementOf parts) < 2 ^ 32
-      by-book counts q read (refused n at) is e′ = absurd (let z : _≡_ {A = ℕ} 0 1 = cc in omega arith)
-      by-book counts q read (accepted book these) is e′ =
+      by-book editions q read (refused n at) is e′ = absurd (let z : _≡_ {A = ℕ} 0 1 = cc in omega arith)
+      by-book editions q read (accepted book these) is e′ =
           let same : these ≡ parts = cc in
-          let settles = faultless-way tariff (bookAt page q) trip room counts read ∙ is in
-          let few = accepted-answer tariff (bookAt page q) trip room settles .1 in
+          let settles = faultless-way file (bookAt page q) trip room editions read ∙ is in
+          let few = accepted-answer file (bookAt page q) trip room settles .1 in
           omega (arith, rw settles at few, ap (λ (l : List Part). length (statementOf l)) same)
 
-      go : Settling (firstPlace association) ownPlaces page member tariff trip room → length (statementOf parts) < 2 ^ 32
+      go : Settling (firstPlace association) ownPlaces page member file trip room → length (statementOf parts) < 2 ^ 32
       go (at-fault n at is e′) = absurd (let z : _≡_ {A = ℕ} 0 1 = cc in omega arith)
-      go (settle-wrong-page counts read why e′) = absurd (let z : _≡_ {A = ℕ} 0 1 = cc in omega arith)
-      go (settle-absent counts read p can none e′) = absurd (let z : _≡_ {A = ℕ} 0 1 = cc in omega arith)
-      go (settle-at counts q read p can l e′) =
-          by-book counts q read (settledUnder tariff counts (bookAt page q) trip room) refl (sym e′ ∙ e)
+      go (settle-wrong-page editions read why e′) = absurd (let z : _≡_ {A = ℕ} 0 1 = cc in omega arith)
+      go (settle-absent editions read p can none e′) = absurd (let z : _≡_ {A = ℕ} 0 1 = cc in omega arith)
+      go (settle-at editions q read p can l e′) =
+          by-book editions q read (settledUnder file editions (bookAt page q) trip room) refl (sym e′ ∙ e)
 
-  pub for-few : {new : List ℕ} {parts : List Part} → settledFor tariff association page member trip room ≡ accepted new parts → length (statementOf parts) < 2 ^ 32
+  pub for-few : {new : List ℕ} {parts : List Part} → settledFor file association page member trip room ≡ accepted new parts → length (statementOf parts) < 2 ^ 32
   for-few {new} {parts} e = go (which association)
     where
-      none-taken : isAssociation association ≡ false → (r : Reading) → readTariff tariff ≡ r → length (statementOf parts) < 2 ^ 32
+      none-taken : isAssociation association ≡ false → (r : FileReading) → readFile file ≡ r → length (statementOf parts) < 2 ^ 32
       none-taken none (Fault n at) is =
-          absurd (let z : _≡_ {A = ℕ} 0 1 = cc (for-fault association page member tariff trip room n at is, e) in omega arith)
-      none-taken none (Faultless counts) is =
-          let e′ = for-read association page member tariff trip room counts is ∙ settled-none-under association page member none tariff counts trip room in
+          absurd (let z : _≡_ {A = ℕ} 0 1 = cc (for-fault association page member file trip room n at is, e) in omega arith)
+      none-taken none (Faultless editions) is =
+          let e′ = for-read association page member file trip room editions is ∙ settled-none-under association page member none file editions trip room in
           absurd (let z : _≡_ {A = ℕ} 0 1 = cc (e′, e) in omega arith)
 
       go : Which association → length (statementOf parts) < 2 ^ 32
-      go (is-one one is) = placed-few (sym (settled-for association page member tariff trip room is) ∙ e)
-      go (is-none none is) = none-taken is (readTariff tariff) refl
+      go (is-one one is) = placed-few (sym (settled-for association page member file trip room is) ∙ e)
+      go (is-none none is) = none-taken is (readFile file) refl
 
   -- So what it writes to a statement is told by the answer and the statement that it leaves.
   written-is :
-      (o : Outcome) → settledFor tariff association page member trip room ≡ o → {page′ statement statement′ : List ℕ} {r : ℕ}
+      (o : Outcome) → settledFor file association page member trip room ≡ o → {page′ statement statement′ : List ℕ} {r : ℕ}
       → Settled o page page′ statement statement′ r → writtenBy r statement′ ≡ statementOf (partsIn o)
   unfolding statementOf
   written-is (refused n at) is {r = r} s =
@@ -213,13 +209,13 @@ pub call-is :
 unfolding pageWithFor replyTo
 call-is association (called-add c) = (c .page-is, rw (c .answer, c .page-is))
 call-is association (called-close c) = (c .page-is, rw (c .answer, c .page-is))
-call-is association {page} (called-settle {tariff} {member} {trip} {statement} s) =
-    let outcome = settledFor tariff association page member trip (length statement) in
-    let written = written-is tariff association page member trip (length statement) outcome refl s in
+call-is association {page} (called-settle {file} {member} {trip} {statement} s) =
+    let outcome = settledFor file association page member trip (length statement) in
+    let written = written-is file association page member trip (length statement) outcome refl s in
     (s .book-is, rw (written, s .answer, s .book-is))
-call-is association {page} {page′} (called-post {tariff} {place} {trip} {offered} {book′} {r} one lent posted is) =
-    let there = posted-for tariff association page place trip offered (one-is one) ∙ posted-there tariff (firstPlace association) ownPlaces page place trip offered lent in
-    let left = on-page (postingOf tariff (bookAt page place) trip offered) posted in
+call-is association {page} {page′} (called-post {file} {place} {trip} {offered} {book′} {r} one lent posted is) =
+    let there = posted-for file association page place trip offered (one-is one) ∙ posted-there file (firstPlace association) ownPlaces page place trip offered lent in
+    let left = on-page (postingOf file (bookAt page place) trip offered) posted in
     (is ∙ left ∙ rw there, rw (posted .answer, is ∙ left, there))
   where
     on-page :

@@ -11,8 +11,8 @@ use borrow.Author.Tests.{leb-false}
 use lib.Dec.{leb}
 use Rattle.units.specs.Day.{dayMinutes}
 use Rattle.caps.specs.Rides.{ChargedRide}
-use Rattle.layout.specs.declared.Counts.{Counts}
-use Rattle.layout.specs.Scan.{Read}
+use Rattle.editions.specs.declared.Editions.{Editions}
+use Rattle.editions.specs.Reading.{ReadFile}
 use Rattle.trip.specs.Moments.{checkinOf, checkoutOf}
 use Rattle.trip.proofs.Clear.{good-fields}
 use Rattle.ledger.specs.Words.{tripsOf, lastOutOf}
@@ -55,9 +55,9 @@ record Timely (book bytes new : List ℕ) : Type 0 where
   last : lastOutOf new ≡ checkoutOf bytes
 
 timely :
-    {tariff book bytes : List ℕ} {room : ℕ} {new : List ℕ} {parts : List Part} → AcceptedBy tariff book bytes room new parts → Timely book bytes new
+    {file book bytes : List ℕ} {room : ℕ} {new : List ℕ} {parts : List Part} → AcceptedBy file book bytes room new parts → Timely book bytes new
 unfolding conditionWith
-timely {tariff} {book} {bytes} a =
+timely {file} {book} {bytes} a =
     record {
       since = λ some.
           elim (decLt (checkinOf bytes) (lastOutOf book)) [
@@ -68,9 +68,9 @@ timely {tariff} {book} {bytes} a =
       last = book-head a .last-out;
     }
 
-module _ (tariff : List ℕ) (counts : Counts) (rider : ℕ) {book bytes new : List ℕ} (parts : List Part) (t : Timely book bytes new) where
+module _ (file : List ℕ) (editions : Editions) (rider : ℕ) {book bytes new : List ℕ} (parts : List Part) (t : Timely book bytes new) where
   abbrev joined : RiderWindow → RiderWindow
-  joined window = withTrip tariff counts rider bytes parts window
+  joined window = withTrip file editions rider bytes parts window
 
   abbrev opened : RiderWindow
   opened = joined (opensAt (checkinOf bytes))
@@ -163,11 +163,11 @@ module _ (tariff : List ℕ) (counts : Counts) (rider : ℕ) {book bytes new : L
 
   -- So the windows with the trip are in a row.
   row-with :
-      {rides : List ChargedRide} (windows : List RiderWindow) → OpenFirst book rides windows → Row book windows
-      → Row new (windowsWith tariff counts rider bytes parts windows)
+      {rides : List ChargedRide} (windows : List RiderWindow) → OpenFirst editions book rides windows → Row book windows
+      → Row new (windowsWith file editions rider bytes parts windows)
   unfolding windowsWith
   row-with [] (none-open none is) r = first-row
-  row-with (latest ∷ earlier) (one-open some opening is) r = by (leb (checkoutOf bytes) (latest .opening + dayMinutes)) refl
+  row-with (latest ∷ earlier) (one-open some opening edition is) r = by (leb (checkoutOf bytes) (latest .opening + dayMinutes)) refl
     where
       by :
           (fits : Bool) → leb (checkoutOf bytes) (latest .opening + dayMinutes) ≡ fits
@@ -178,26 +178,26 @@ module _ (tariff : List ℕ) (counts : Counts) (rider : ℕ) {book bytes new : L
 -- ---- The run.
 
 row-after :
-    {tariff : List ℕ} {counts : Counts} {rider : ℕ} {book : List ℕ} {rides : List ChargedRide} {windows : List RiderWindow}
-    → KeptRun tariff counts rider book rides windows → Row book windows → (step : Step) (outcome : Outcome) → stepOutcome tariff book step ≡ outcome
-    → Row (bookAfter outcome book) (windowsAfter tariff counts rider (offerOf step .bytes) outcome windows)
+    {file : List ℕ} {editions : Editions} {rider : ℕ} {book : List ℕ} {rides : List ChargedRide} {windows : List RiderWindow}
+    → KeptRun file editions rider book rides windows → Row book windows → (step : Step) (outcome : Outcome) → stepOutcome file book step ≡ outcome
+    → Row (bookAfter outcome book) (windowsAfter file editions rider (offerOf step .bytes) outcome windows)
 unfolding windowsAfter
 row-after s r step (refused number place) e = r
-row-after {tariff} {counts} {rider} {book} {windows = windows} s r step (accepted new parts) e =
-    row-with tariff counts rider parts
-    (timely (accepted-is tariff book (offerOf step .bytes) (offerOf step .room) (step-settles tariff book step e))) windows (s .in-step) r
+row-after {file} {editions} {rider} {book} {windows = windows} s r step (accepted new parts) e =
+    row-with file editions rider parts
+    (timely (accepted-is file book (offerOf step .bytes) (offerOf step .room) (step-settles file book step e))) windows (s .in-step) r
 
 row-from :
-    {tariff : List ℕ} {counts : Counts} → Read tariff counts → {rider : ℕ} → rider < 21 → (run : List Step) {book : List ℕ} {rides : List ChargedRide}
-    {windows : List RiderWindow} → KeptRun tariff counts rider book rides windows → Row book windows
-    → Row (bookAfterSteps tariff book run) (windowsOver tariff counts rider (stepsFrom tariff book run) windows)
+    {file : List ℕ} {editions : Editions} → ReadFile file editions → {rider : ℕ} → rider < 21 → (run : List Step) {book : List ℕ} {rides : List ChargedRide}
+    {windows : List RiderWindow} → KeptRun file editions rider book rides windows → Row book windows
+    → Row (bookAfterSteps file book run) (windowsOver file editions rider (stepsFrom file book run) windows)
 unfolding bookAfterEach eachFrom under windowsOver
 row-from read known [] s r = r
-row-from {tariff} read known (step ∷ run) {book} s r =
-    row-from read known run (after-outcome read known s step (stepOutcome tariff book step) refl) (row-after s r step (stepOutcome tariff book step) refl)
+row-from {file} read known (step ∷ run) {book} s r =
+    row-from read known run (after-outcome read known s step (stepOutcome file book step) refl) (row-after s r step (stepOutcome file book step) refl)
 
 -- Two windows of a run never overlap in trips, and the next opens at a trip that does not fit the one before.
 pub windows-in-row :
-    (tariff : List ℕ) (counts : Counts) → Read tariff counts → (rider : ℕ) → rider < 21 → (run : List Step) → InRow (windowsOf tariff counts rider run)
-windows-in-row tariff counts read rider known run =
-    row-from read known run (fresh-run tariff counts rider) (record { row = no-window; ended = λ window there. absurd (List·Memᴰ·not-nil there) }) .row
+    (file : List ℕ) (editions : Editions) → ReadFile file editions → (rider : ℕ) → rider < 21 → (run : List Step) → InRow (windowsOf file editions rider run)
+windows-in-row file editions read rider known run =
+    row-from read known run (fresh-run file editions rider) (record { row = no-window; ended = λ window there. absurd (List·Memᴰ·not-nil there) }) .row

@@ -16,7 +16,7 @@ use Rattle.reader.specs.Reading.{told, readAt}
 use Rattle.reader.proofs.ReadBack.{written-part}
 use Rattle.settle.specs.Outcome.{priced, accepted, quoted}
 use Rattle.promises.specs.ReadBack.{ReadFrom, then, EachReadable, nobody, also}
-use Rattle.promises.specs.Moved.{MovedTrip, MovedBook, MovedPart, MovedParts, no-part, one-part, MovedOutcome, both-accepted, MovedRecord}
+use Rattle.promises.specs.Moved.{MovedTrip, MovedBook, MovedPart, MovedParts, no-part, one-part, MovedOutcome, both-accepted, MovedRecord, OpensAlike}
 use Rattle.promises.proofs.ReadBack.{settled-readable, read-all}
 use Rattle.promises.proofs.Quotes.{quote-accepts-alike}
 use Rattle.promises.proofs.Midnight.{moved-alike}
@@ -136,16 +136,17 @@ records-moved {d} {parts} {parts′} ok ok′ n =
       );
     }
 
--- So are those that quotes wrote, of a trip moved, on books so moved: whatever is settled and posted before they are posted themselves.
+-- So are those that quotes wrote, of a trip moved, on books so moved, under the same edition: whatever is settled and posted before they are
+-- posted themselves.
 pub quotes-moved :
-    (tariff : List ℕ) {d : ℕ} {trip trip′ book book′ : List ℕ} (room : ℕ) {parts parts′ : List Part} → MovedTrip d trip trip′ → MovedBook d book book′
-    → quoted tariff book trip room ≡ priced parts → quoted tariff book′ trip′ room ≡ priced parts′
+    (file : List ℕ) {d : ℕ} {trip trip′ book book′ : List ℕ} (room : ℕ) {parts parts′ : List Part} → MovedTrip d trip trip′ → MovedBook d book book′
+    → OpensAlike file d book trip → quoted file book trip room ≡ priced parts → quoted file book′ trip′ room ≡ priced parts′
     → MovedRecord d (statementOf parts) (statementOf parts′)
-quotes-moved tariff {d} {trip} {trip′} {book} {book′} room {parts} {parts′} m books q q′ =
-    let (new, s) = quote-accepts-alike tariff book trip room parts .0 q in
-    let (new′, s′) = quote-accepts-alike tariff book′ trip′ room parts′ .0 q′ in
-    let alike : MovedOutcome d (accepted new parts) (accepted new′ parts′) = rw (s, s′) at (moved-alike tariff room d m books) in
-    records-moved (settled-readable tariff book trip room s) (settled-readable tariff book′ trip′ room s′) (parts-of alike)
+quotes-moved file {d} {trip} {trip′} {book} {book′} room {parts} {parts′} m books opens q q′ =
+    let (new, s) = quote-accepts-alike file book trip room parts .0 q in
+    let (new′, s′) = quote-accepts-alike file book′ trip′ room parts′ .0 q′ in
+    let alike : MovedOutcome d (accepted new parts) (accepted new′ parts′) = rw (s, s′) at (moved-alike file room d m books opens) in
+    records-moved (settled-readable file book trip room s) (settled-readable file book′ trip′ room s′) (parts-of alike)
   where
     parts-of : {new new′ : List ℕ} → MovedOutcome d (accepted new parts) (accepted new′ parts′) → MovedParts d parts parts′
     parts-of (both-accepted books parts) = parts

@@ -5,14 +5,13 @@ use Prim.Native.Nat.{ℕ, _^_, _≤_, _<_}
 use native.Mathlib.Omega.{arith}
 use mathlib.Core.Path.{_≡_, refl, sym, ap, subst, _∙_}
 use mathlib.Core.Bool.{Bool, true, false, cond}
-use mathlib.Core.Logic.{⊎-elim}
 use mathlib.Core.List.{List}
 use lib.ListN.{length, drop}
 use lib.Dec.{ltb}
-use Rattle.layout.specs.declared.Reading.{Reading}
-use Rattle.layout.specs.declared.Reading.the-variants.{Fault, Faultless}
-use Rattle.layout.specs.Scan.{readTariff}
-use Rattle.scan.proofs.Faults.{first-fault, fault-number}
+use Rattle.editions.specs.declared.FileReading.{FileReading}
+use Rattle.editions.specs.declared.FileReading.the-variants.{Fault, Faultless}
+use Rattle.editions.specs.Reading.{readFile}
+use Rattle.editions.proofs.FileLaws.{file-exactly}
 use Rattle.reader.specs.Conditions.{RefusedBy, broken-frame, other-record, out-of-range}
 use Rattle.reader.specs.Fields.{Fields, whoseIn, chargesOf}
 use Rattle.reader.specs.Reading as reading
@@ -36,6 +35,7 @@ use Rattle.milecopper.specs.Contracts.{encodedAs, ReadTo}
 use Rattle.milecopper.specs.Tariffs.{tariffAnswer}
 use Rattle.milecopper.proofs.TariffAnswers.{fault-fits, fault-answer, length-fits, faultless-answer}
 use Rattle.promises.specs.Numbers.{Apart, a-refusal, some-bytes, Tellable, toldFilling, toldTariff}
+use Rattle.promises.proofs.Refusing.{fault-some}
 use Rattle.promises.proofs.Answers.{refused-number, accepted-answer}
 use Rattle.promises.proofs.Quotes.{quote-number, quote-accepts-alike, posting-number, posting-size}
 use Rattle.promises.proofs.Exported.{for-number, for-few}
@@ -50,46 +50,46 @@ apart-from a is ok = rw is (taken-apart a ok)
 
 -- ---- `milecopper_settle`, `milecopper_quote`, `milecopper_post`.
 
-module _ (tariff book trip : List ℕ) where
+module _ (file book trip : List ℕ) where
   pub settle-apart :
       (statement : List ℕ) {book′ statement′ : List ℕ} {r : ℕ}
-      → Settled (settled tariff book trip (length statement)) book book′ statement statement′ r
-      → Apart r (toldBy (settled tariff book trip (length statement)))
-  settle-apart statement {book′} {statement′} {r} s = go (settled tariff book trip (length statement)) refl s
+      → Settled (settled file book trip (length statement)) book book′ statement statement′ r
+      → Apart r (toldBy (settled file book trip (length statement)))
+  settle-apart statement {book′} {statement′} {r} s = go (settled file book trip (length statement)) refl s
     where
-      go : (o : Outcome) → settled tariff book trip (length statement) ≡ o → Settled o book book′ statement statement′ r → Apart r (toldBy o)
+      go : (o : Outcome) → settled file book trip (length statement) ≡ o → Settled o book book′ statement statement′ r → Apart r (toldBy o)
       go (refused n place) is s′ =
-          let (low, high, near, none) = refused-number tariff book trip (length statement) is in
+          let (low, high, near, none) = refused-number file book trip (length statement) is in
           apart-from (Refused n place) (s′ .answer) (low, omega (arith, near))
       go (accepted new parts) is s′ =
-          let few = accepted-answer tariff book trip (length statement) is .1 in
+          let few = accepted-answer file book trip (length statement) is .1 in
           apart-from (toldBy (accepted new parts)) (s′ .answer) (omega (arith, rw is at few))
 
   pub quote-apart :
-      (statement : List ℕ) {statement′ : List ℕ} {r : ℕ} → Quoted (quoted tariff book trip (length statement)) statement statement′ r
-      → Apart r (toldQuote (quoted tariff book trip (length statement)))
-  quote-apart statement {statement′} {r} q = go (quoted tariff book trip (length statement)) refl q
+      (statement : List ℕ) {statement′ : List ℕ} {r : ℕ} → Quoted (quoted file book trip (length statement)) statement statement′ r
+      → Apart r (toldQuote (quoted file book trip (length statement)))
+  quote-apart statement {statement′} {r} q = go (quoted file book trip (length statement)) refl q
     where
-      go : (o : Quote) → quoted tariff book trip (length statement) ≡ o → Quoted o statement statement′ r → Apart r (toldQuote o)
+      go : (o : Quote) → quoted file book trip (length statement) ≡ o → Quoted o statement statement′ r → Apart r (toldQuote o)
       go (unquoted n place) is q′ =
-          let (low, high, near, none) = quote-number tariff book trip (length statement) is in
+          let (low, high, near, none) = quote-number file book trip (length statement) is in
           apart-from (Refused n place) (q′ .answer) (low, omega (arith, near))
       go (priced parts) is q′ =
-          let (new, settles) = quote-accepts-alike tariff book trip (length statement) parts .0 is in
-          let few = accepted-answer tariff book trip (length statement) settles .1 in
+          let (new, settles) = quote-accepts-alike file book trip (length statement) parts .0 is in
+          let few = accepted-answer file book trip (length statement) settles .1 in
           apart-from (toldQuote (priced parts)) (q′ .answer) (omega (arith, rw settles at few))
 
   pub post-apart :
-      (offered : List ℕ) {book′ : List ℕ} {r : ℕ} → Posted (postingOf tariff book trip offered) book book′ r
-      → Apart r (toldPosting (postingOf tariff book trip offered))
-  post-apart offered {book′} {r} p = go (postingOf tariff book trip offered) refl p
+      (offered : List ℕ) {book′ : List ℕ} {r : ℕ} → Posted (postingOf file book trip offered) book book′ r
+      → Apart r (toldPosting (postingOf file book trip offered))
+  post-apart offered {book′} {r} p = go (postingOf file book trip offered) refl p
     where
-      go : (o : Posting) → postingOf tariff book trip offered ≡ o → Posted o book book′ r → Apart r (toldPosting o)
+      go : (o : Posting) → postingOf file book trip offered ≡ o → Posted o book book′ r → Apart r (toldPosting o)
       go (unposted n place) is p′ =
-          let (low, high, other, near, none) = posting-number tariff book trip offered is in
+          let (low, high, other, near, none) = posting-number file book trip offered is in
           apart-from (Refused n place) (p′ .answer) (low, omega (arith, near))
       go (renewed new) is p′ =
-          apart-from (toldPosting (renewed new)) (p′ .answer) (omega (arith, posting-size tariff book trip offered is))
+          apart-from (toldPosting (renewed new)) (p′ .answer) (omega (arith, posting-size file book trip offered is))
 
 -- ---- `milecopper_add`, `milecopper_close`, `milecopper_settle_member`.
 
@@ -125,19 +125,19 @@ module _ (association : ℕ) (page : List ℕ) (member : ℕ) where
       met (other-refusal n one w) = inside w
 
   pub member-apart :
-      (tariff trip statement : List ℕ) {page′ statement′ : List ℕ} {r : ℕ}
-      → Settled (settledFor tariff association page member trip (length statement)) page page′ statement statement′ r
-      → Apart r (toldBy (settledFor tariff association page member trip (length statement)))
-  member-apart tariff trip statement {page′} {statement′} {r} s = go (settledFor tariff association page member trip (length statement)) refl s
+      (file trip statement : List ℕ) {page′ statement′ : List ℕ} {r : ℕ}
+      → Settled (settledFor file association page member trip (length statement)) page page′ statement statement′ r
+      → Apart r (toldBy (settledFor file association page member trip (length statement)))
+  member-apart file trip statement {page′} {statement′} {r} s = go (settledFor file association page member trip (length statement)) refl s
     where
       go :
-          (o : Outcome) → settledFor tariff association page member trip (length statement) ≡ o → Settled o page page′ statement statement′ r
+          (o : Outcome) → settledFor file association page member trip (length statement) ≡ o → Settled o page page′ statement statement′ r
           → Apart r (toldBy o)
       go (refused n place) is s′ =
-          let (low, near) = for-number tariff association page member trip (length statement) is in
+          let (low, near) = for-number file association page member trip (length statement) is in
           apart-from (Refused n place) (s′ .answer) (low, omega (arith, near))
       go (accepted new parts) is s′ =
-          apart-from (toldBy (accepted new parts)) (s′ .answer) (for-few tariff association page member trip (length statement) is)
+          apart-from (toldBy (accepted new parts)) (s′ .answer) (for-few file association page member trip (length statement) is)
 
 -- ---- `milecopper_read`, `milecopper_check_tariff`.
 
@@ -178,12 +178,11 @@ read-finds statement at before {after} {r} to near = go (fillingOf statement at 
         let (read, found) = filled-found statement at (length before) is (drop (length (fieldBytes fields)) before) in
         (fields, (read ∙ ap (reading.told fields) (sym (to′ .answer)), subst (FieldsFound fields) (sym (to′ .fields-are)) found))
 
-pub check-apart : (tariff : List ℕ) {r : ℕ} → r ≡ tariffAnswer tariff → Apart r (toldTariff tariff (readTariff tariff))
-check-apart tariff {r} e = go (readTariff tariff) refl
+pub check-apart : (file : List ℕ) {r : ℕ} → r ≡ tariffAnswer file → Apart r (toldTariff file (readFile file))
+check-apart file {r} e = go (readFile file) refl
   where
-    go : (o : Reading) → readTariff tariff ≡ o → Apart r (toldTariff tariff o)
+    go : (o : FileReading) → readFile file ≡ o → Apart r (toldTariff file o)
     go (Fault n at) is =
-        let (soFar, found) = first-fault tariff n at is in
-        let some : 1 ≤ n = ⊎-elim (λ is. omega arith) (⊎-elim (λ is. omega arith) (λ is. omega arith)) (fault-number tariff n at soFar found) in
-        apart-from (Refused n at) (e ∙ fault-answer tariff n at is) (some, fault-fits tariff n at is)
-    go (Faultless counts) is = apart-from (Written (length tariff)) (e ∙ faultless-answer tariff counts is) (length-fits tariff counts is)
+        let some : 1 ≤ n = fault-some (file-exactly file (Fault n at) .0 is) in
+        apart-from (Refused n at) (e ∙ fault-answer file n at is) (some, fault-fits file n at is)
+    go (Faultless editions) is = apart-from (Written (length file)) (e ∙ faultless-answer file editions is) (length-fits file editions is)

@@ -41,16 +41,16 @@ use Rattle.reader.specs.Ranges.{lastArea, AmountInRange, InRange}
 use Rattle.reader.specs.Reading.{told, readAt}
 use Rattle.reader.proofs.ReadBack.{written-part, read-written}
 use Rattle.settle.specs.Outcome.{accepted, partOf, oneMore, partsOf, settled, statementWith}
-use Rattle.settle.proofs.Clear.{part-complete, rides-fit}
-use Rattle.promises.specs.Conditions.{tripRides, tripWindow}
+use Rattle.settle.proofs.Clear.{part-complete}
+use Rattle.promises.specs.Conditions.{tripRides}
 use Rattle.promises.specs.ReadBack.{ReadFrom, over, then, EachReadable, nobody, also}
-use Rattle.promises.proofs.Answers.{accepted-is}
-use Rattle.promises.proofs.Quotes.{accepted-clear}
+use Rattle.promises.proofs.Answers.{accepted-is, tariffBy, countsBy, clear, charged-rides, right-window}
 
 -- ---- The charges of a ride.
 
 -- a charge and a cut that are what the rules' words say are in range
-module _ {tariff : List ℕ} {counts : Counts} {book : List ℕ} {ride : Ride} (ok : Rideable tariff counts book ride) (w : List ℕ) where
+module _ {tariff : List ℕ} {counts : Counts} {book : List ℕ} {current : Bool} {ride : Ride}
+    (ok : Rideable tariff counts book current ride) (w : List ℕ) where
   abbrev amountFor : Bool → ℕ → Amount
   amountFor child rider =
       record { charge = record { 0 = riderCharge tariff counts w ride child rider }; cut = riderCut tariff counts w ride child rider }
@@ -97,8 +97,8 @@ module _ {tariff : List ℕ} {counts : Counts} {book : List ℕ} {ride : Ride} (
 
 -- ---- A ride's part.
 
-module _ {tariff : List ℕ} {counts : Counts} {book : List ℕ} {window : Window} {checkout : ℕ} {ride : Ride} (ok : Rideable tariff counts book ride)
-    (right : WindowRight book window checkout) where
+module _ {tariff : List ℕ} {counts : Counts} {book : List ℕ} {window : Window} {checkout : ℕ} {ride : Ride}
+    (ok : Rideable tariff counts book (window .current) ride) (right : WindowRight book window checkout) where
   abbrev w : List ℕ
   w = inWindow (window .current) book
 
@@ -124,7 +124,7 @@ module _ {tariff : List ℕ} {counts : Counts} {book : List ℕ} {window : Windo
               | no bicycle ↦
                   rw (List·getD-eq-default (cutsOf tariff counts w ride) uncut {n = i} (omega (arith, cuts-length tariff counts w ride, bicycle)))
                   (record {
-                    price = omega (arith, charges-most ok (window .current) i);
+                    price = omega (arith, charges-most ok i);
                     cut = record { unnamed = λ _. (refl, refl); named = λ some. absurd (some refl) };
                   })
             ]
@@ -155,7 +155,7 @@ module _ {tariff : List ℕ} {counts : Counts} {book : List ℕ} {window : Windo
 
 module _ {tariff : List ℕ} {counts : Counts} {book : List ℕ} {window : Window} {checkout : ℕ} where
   each-readable :
-      (rides : List Ride) → EachRide (Rideable tariff counts book) rides → WindowRight book window checkout → window .trips + length rides ≤ 256
+      (rides : List Ride) → EachRide (Rideable tariff counts book (window .current)) rides → WindowRight book window checkout → window .trips + length rides ≤ 256
       → length rides ≤ 2 → EachReadable (partsOf tariff counts book window checkout rides)
   unfolding partsOf oneMore
   each-readable [] none right few two = nobody
@@ -166,15 +166,14 @@ module _ {tariff : List ℕ} {counts : Counts} {book : List ℕ} {window : Windo
       also (part-whole ok right) (part-in-range ok right) (also (part-whole ok″ right′) (part-in-range ok″ right′) nobody)
   each-readable (ride ∷ next ∷ another ∷ rest) rideable right few two = absurd (omega arith)
 
-module _ (tariff book trip : List ℕ) (room : ℕ) {new : List ℕ} {parts : List Part} (is : settled tariff book trip room ≡ accepted new parts) where
+module _ (file book trip : List ℕ) (room : ℕ) {new : List ℕ} {parts : List Part} (is : settled file book trip room ≡ accepted new parts) where
   -- Each part of an accepted trip tells fields in range.
   pub settled-readable : EachReadable parts
   settled-readable =
-      let a = accepted-is tariff book trip room is in
-      let counts = a .counts in
-      let asked = rides-fit tariff counts book trip (tripOf trip) (tripWindow book trip) room (accepted-clear tariff book trip room a) refl in
+      let a = accepted-is file book trip room is in
       subst EachReadable (sym (a .parts-is))
-      (each-readable (tripRides tariff counts trip) (asked .rideable) (asked .right) (asked .few) (few-rides tariff counts trip (tripOf trip) .1))
+      (each-readable (tripRides (tariffBy a) (countsBy a) trip) (charged-rides a) (right-window a) (clear a .few)
+      (few-rides (tariffBy a) (countsBy a) trip (tripOf trip) .1))
 
 -- ---- Reading them back.
 
@@ -199,7 +198,7 @@ read-all (part ∷ parts) (also complete ok each) before rest =
 
 -- Every record that settling writes on acceptance is read back, from the statement's start on: no refusal, and every field the part's.
 pub settled-read-back :
-    (tariff book trip statement : List ℕ) (room : ℕ) {new : List ℕ} {parts : List Part} → settled tariff book trip room ≡ accepted new parts
+    (file book trip statement : List ℕ) (room : ℕ) {new : List ℕ} {parts : List Part} → settled file book trip room ≡ accepted new parts
     → ReadFrom (statementWith parts statement) 0 parts
-settled-read-back tariff book trip statement room {new} {parts} is =
-    read-all parts (settled-readable tariff book trip room is) [] (drop (length (statementOf parts)) statement)
+settled-read-back file book trip statement room {new} {parts} is =
+    read-all parts (settled-readable file book trip room is) [] (drop (length (statementOf parts)) statement)

@@ -29,7 +29,7 @@ use Rattle.trip.specs.declared.Ride.{Ride}
 use Rattle.fare.specs.Contracts.{EachRide}
 use Rattle.fare.specs.Contracts as each
 use Rattle.ledger.specs.declared.Window.{Window}
-use Rattle.ledger.specs.Words.{freshBook, tripsOf, openingOf, secondSum, allSum, pairPlace}
+use Rattle.ledger.specs.Words.{freshBook, tripsOf, openingOf, editionOf, secondSum, allSum, pairPlace}
 use Rattle.ledger.specs.Sound.{sound}
 use Rattle.ledger.specs.Windows.{inWindow}
 use Rattle.charging.specs.Caps.{treeOf}
@@ -40,9 +40,9 @@ use Rattle.charging.specs.After.{posted}
 use Rattle.charging.specs.Contracts.{Rideable}
 use Rattle.charging.proofs.Trees.{is-tree}
 use Rattle.ledger.proofs.WordLaws.{word-fresh}
-use Rattle.ledger.proofs.SoundLaws.{fresh-sound}
+use Rattle.ledger.proofs.SoundLaws.{fresh-sound, sound-alone, sound-covers}
 use Rattle.charging.proofs.SumLaws.{sumOf, counted}
-use Rattle.charging.proofs.PostedLaws.{added, ownCharge, posted-sum, posted-opening}
+use Rattle.charging.proofs.PostedLaws.{added, ownCharge, posted-sum, posted-opening, posted-edition}
 use Rattle.ledger.specs.Contracts.{WindowRight}
 use Rattle.ledger.proofs.WindowLaws.{window-room}
 use Rattle.posting.proofs.NextPart.{next-trips, next-right}
@@ -97,13 +97,6 @@ kept-fresh tariff counts rider =
       each-counts = λ holder. word-fresh 0;
     }
 
--- the words that count have the rides of the open window, or none
-kept-window :
-    {tariff : List ℕ} {counts : Counts} {rider : ℕ} {book : List ℕ} {rides : List ChargedRide} (current : Bool)
-    → Kept tariff counts rider book rides → Kept tariff counts rider (inWindow current book) (cond current rides [])
-kept-window true k = k
-kept-window {tariff} {counts} {rider} false k = kept-fresh tariff counts rider
-
 -- their trips are those of the open window, or none
 window-trips : (current : Bool) (book : List ℕ) → tripsOf (inWindow current book) ≡ cond current (tripsOf book) 0
 window-trips true book = refl
@@ -126,28 +119,26 @@ holder-on party = le-leb 0 (party .adults) (omega arith)
 
 -- ---- One ride.
 
-module _ {tariff : List ℕ} {counts : Counts} {book : List ℕ} {ride : Ride} (ok : Rideable tariff counts book ride) {window : Window}
+module _ {tariff : List ℕ} {counts : Counts} {book : List ℕ} {ride : Ride} {window : Window} (ok : Rideable tariff counts book (window .current) ride)
     {checkout : ℕ} (right : WindowRight book window checkout) where
   abbrev new : List ℕ
   new = posted tariff counts book window checkout ride
 
-  -- the book has the window's opening
+  -- the book has the window's opening and its edition
   head-opening : openingOf new ≡ window .opening .0
-  head-opening = posted-opening ok window checkout (window-room right) (omega (arith, right .head .order, right .head .last))
+  head-opening = posted-opening window ok checkout (window-room right) (omega (arith, right .head .order, right .head .last))
 
-  module _ {rider : ℕ} (known : rider < 21) {rides : List ChargedRide} (k : Kept tariff counts rider book rides) where
-    -- the words that count, the rides in their window, and the ride's part
-    abbrev w : List ℕ
-    w = inWindow (window .current) book
+  head-edition : editionOf new ≡ window .edition
+  head-edition = posted-edition window ok checkout (window-room right) (omega (arith, right .small))
 
-    abbrev before : List ChargedRide
-    before = cond (window .current) rides []
+  -- the words that count
+  abbrev w : List ℕ
+  w = inWindow (window .current) book
 
+  -- and the rides in their window
+  module _ {rider : ℕ} (known : rider < 21) {before : List ChargedRide} (words : Kept tariff counts rider w before) where
     abbrev part : Part
     part = partOf tariff counts book window ride
-
-    words : Kept tariff counts rider w before
-    words = kept-window (window .current) k
 
     -- the charges of the party, and each sum with what the rider's own adds to it
     abbrev charges : List ℕ
@@ -158,7 +149,7 @@ module _ {tariff : List ℕ} {counts : Counts} {book : List ℕ} {ride : Ride} (
         → sumOf which new rider x
         ≡ totalOf which (treeOf tariff counts (isChild rider)) x before + added which tariff counts ride x (ownCharge ride charges rider)
     grown which x h =
-        posted-sum ok window checkout (window-room right) which rider x known (omega (arith, faultless tariff counts (ok .read) .few-areas))
+        posted-sum window ok checkout (window-room right) which rider x known (omega (arith, faultless tariff counts (ok .read) .few-areas))
         ∙ ap (_+ added which tariff counts ride x (ownCharge ride charges rider)) (words .sums which x h)
 
     -- a rider who is not carried keeps the rides
@@ -266,14 +257,15 @@ module _ {tariff : List ℕ} {counts : Counts} {book : List ℕ} {ride : Ride} (
 
 -- rides that can be charged on a book can on every other sound book
 pub on-another :
-    {tariff : List ℕ} {counts : Counts} {book : List ℕ} {rides : List Ride} (book′ : List ℕ) → sound book′ (counts .areas) ≡ true
-    → EachRide (Rideable tariff counts book) rides → EachRide (Rideable tariff counts book′) rides
+    {tariff : List ℕ} {counts : Counts} {book : List ℕ} {current : Bool} {rides : List Ride} (book′ : List ℕ) → sound book′ (counts .areas) ≡ true
+    → EachRide (Rideable tariff counts book current) rides → EachRide (Rideable tariff counts book′ true) rides
 on-another book′ right each.none = each.none
-on-another book′ right (each.more ok oks) =
+on-another {counts = counts} book′ right (each.more ok oks) =
     each.more
     (record {
       read = ok .read;
-      sound-book = right;
+      alone = sound-alone book′ (counts .areas) right;
+      covers = λ _. sound-covers book′ (counts .areas) right;
       area = ok .area;
       km = ok .km;
       minutes = ok .minutes;
@@ -283,33 +275,39 @@ on-another book′ right (each.more ok oks) =
     })
     (on-another book′ right oks)
 
--- a book after rides of a window: kept with the rider's rides, and in use since the window's opening
-pub record KeptSince (tariff : List ℕ) (counts : Counts) (rider : ℕ) (book : List ℕ) (rides : List ChargedRide) (opening : ℕ) : Type 0 where
+-- a book after rides of a window: kept with the rider's rides, and in use since the window's opening under its edition
+pub record KeptSince (tariff : List ℕ) (counts : Counts) (rider : ℕ) (book : List ℕ) (rides : List ChargedRide) (opening edition : ℕ) : Type 0 where
   pub kept : Kept tariff counts rider book rides
   pub in-use : 1 ≤ tripsOf book
   pub since : openingOf book ≡ opening
+  pub edition-is : editionOf book ≡ edition
 
 -- The book after one ride or more is kept with the rider's rides in their parts, behind those that the window had before.
 pub kept-rides :
-    {tariff : List ℕ} {counts : Counts} {rider : ℕ} (trip : List Ride) {book : List ℕ} {rides : List ChargedRide} {window : Window} {checkout : ℕ}
-    → rider < 21 → EachRide (Rideable tariff counts book) trip → 1 ≤ length trip → Kept tariff counts rider book rides
-    → WindowRight book window checkout → window .trips + length trip ≤ 256
+    {tariff : List ℕ} {counts : Counts} {rider : ℕ} (trip : List Ride) {book : List ℕ} {before : List ChargedRide} {window : Window} {checkout : ℕ}
+    → rider < 21 → EachRide (Rideable tariff counts book (window .current)) trip → 1 ≤ length trip
+    → Kept tariff counts rider (inWindow (window .current) book) before → WindowRight book window checkout → window .trips + length trip ≤ 256
     → KeptSince tariff counts rider (postedAll tariff counts book window checkout trip)
-    (ridesWith tariff counts rider (partsOf tariff counts book window checkout trip) (cond (window .current) rides [])) (window .opening .0)
+    (ridesWith tariff counts rider (partsOf tariff counts book window checkout trip) before) (window .opening .0) (window .edition)
 unfolding postedAll partsOf ridesWith oneMore
 kept-rides [] known oks some k right few = absurd (omega arith)
 kept-rides (ride ∷ []) known (each.more ok none-left) some k right few =
-    record { kept = kept-ride ok right known k; in-use = omega (arith, next-trips ok right); since = head-opening ok right }
+    record {
+      kept = kept-ride ok right known k;
+      in-use = omega (arith, next-trips ok right);
+      since = head-opening ok right;
+      edition-is = head-edition ok right;
+    }
 kept-rides (ride ∷ next ∷ later) known (each.more ok oks) some k right few =
     kept-rides (next ∷ later) known (on-another _ (posted-sound ok right) oks) (omega arith) (kept-ride ok right known k)
     (next-right ok right (omega arith)) (omega arith)
 
 -- And each of them that was cut names a cap that is exactly full with it.
 pub cuts-full :
-    {tariff : List ℕ} {counts : Counts} {rider : ℕ} (trip : List Ride) {book : List ℕ} {rides : List ChargedRide} {window : Window} {checkout : ℕ}
-    → rider < 21 → EachRide (Rideable tariff counts book) trip → Kept tariff counts rider book rides → WindowRight book window checkout
-    → window .trips + length trip ≤ 256
-    → CutsFull tariff counts rider (partsOf tariff counts book window checkout trip) (cond (window .current) rides [])
+    {tariff : List ℕ} {counts : Counts} {rider : ℕ} (trip : List Ride) {book : List ℕ} {before : List ChargedRide} {window : Window} {checkout : ℕ}
+    → rider < 21 → EachRide (Rideable tariff counts book (window .current)) trip → Kept tariff counts rider (inWindow (window .current) book) before
+    → WindowRight book window checkout → window .trips + length trip ≤ 256
+    → CutsFull tariff counts rider (partsOf tariff counts book window checkout trip) before
 unfolding partsOf partOf ridesWith oneMore
 cuts-full [] known oks k right few = no-more
 cuts-full (ride ∷ []) known (each.more ok none-left) k right few = part-more (cut-full ok right known k) no-more

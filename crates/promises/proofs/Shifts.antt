@@ -1,11 +1,12 @@
--- Two settlings whose minutes are all moved by one number: each row of the table holds of both or of neither, and two acceptances have the
--- same rides, the same charges and cuts, and books and records alike but for the minutes.
+-- Two settlings whose minutes are all moved by one number, where a window that is opened has the same edition in both: each row of the table
+-- holds of both or of neither, and two acceptances have the same rides, the same charges and cuts, and books and records alike but for the
+-- minutes.
 -- Assumes nothing.
 use Prim.Native.Nat.{ℕ, zero, suc, _+_, _-_, _*_, _≤_, _<_}
 use native.Mathlib.Nat.{add-zero}
 use native.Mathlib.Omega.{arith}
 use native.Mathlib.Decide.{ℕ-discrete, decLt}
-use mathlib.Core.Path.{_≡_, refl, sym, ap, _∙_, fun-ext}
+use mathlib.Core.Path.{_≡_, refl, sym, ap, subst, _∙_, fun-ext}
 use mathlib.Core.List.{List, [], _∷_}
 use mathlib.Core.Bool.{Bool, true, false, cond, not, _&&_, false≢true}
 use borrow.Author.Tests.{le-leb, lt-leb, lt-ltb, le-ltb, eq-eqb, ne-eqb}
@@ -16,7 +17,9 @@ use Rattle.units.specs.Day.{dayMinutes}
 use Rattle.calendar.specs.Stamps.{lastMinute}
 use Rattle.layout.specs.declared.Counts.{Counts}
 use Rattle.areas.specs.Areas.{FaultlessTariff}
-use Rattle.areas.proofs.Faultless.{faultless, read-one}
+use Rattle.editions.specs.declared.Editions.{Editions}
+use Rattle.editions.specs.Editions.{countsIn, tariffIn, inForce}
+use Rattle.areas.proofs.Faultless.{faultless}
 use Rattle.trip.specs.Record.{countAt, stopNumber}
 use Rattle.trip.specs.Moments.{checkinOf, checkoutOf}
 use Rattle.trip.specs.Trips.{stopsKnown, stampsRight, inOrder, oneStop, isMistap, tripOf}
@@ -28,16 +31,17 @@ use Rattle.fare.specs.Contracts.{EachRide}
 use Rattle.fare.specs.Contracts as riding
 use Rattle.fare.proofs.SameStops.{rides-same}
 use Rattle.ledger.specs.declared.Window.{Window}
-use Rattle.ledger.specs.Words.{bookSize, bookWords, word, tripsOf, openingOf, lastOutOf, coverWord, paidPlace, paidWord}
-use Rattle.ledger.specs.Sound.{allZero, headSound, pairsSound, coversSound, mostPaid, paymentsSound, soundAlone, sound}
+use Rattle.ledger.specs.Words.{bookSize, bookWords, editionPlace, word, tripsOf, openingOf, lastOutOf, editionOf, coverWord, paidPlace, paidWord}
+use Rattle.ledger.specs.Sound.{allZero, headSound, pairsSound, coversSound, mostPaid, paymentsSound, soundAlone}
 use Rattle.ledger.specs.Windows.{belongs, tooEarly, windowOf, inWindow}
 use Rattle.charging.specs.Contracts.{Rideable}
 use Rattle.statement.specs.Record.{Part}
-use Rattle.deciding.specs.Refusals.{rows}
+use Rattle.deciding.specs.Refusals.{soundIn, windowIn, tariffFor, countsFor, rows}
 use Rattle.settle.specs.Outcome.{partOf, oneMore, partsOf, postedAll}
-use Rattle.promises.specs.Conditions.{tripRides, tripWindow, AcceptedBy}
+use Rattle.promises.specs.Conditions.{tripRides, AcceptedBy}
 use Rattle.promises.specs.Moved.{SameTrip, SameWords, MovedBook, MovedPart, MovedParts, one-part, no-part}
-use Rattle.promises.proofs.Answers.{charged-rides, some-parts, right-window}
+use Rattle.promises.proofs.Refusing.{editions-one}
+use Rattle.promises.proofs.Answers.{windowBy, tariffBy, countsBy, read-by, charged-rides, some-parts, right-window}
 use Rattle.promises.proofs.Books.{book-head}
 use Rattle.promises.proofs.Alike.{window-same, charges-same, cuts-same, posted-same}
 
@@ -126,6 +130,10 @@ module _ {c d : ℕ} {book bytes book′ bytes′ : List ℕ} (s : Shifted c d b
       each-alike 10 (λ i. leb (paidWord book i) mostPaid) (λ i. leb (paidWord book′ i) mostPaid)
       (λ i. ap (λ v. leb v mostPaid) (s .others .sums (paidPlace i) (omega arith)))
 
+  -- the edition that it names is one
+  edition-word : editionOf book′ ≡ editionOf book
+  edition-word = s .others .sums editionPlace (omega arith)
+
   head-same :
       (tripsOf book ≡ 0 → ⊥) → headSound (tripsOf book′) (openingOf book′) (lastOutOf book′) ≡ headSound (tripsOf book) (openingOf book) (lastOutOf book)
   head-same used =
@@ -146,18 +154,24 @@ module _ {c d : ℕ} {book bytes book′ bytes′ : List ℕ} (s : Shifted c d b
           → eqb (length book) bookSize
           && cond (eqb (tripsOf book) 0) (allZero book′)
           (headSound (tripsOf book) (openingOf book′) (lastOutOf book′)
-          && (pairsSound book′ (tripsOf book * mostPrice) && paymentsSound book′))
+          && (pairsSound book′ (tripsOf book * mostPrice) && (paymentsSound book′ && leb 1 (editionOf book′))))
           ≡ eqb (length book) bookSize
           && cond (eqb (tripsOf book) 0) (allZero book)
           (headSound (tripsOf book) (openingOf book) (lastOutOf book)
-          && (pairsSound book (tripsOf book * mostPrice) && paymentsSound book))
+          && (pairsSound book (tripsOf book * mostPrice) && (paymentsSound book && leb 1 (editionOf book))))
       go (yes none) = rw (eq-eqb (tripsOf book) 0 none, zeros-same none)
       go (no used) =
-          rw (ne-eqb (tripsOf book) 0 used, rw trips-same at (head-same used), pairs-same (tripsOf book * mostPrice), payments-same)
+          rw (
+            ne-eqb (tripsOf book) 0 used,
+            rw trips-same at (head-same used),
+            pairs-same (tripsOf book * mostPrice),
+            payments-same,
+            edition-word,
+          )
 
-  sound-same : (areas : ℕ) → sound book′ areas ≡ sound book areas
-  unfolding sound
-  sound-same areas = rw (alone-same, covers-same areas)
+  sound-same : (editions : Editions) → soundIn editions book′ ≡ soundIn editions book
+  unfolding soundIn
+  sound-same editions = rw (alone-same, edition-word, covers-same (countsIn editions (editionOf book) .areas))
 
   -- the trip belongs to the open window or not alike
   belongs-same : belongs book′ (checkoutOf bytes′) ≡ belongs book (checkoutOf bytes)
@@ -173,9 +187,10 @@ module _ {c d : ℕ} {book bytes book′ bytes′ : List ℕ} (s : Shifted c d b
           let out = s .checkout in
           rw (leb-alike (checkoutOf bytes) (openingOf book + dayMinutes) (checkoutOf bytes′) (openingOf book′ + dayMinutes) (λ h. omega arith) (λ h. omega arith))
 
-  trips-alike : windowOf book′ (checkinOf bytes′) (checkoutOf bytes′) .trips ≡ windowOf book (checkinOf bytes) (checkoutOf bytes) .trips
+  trips-alike :
+      (next next′ : ℕ) → windowOf book′ (checkinOf bytes′) (checkoutOf bytes′) next′ .trips ≡ windowOf book (checkinOf bytes) (checkoutOf bytes) next .trips
   unfolding windowOf
-  trips-alike = rw (belongs-same, trips-same)
+  trips-alike next next′ = rw (belongs-same, trips-same)
 
   stops-same : (n known : ℕ) → stopsKnown bytes′ n known ≡ stopsKnown bytes n known
   unfolding stopsKnown
@@ -234,43 +249,61 @@ module _ {c d : ℕ} {book bytes book′ bytes′ : List ℕ} (s : Shifted c d b
   unfolding townRefuses
   town-same tariff counts = rw (rides-alike tariff counts, s .trip .class)
 
-  -- so the table is the same
-  pub rows-same : (tariff : List ℕ) (counts : Counts) (room : ℕ) → rows tariff counts book′ bytes′ room ≡ rows tariff counts book bytes room
-  unfolding rows
-  rows-same tariff counts room =
-      rw (
-        town-same tariff counts,
-        rides-alike tariff counts,
-        sound-same (counts .areas),
-        trip-same bytes bytes′ (s .trip .frame) (s .trip .count) (s .trip .size),
-        s .trip .class,
-        s .trip .level,
-        s .trip .party,
-        s .trip .count,
-        stops-same (countAt bytes 0) (counts .stops),
-        s .stamps,
-        s .stamps′,
-        order-same,
-        mistap-same (countAt bytes 0),
-        early-same,
-        trips-alike,
-      )
-
   -- ---- The window.
 
-  current-same : windowOf book′ (checkinOf bytes′) (checkoutOf bytes′) .current ≡ windowOf book (checkinOf bytes) (checkoutOf bytes) .current
+  current-same :
+      (next next′ : ℕ) → windowOf book′ (checkinOf bytes′) (checkoutOf bytes′) next′ .current ≡ windowOf book (checkinOf bytes) (checkoutOf bytes) next .current
   unfolding windowOf
-  current-same = belongs-same
+  current-same next next′ = belongs-same
 
   opening-moved :
-      Moved c d (windowOf book (checkinOf bytes) (checkoutOf bytes) .opening .0) (windowOf book′ (checkinOf bytes′) (checkoutOf bytes′) .opening .0)
+      (next next′ : ℕ)
+      → Moved c d (windowOf book (checkinOf bytes) (checkoutOf bytes) next .opening .0) (windowOf book′ (checkinOf bytes′) (checkoutOf bytes′) next′ .opening .0)
   unfolding windowOf
-  opening-moved = rw belongs-same (go (belongs book (checkoutOf bytes)) refl)
+  opening-moved next next′ = rw belongs-same (go (belongs book (checkoutOf bytes)) refl)
     where
       go : (t : Bool) → belongs book (checkoutOf bytes) ≡ t
           → cond t (openingOf book′) (checkinOf bytes′) + c ≡ cond t (openingOf book) (checkinOf bytes) + d
       go true e = s .opening (λ none. false≢true (sym (unopened book (checkoutOf bytes) none) ∙ e))
       go false e = s .checkin
+
+  -- where the trip opens one, the edition in force is the same
+  module _ (editions : Editions)
+      (in-force : belongs book (checkoutOf bytes) ≡ false → inForce editions (checkinOf bytes′) ≡ inForce editions (checkinOf bytes)) where
+    pub edition-same : windowIn editions book′ bytes′ .edition ≡ windowIn editions book bytes .edition
+    unfolding windowOf
+    edition-same = rw (belongs-same, edition-word) (go (belongs book (checkoutOf bytes)) refl)
+      where
+        go :
+            (t : Bool) → belongs book (checkoutOf bytes) ≡ t
+            → cond t (editionOf book) (inForce editions (checkinOf bytes′)) ≡ cond t (editionOf book) (inForce editions (checkinOf bytes))
+        go true e = refl
+        go false e = in-force e
+
+    -- so the table is the same
+    pub rows-same : (file : List ℕ) (room : ℕ) → rows file editions book′ bytes′ room ≡ rows file editions book bytes room
+    unfolding rows
+    rows-same file room =
+        let tariff = tariffFor file editions book bytes in
+        let counts = countsFor editions book bytes in
+        rw (
+          edition-same,
+          town-same tariff counts,
+          rides-alike tariff counts,
+          sound-same editions,
+          trip-same bytes bytes′ (s .trip .frame) (s .trip .count) (s .trip .size),
+          s .trip .class,
+          s .trip .level,
+          s .trip .party,
+          s .trip .count,
+          stops-same (countAt bytes 0) (counts .stops),
+          s .stamps,
+          s .stamps′,
+          order-same,
+          mistap-same (countAt bytes 0),
+          early-same,
+          trips-alike (inForce editions (checkinOf bytes)) (inForce editions (checkinOf bytes′)),
+        )
 
 -- ---- The outcomes.
 
@@ -278,16 +311,17 @@ module _ {c d : ℕ} {book bytes book′ bytes′ : List ℕ} (s : Shifted c d b
 record MovedWindow (d : ℕ) (window window′ : Window) : Type 0 where
   current : window′ .current ≡ window .current
   trips : window′ .trips ≡ window .trips
+  edition : window′ .edition ≡ window .edition
   opening : window′ .opening .0 ≡ window .opening .0 + d
 
 moved-more : {d : ℕ} {window window′ : Window} → MovedWindow d window window′ → MovedWindow d (oneMore window) (oneMore window′)
 unfolding oneMore
-moved-more w = record { current = refl; trips = ap (λ (n : ℕ). n + 1) (w .trips); opening = w .opening }
+moved-more w = record { current = refl; trips = ap (λ (n : ℕ). n + 1) (w .trips); edition = w .edition; opening = w .opening }
 
 -- the same rides, charged in two such windows on books that are the same but for their minutes, leave such books, in parts so moved
 module _ {tariff : List ℕ} {counts : Counts} (t : FaultlessTariff tariff counts) {d : ℕ} (checkout checkout′ : ℕ) where
   rides-moved :
-      {first : List ℕ} (rides : List Ride) → EachRide (Rideable tariff counts first) rides → {book book′ : List ℕ} → SameWords book book′
+      {first : List ℕ} {current : Bool} (rides : List Ride) → EachRide (Rideable tariff counts first current) rides → {book book′ : List ℕ} → SameWords book book′
       → {window window′ : Window} → MovedWindow d window window′
       → MovedParts d (partsOf tariff counts book window checkout rides) (partsOf tariff counts book′ window′ checkout′ rides)
       × SameWords (postedAll tariff counts book window checkout rides) (postedAll tariff counts book′ window′ checkout′ rides)
@@ -296,7 +330,8 @@ module _ {tariff : List ℕ} {counts : Counts} (t : FaultlessTariff tariff count
   rides-moved (ride ∷ rides) (riding.more ok oks) {book} {book′} same {window} {window′} moved =
       let (parts, books) =
       rides-moved rides oks
-      (posted-same t ride (ok .area) window window′ checkout checkout′ same (moved .current) (moved .trips)) (moved-more moved)
+      (posted-same t ride (ok .area) window window′ checkout checkout′ same (moved .current) (moved .trips) (moved .edition))
+      (moved-more moved)
       in
       let here : MovedPart d (partOf tariff counts book window ride) (partOf tariff counts book′ window′ ride) =
       record {
@@ -313,35 +348,81 @@ module _ {tariff : List ℕ} {counts : Counts} (t : FaultlessTariff tariff count
       (one-part here parts, books)
 
 -- two acceptances so moved
-module _ {tariff : List ℕ} {room d : ℕ} {book bytes book′ bytes′ : List ℕ} (s : Shifted 0 d book bytes book′ bytes′) {new new′ : List ℕ} {parts parts′ : List Part}
-    (a : AcceptedBy tariff book bytes room new parts) (a′ : AcceptedBy tariff book′ bytes′ room new′ parts′) where
-  counts-same : a′ .counts ≡ a .counts
-  counts-same = read-one tariff (a′ .counts) (a .counts) (a′ .read) (a .read)
+module _ {file : List ℕ} {room d : ℕ} {book bytes book′ bytes′ : List ℕ} (s : Shifted 0 d book bytes book′ bytes′) {new new′ : List ℕ} {parts parts′ : List Part}
+    (a : AcceptedBy file book bytes room new parts) (a′ : AcceptedBy file book′ bytes′ room new′ parts′)
+    (in-force : belongs book (checkoutOf bytes) ≡ false → inForce (a .editions) (checkinOf bytes′) ≡ inForce (a .editions) (checkinOf bytes)) where
+  editions-same : a′ .editions ≡ a .editions
+  editions-same = editions-one file (a′ .editions) (a′ .read) (a .editions) (a .read)
 
-  later-opening : tripWindow book′ bytes′ .opening .0 ≡ tripWindow book bytes .opening .0 + d
-  later-opening = sym (add-zero _) ∙ opening-moved s
+  abbrev tariff : List ℕ
+  tariff = tariffBy a
+
+  abbrev counts : Counts
+  counts = countsBy a
+
+  abbrev window : Window
+  window = windowBy a
+
+  abbrev window′ : Window
+  window′ = windowIn (a .editions) book′ bytes′
+
+  later-opening : window′ .opening .0 ≡ window .opening .0 + d
+  later-opening =
+      sym (add-zero _) ∙ opening-moved s (inForce (a .editions) (checkinOf bytes)) (inForce (a .editions) (checkinOf bytes′))
+
+  moved-window : MovedWindow d window window′
+  moved-window =
+      let next = inForce (a .editions) (checkinOf bytes) in
+      let next′ = inForce (a .editions) (checkinOf bytes′) in
+      record {
+        current = current-same s next next′;
+        trips = trips-alike s next next′;
+        edition = edition-same s (a .editions) in-force;
+        opening = later-opening;
+      }
 
   both :
-      MovedParts d (partsOf tariff (a .counts) book (tripWindow book bytes) (checkoutOf bytes) (tripRides tariff (a .counts) bytes))
-      (partsOf tariff (a .counts) book′ (tripWindow book′ bytes′) (checkoutOf bytes′) (tripRides tariff (a .counts) bytes))
-      × SameWords (postedAll tariff (a .counts) book (tripWindow book bytes) (checkoutOf bytes) (tripRides tariff (a .counts) bytes))
-      (postedAll tariff (a .counts) book′ (tripWindow book′ bytes′) (checkoutOf bytes′) (tripRides tariff (a .counts) bytes))
+      MovedParts d (partsOf tariff counts book window (checkoutOf bytes) (tripRides tariff counts bytes))
+      (partsOf tariff counts book′ window′ (checkoutOf bytes′) (tripRides tariff counts bytes))
+      × SameWords (postedAll tariff counts book window (checkoutOf bytes) (tripRides tariff counts bytes))
+      (postedAll tariff counts book′ window′ (checkoutOf bytes′) (tripRides tariff counts bytes))
   both =
-      rides-moved (faultless tariff (a .counts) (a .read)) (checkoutOf bytes) (checkoutOf bytes′) (tripRides tariff (a .counts) bytes)
-      (charged-rides a) (s .others) (record { current = current-same s; trips = trips-alike s; opening = later-opening })
+      rides-moved (faultless tariff counts (read-by a)) (checkoutOf bytes) (checkoutOf bytes′) (tripRides tariff counts bytes) (charged-rides a) (s .others)
+      moved-window
+
+  -- the second's parts and book, by the first's editions and by the edition of its window
+  parts-by : parts′ ≡ partsOf tariff counts book′ window′ (checkoutOf bytes′) (tripRides tariff counts bytes)
+  parts-by =
+      subst
+      (λ (n : ℕ).
+      parts′
+      ≡ partsOf (tariffIn file (a .editions) n) (countsIn (a .editions) n) book′ window′ (checkoutOf bytes′)
+      (tripRides (tariffIn file (a .editions) n) (countsIn (a .editions) n) bytes′))
+      (edition-same s (a .editions) in-force) (rw editions-same at (a′ .parts-is))
+      ∙ ap (partsOf tariff counts book′ window′ (checkoutOf bytes′)) (rides-alike s tariff counts)
+
+  new-by : new′ ≡ postedAll tariff counts book′ window′ (checkoutOf bytes′) (tripRides tariff counts bytes)
+  new-by =
+      subst
+      (λ (n : ℕ).
+      new′
+      ≡ postedAll (tariffIn file (a .editions) n) (countsIn (a .editions) n) book′ window′ (checkoutOf bytes′)
+      (tripRides (tariffIn file (a .editions) n) (countsIn (a .editions) n) bytes′))
+      (edition-same s (a .editions) in-force) (rw editions-same at (a′ .new-is))
+      ∙ ap (postedAll tariff counts book′ window′ (checkoutOf bytes′)) (rides-alike s tariff counts)
 
   pub moved-parts : MovedParts d parts parts′
-  moved-parts = rw (a .parts-is, a′ .parts-is, counts-same, rides-alike s tariff (a .counts)) (both .0)
+  moved-parts = rw (a .parts-is, parts-by) (both .0)
 
   pub moved-book : MovedBook d new new′
   moved-book =
       let l = book-head a in
-      let l′ = book-head a′ in
+      let l′ = rw editions-same at (book-head a′) in
       let some = some-parts a in
       let head = right-window a′ .head in
       let used : tripsOf new ≡ 0 → ⊥ = λ none. omega (arith, l .trips) in
       record {
-        same = rw (a .new-is, a′ .new-is, counts-same, rides-alike s tariff (a .counts)) (both .1);
+        same = rw (a .new-is, new-by) (both .1);
         opening = rw (ne-eqb (tripsOf new) 0 used) (omega (arith, l .opening, l′ .opening, later-opening));
         last = rw (ne-eqb (tripsOf new) 0 used) (omega (arith, l .last-out, l′ .last-out, s .checkout));
         in-calendar = omega (arith, l′ .last-out, head .last);

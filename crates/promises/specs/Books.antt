@@ -9,7 +9,7 @@ use Rattle.layout.specs.declared.Counts.{Counts}
 use Rattle.areas.specs.Areas.{liesWithin, isAachen}
 use Rattle.trip.specs.declared.Ride.{Ride}
 use Rattle.ledger.specs.declared.Window.{Window}
-use Rattle.ledger.specs.Words.{bookSize, tripsOf, openingOf, lastOutOf, secondSum, allSum, coverWord, paidWord}
+use Rattle.ledger.specs.Words.{bookSize, tripsOf, openingOf, lastOutOf, editionOf, secondSum, allSum, coverWord, paidWord}
 use Rattle.ledger.specs.Windows.{inWindow}
 use Rattle.charging.specs.Charging.{carries, placeOf}
 use Rattle.charging.specs.InWords.{ChargeSays}
@@ -43,15 +43,16 @@ pub record BicycleTakes (tariff : List ℕ) (counts : Counts) (area charge old p
   pub payments : Takes (isAachen tariff new ≡ true) charge paid paid′
 
 -- the book after a ride charged in a window. w stands for the words that count: the book's own in the open window, a fresh book's, which
--- are all 0, in the next. Word 0: trips in the window with this one; 1: opening minute; 2: last check-out. The rider's own charge is added
--- to the all-classes sums, and in class 2 to the second-class sums, of the ride's area and of every area that it lies within. A bicycle on
--- the trip has its new covering area, and its payments per trip with its own charge. Every other word is as it was
+-- are all 0, in the next. Word 0: trips in the window with this one; 1: opening minute; 2: last check-out; the last: its edition. The rider's
+-- own charge is added to the all-classes sums, and in class 2 to the second-class sums, of the ride's area and of every area that it lies
+-- within. A bicycle on the trip has its new covering area, and its payments per trip with its own charge. Every other word is as it was
 pub record BookSays (tariff : List ℕ) (counts : Counts) (w : List ℕ) (window : Window) (checkout : ℕ) (ride : Ride) (charges new : List ℕ) : Type 0 where
   pub size : length new ≡ bookSize
   pub bytes : Bytes w → Bytes new
   pub trips : tripsOf new ≡ window .trips + 1
   pub opening : openingOf new ≡ window .opening .0
   pub last-out : lastOutOf new ≡ checkout
+  pub edition : editionOf new ≡ window .edition
   pub charged : (rider : ℕ) → carries (ride .party) rider ≡ true → ChargeSays tariff counts w ride rider (chargeOf ride charges rider)
   pub bicycles-charged :
       (k : ℕ) → k < ride .party .bicycles → BicycleSays tariff counts (ride .area) (coverWord w k) (paidWord w k) (bicycleChargeOf ride charges k)

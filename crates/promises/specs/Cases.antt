@@ -12,6 +12,8 @@ use Rattle.layout.specs.declared.Factor.{Factor}
 use Rattle.layout.specs.declared.fields.AreaFields.{AreaFields}
 use Rattle.layout.specs.declared.fields.LongFields.{LongFields}
 use Rattle.layout.specs.declared.fields.StopFields.{StopFields}
+use Rattle.editions.specs.declared.Editions.{Editions}
+use Rattle.editions.specs.declared.Editions.the-variants.{One}
 use Rattle.trip.specs.declared.Party.{Party}
 use Rattle.caps.specs.declared.Cut.{Cut}
 use Rattle.ledger.specs.Words.{freshBook}
@@ -177,12 +179,24 @@ sampleStops =
     ∷ []
 
 -- the tariff's bytes
-unfoldable pub sample : List ℕ
-sample = areasBytes sampleAreas ++ (factorsBytes sampleFactors ++ stopsBytes sampleStops)
+unfoldable pub sampleTariff : List ℕ
+sampleTariff = areasBytes sampleAreas ++ (factorsBytes sampleFactors ++ stopsBytes sampleStops)
 
 -- and what it has; areas 7, 8 and 9 are of kind 8
 abbrev pub sampleCounts : Counts
 sampleCounts = record { areas = 10; longs = 2 ^ 7 + 2 ^ 8 + 2 ^ 9; factors = 4; stops = 35 }
+
+-- the record that opens an edition, kind 9: a head of 4 bytes and a date of year, month and day
+unfoldable pub openingBytes : ℕ → ℕ → ℕ → List ℕ
+openingBytes year month day = bytesOf 2 6 ++ (bytesOf 2 9 ++ (bytesOf 2 year ++ (bytesOf 1 month ++ bytesOf 1 day)))
+
+-- the file's bytes: one edition, from 2000-01-01
+unfoldable pub sample : List ℕ
+sample = openingBytes 2000 1 1 ++ sampleTariff
+
+-- and its editions; that day's first minute is minute 0
+abbrev pub sampleEditions : Editions
+sampleEditions = One (record { since = record { 0 = 0 }; counts = sampleCounts })
 
 -- ---- Trips.
 
@@ -244,7 +258,7 @@ pub data Result : Type 0 where
 unfoldable pub partResults : ℕ → List Part → List Result
 partResults rider [] = []
 partResults rider (part ∷ parts) =
-    ridden (entryOf sample sampleCounts rider part) (part .ride .km .0) (part .ride .minutes .0) (part .charges) (cutOf rider part)
+    ridden (entryOf sampleTariff sampleCounts rider part) (part .ride .km .0) (part .ride .minutes .0) (part .charges) (cutOf rider part)
     ∷ partResults rider parts
 
 unfoldable pub outcomeResults : ℕ → Outcome → List Result
@@ -279,7 +293,7 @@ results c = map (λ t. t .1) (c .trips)
 -- that is open at the end. Of one trip it says what `settled sample freshBook` of it is.
 pub record Holds (c : Case) : Type 0 where
   pub results-are : resultsOf (c .rider) (runFrom sample freshBook (offers c)) ≡ results c
-  pub window-is : ridesOf sample sampleCounts (c .rider) (settlings (offers c)) ≡ ridesIn (results c) []
+  pub window-is : ridesOf sample sampleEditions (c .rider) (settlings (offers c)) ≡ ridesIn (results c) []
 
 -- ---- The table.
 

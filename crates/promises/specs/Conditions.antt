@@ -8,8 +8,11 @@ use lib.ListN.{length}
 use Rattle.caps.specs.declared.Name.{Name}
 use Rattle.caps.specs.Named.{capNamed, sumNamed, FullOrPassed}
 use Rattle.layout.specs.declared.Counts.{Counts}
-use Rattle.layout.specs.declared.Reading.the-variants.{Fault, Faultless}
-use Rattle.layout.specs.Scan.{readTariff, FaultlessUntil, FirstFault, BrokenFrame, OutOfPlace, WrongValue, FaultSays, Read}
+use Rattle.editions.specs.declared.Editions.{Editions}
+use Rattle.editions.specs.declared.FileReading.the-variants.{Fault}
+use Rattle.editions.specs.Reading.{ReadFile}
+use Rattle.editions.specs.Editions.{sinceOf}
+use Rattle.editions.specs.InWords.{FileSays}
 use Rattle.trip.specs.Record.{countAt, classAt, levelAt, partyAt}
 use Rattle.trip.specs.Moments.{checkinOf, checkoutOf}
 use Rattle.trip.specs.Trips.{tripOf}
@@ -22,8 +25,7 @@ use Rattle.fare.specs.Towns.{FirstClassInTown}
 use Rattle.ledger.specs.declared.Window.{Window}
 use Rattle.caps.specs.declared.Cut.{Cut}
 use Rattle.ledger.specs.Words.{tripsOf, lastOutOf, secondSum, allSum, coverWord, paidWord}
-use Rattle.ledger.specs.Sound.{sound}
-use Rattle.ledger.specs.Windows.{windowOf, inWindow}
+use Rattle.ledger.specs.Windows.{belongs, inWindow}
 use Rattle.charging.specs.Caps.{treeOf}
 use Rattle.charging.specs.Charging.{isChild, carries, placeOf, riderCharge}
 use Rattle.cycles.specs.Bicycles.{bicycleCharge}
@@ -51,89 +53,92 @@ use Rattle.settle.specs.Outcome.{partsOf, postedAll}
 use Rattle.settle.specs.Posting.{presentQuote}
 use Rattle.deciding.specs.declared.refusals.Refusal.{Refusal}
 use Rattle.deciding.specs.declared.refusals.Refusal.the-variants as why
-use Rattle.deciding.specs.Refusals.{refusal, rows, First}
+use Rattle.deciding.specs.Refusals.{refusal, soundIn, windowIn, tariffFor, countsFor, ridesFor, rows, First}
 
 -- ---- What the conditions speak of.
 
--- the numbers of areas and of stops that a faultless tariff has
-unfoldable pub countsOf : List ℕ → Counts
-countsOf tariff = elim (readTariff tariff) [ Faultless counts ↦ counts | Fault number at ↦ record { areas = 0; longs = 0; factors = 0; stops = 0 } ]
-
--- the rides that a trip's bytes are, one or two, and the window that it belongs to or opens
+-- the rides that a trip's bytes are under a tariff, one or two
 abbrev pub tripRides : List ℕ → Counts → List ℕ → List Ride
 tripRides tariff counts bytes = ridesOf tariff counts bytes (tripOf bytes)
 
-abbrev pub tripWindow : List ℕ → List ℕ → Window
-tripWindow book bytes = windowOf book (checkinOf bytes) (checkoutOf bytes)
-
 -- ---- The conditions. 5 to 9 and 17 are the trip's own: trip/Conditions.
-
--- 1 to 3: in a tariff the first faulty record decides. All before some place is faultless, and what stands there is wrong in a way
-pub record FirstFaulty (tariff : List ℕ) (way : ℕ → Counts → Type 0) : Type 0 where
-  pub place : ℕ
-  pub soFar : Counts
-  pub passed : FaultlessUntil tariff place soFar
-  pub wrong : way place soFar
 
 -- 10: check-in before the book's last check-out (word 0 not 0)
 pub record TooEarly (book : List ℕ) (checkin : ℕ) : Type 0 where
   pub in-use : tripsOf book ≡ 0 → ⊥
   pub early : checkin < lastOutOf book
 
--- 4 to 11, by the table's refusals, and what 12 and 13 are asked with. 5 to 10 are asked of the trip as it is offered; 11 counts each of its
--- rides as a trip
-unfoldable pub conditionWith : List ℕ → Counts → List ℕ → List ℕ → Type 0 → Type 0 → Refusal → Type 0
-conditionWith tariff counts book trip noRoom otherRecord why.UnsoundBook = sound book (counts .areas) ≡ false
-conditionWith tariff counts book trip noRoom otherRecord why.NoTrip = NoTrip trip
-conditionWith tariff counts book trip noRoom otherRecord why.WrongParty = WrongParty (classAt trip 0) (levelAt trip 0) (partyAt trip 0) (countAt trip 0)
-conditionWith tariff counts book trip noRoom otherRecord why.UnknownStop = LackingStop trip (countAt trip 0) (counts .stops)
-conditionWith tariff counts book trip noRoom otherRecord why.NoFirstClass = FirstClassInTown tariff counts trip (tripOf trip)
-conditionWith tariff counts book trip noRoom otherRecord why.WrongStamp = WrongStamp trip
-conditionWith tariff counts book trip noRoom otherRecord why.WrongOrder = WrongOrder (checkinOf trip) (checkoutOf trip)
-conditionWith tariff counts book trip noRoom otherRecord why.Mistap = Mistap trip (countAt trip 0) (checkinOf trip) (checkoutOf trip)
-conditionWith tariff counts book trip noRoom otherRecord why.TooEarly = TooEarly book (checkinOf trip)
-conditionWith tariff counts book trip noRoom otherRecord why.FullWindow = 256 < tripWindow book trip .trips + length (tripRides tariff counts trip)
-conditionWith tariff counts book trip noRoom otherRecord why.NoRoom = noRoom
-conditionWith tariff counts book trip noRoom otherRecord why.OtherRecord = otherRecord
+-- 22: the trip opens a window before the first edition's first minute
+pub record BeforeFirst (editions : Editions) (book trip : List ℕ) : Type 0 where
+  pub opens : belongs book (checkoutOf trip) ≡ false
+  pub before : checkinOf trip < sinceOf editions 1
+
+-- 4 to 11, by the table's refusals, and what 12 and 13 are asked with. 4: the book is not sound: by itself, by its edition's number, or by its
+-- bicycles under that edition. 5 to 10 are asked of the trip as it is offered; 11 counts each of its
+-- rides as a trip. From 7 on the tariff is that of the window's edition
+unfoldable pub conditionWith : Editions → List ℕ → Counts → List ℕ → List ℕ → Type 0 → Type 0 → Refusal → Type 0
+conditionWith editions tariff counts book trip noRoom otherRecord why.UnsoundBook = soundIn editions book ≡ false
+conditionWith editions tariff counts book trip noRoom otherRecord why.NoTrip = NoTrip trip
+conditionWith editions tariff counts book trip noRoom otherRecord why.WrongParty =
+    WrongParty (classAt trip 0) (levelAt trip 0) (partyAt trip 0) (countAt trip 0)
+conditionWith editions tariff counts book trip noRoom otherRecord why.WrongStamp = WrongStamp trip
+conditionWith editions tariff counts book trip noRoom otherRecord why.WrongOrder = WrongOrder (checkinOf trip) (checkoutOf trip)
+conditionWith editions tariff counts book trip noRoom otherRecord why.Mistap = Mistap trip (countAt trip 0) (checkinOf trip) (checkoutOf trip)
+conditionWith editions tariff counts book trip noRoom otherRecord why.TooEarly = TooEarly book (checkinOf trip)
+conditionWith editions tariff counts book trip noRoom otherRecord why.NoEdition = BeforeFirst editions book trip
+conditionWith editions tariff counts book trip noRoom otherRecord why.UnknownStop = LackingStop trip (countAt trip 0) (counts .stops)
+conditionWith editions tariff counts book trip noRoom otherRecord why.NoFirstClass = FirstClassInTown tariff counts trip (tripOf trip)
+conditionWith editions tariff counts book trip noRoom otherRecord why.FullWindow =
+    256 < windowIn editions book trip .trips + length (tripRides tariff counts trip)
+conditionWith editions tariff counts book trip noRoom otherRecord why.NoRoom = noRoom
+conditionWith editions tariff counts book trip noRoom otherRecord why.OtherRecord = otherRecord
 
 -- settling and a quote: 12 asks for the records of all of the trip's rides, and 13 is never met
-abbrev pub condition : List ℕ → Counts → List ℕ → List ℕ → ℕ → Refusal → Type 0
-condition tariff counts book trip room = conditionWith tariff counts book trip (room < statementSize (tripRides tariff counts trip)) ⊥
+abbrev pub condition : List ℕ → Editions → List ℕ → List ℕ → ℕ → Refusal → Type 0
+condition file editions book trip room =
+    conditionWith editions (tariffFor file editions book trip) (countsFor editions book trip) book trip
+    (room < statementSize (ridesFor file editions book trip)) ⊥
 
 -- a posting: 12 is never met; 13: the record is not exactly the bytes that a quote on the present book would write
-abbrev pub postingCondition : List ℕ → Counts → List ℕ → List ℕ → List ℕ → Refusal → Type 0
-postingCondition tariff counts book trip offered = conditionWith tariff counts book trip ⊥ (presentQuote tariff counts book trip ≡ offered → ⊥)
+abbrev pub postingCondition : List ℕ → Editions → List ℕ → List ℕ → List ℕ → Refusal → Type 0
+postingCondition file editions book trip offered =
+    conditionWith editions (tariffFor file editions book trip) (countsFor editions book trip) book trip ⊥
+    (presentQuote file editions book trip ≡ offered → ⊥)
 
--- no condition holds
-pub record NoCondition (tariff book trip : List ℕ) (room : ℕ) : Type 0 where
-  pub no-broken-frame : FirstFaulty tariff (λ place soFar. BrokenFrame tariff place) → ⊥
-  pub none-out-of-place : FirstFaulty tariff (OutOfPlace tariff) → ⊥
-  pub no-wrong-value : FirstFaulty tariff (WrongValue tariff) → ⊥
-  pub none-of-table : (why : Refusal) → condition tariff (countsOf tariff) book trip room why → ⊥
+-- no condition holds: the file has no first fault, of any number at any place, and no row of the table holds under its editions
+pub record NoCondition (file book trip : List ℕ) (room : ℕ) : Type 0 where
+  pub no-fault : (number at : ℕ) → FileSays file (Fault number at) → ⊥
+  pub none-of-table : (editions : Editions) → ReadFile file editions → (why : Refusal) → condition file editions book trip room why → ⊥
 
 -- ---- What the two answers say.
 
--- a refusal. 1 to 3: all before its place is faultless, and there is wrong what its number says. 4 to 12: it has no place, the tariff is
+-- a refusal. 1 to 3: all before its place is faultless, and there is wrong what its number says. 4 to 12: it has no place, the file is
 -- faultless, and its condition is the first of the table that holds
-pub data RefusedBy (tariff book trip : List ℕ) (room n place : ℕ) : Type 0 where
-  by-tariff : (soFar : Counts) → FirstFault tariff n place soFar → FaultSays tariff place soFar n
-      → RefusedBy tariff book trip room n place
-  by-others : (counts : Counts) → Read tariff counts → (why : Refusal) → n ≡ refusal why → place ≡ 0
-      → First (condition tariff counts book trip room) why (rows tariff counts book trip room) → RefusedBy tariff book trip room n place
+pub data RefusedBy (file book trip : List ℕ) (room n place : ℕ) : Type 0 where
+  by-file : FileSays file (Fault n place) → RefusedBy file book trip room n place
+  by-others : (editions : Editions) → ReadFile file editions → (why : Refusal) → n ≡ refusal why → place ≡ 0
+      → First (condition file editions book trip room) why (rows file editions book trip room) → RefusedBy file book trip room n place
 
--- an acceptance: the tariff is faultless, and no condition of the table holds; the new book and the parts are those of the trip's rides
-pub record AcceptedBy (tariff book bytes : List ℕ) (room : ℕ) (new : List ℕ) (parts : List Part) : Type 0 where
-  pub counts : Counts
-  pub read : Read tariff counts
-  pub none : (why : Refusal) → condition tariff counts book bytes room why → ⊥
-  pub new-is : new ≡ postedAll tariff counts book (tripWindow book bytes) (checkoutOf bytes) (tripRides tariff counts bytes)
-  pub parts-is : parts ≡ partsOf tariff counts book (tripWindow book bytes) (checkoutOf bytes) (tripRides tariff counts bytes)
+-- an acceptance: the file is faultless, and no condition of the table holds; the new book and the parts are those of the trip's rides, by the
+-- tariff of its window's edition
+pub record AcceptedBy (file book bytes : List ℕ) (room : ℕ) (new : List ℕ) (parts : List Part) : Type 0 where
+  pub editions : Editions
+  pub read : ReadFile file editions
+  pub none : (why : Refusal) → condition file editions book bytes room why → ⊥
+  pub new-is :
+      new
+      ≡ postedAll (tariffFor file editions book bytes) (countsFor editions book bytes) book (windowIn editions book bytes) (checkoutOf bytes)
+      (ridesFor file editions book bytes)
+  pub parts-is :
+      parts
+      ≡ partsOf (tariffFor file editions book bytes) (countsFor editions book bytes) book (windowIn editions book bytes) (checkoutOf bytes)
+      (ridesFor file editions book bytes)
 
 -- ---- What the records of an accepted trip say.
 
 -- the rides of some parts
-abbrev pub ridesFor : List Part → List Ride
-ridesFor parts = map (λ part. part .ride) parts
+abbrev pub ridesIn : List Part → List Ride
+ridesIn parts = map (λ part. part .ride) parts
 
 -- check-out less check-in
 abbrev pub minutesOf : List ℕ → ℕ
@@ -144,12 +149,12 @@ abbrev pub rideOn : List ℕ → Counts → List ℕ → ℕ → ℕ → ℕ →
 rideOn tariff counts bytes from to minutes = rideBetween tariff counts bytes (tripOf bytes) from to minutes
 
 -- the words that count for a trip; and, where it is broken at a change, those that count for its second part: the book with the first part
-abbrev pub wordsBefore : List ℕ → List ℕ → List ℕ
-wordsBefore book bytes = inWindow (tripWindow book bytes .current) book
+abbrev pub wordsBefore : Window → List ℕ → List ℕ
+wordsBefore window book = inWindow (window .current) book
 
-abbrev pub wordsBetween : List ℕ → Counts → List ℕ → List ℕ → ℕ → List ℕ
-wordsBetween tariff counts book bytes c =
-    posted tariff counts book (tripWindow book bytes) (checkoutOf bytes) (rideOn tariff counts bytes 0 c (minutesOf bytes))
+abbrev pub wordsBetween : List ℕ → Counts → Window → List ℕ → List ℕ → ℕ → List ℕ
+wordsBetween tariff counts window book bytes c =
+    posted tariff counts book window (checkoutOf bytes) (rideOn tariff counts bytes 0 c (minutesOf bytes))
 
 -- person i's cut in the record at a place of a statement: the reduction and the named cap's area and class
 abbrev pub cutIn : List ℕ → ℕ → ℕ → Cut
@@ -224,15 +229,15 @@ pub record RecordSays (tariff bytes w : List ℕ) (counts : Counts) (opens from 
 -- what the statement of an accepted trip says. A trip that is nowhere broken has one record, from its first stop to its last, with its
 -- duration, check-out less check-in. One that is broken at a change has two, the second behind the first: from the first stop to the change,
 -- with the whole duration; and from the change to the last stop, with 0 minutes, charged on the book that the first part left
-pub data StatementSays (tariff book bytes : List ℕ) (counts : Counts) (statement : List ℕ) : Type 0 where
+pub data StatementSays (tariff : List ℕ) (counts : Counts) (window : Window) (book bytes statement : List ℕ) : Type 0 where
   as-one :
       ((c : ℕ) → BrokenAt tariff counts bytes (countAt bytes 0) c → ⊥) → length statement ≡ recordSize (partyAt bytes 0)
-      → RecordSays tariff bytes (wordsBefore book bytes) counts (tripWindow book bytes .opening .0) 0 (countAt bytes 0 - 1) (minutesOf bytes)
+      → RecordSays tariff bytes (wordsBefore window book) counts (window .opening .0) 0 (countAt bytes 0 - 1) (minutesOf bytes)
       statement 0
-      → StatementSays tariff book bytes counts statement
+      → StatementSays tariff counts window book bytes statement
   as-two :
       (c : ℕ) → BrokenAt tariff counts bytes (countAt bytes 0) c → length statement ≡ recordSize (partyAt bytes 0) + recordSize (partyAt bytes 0)
-      → RecordSays tariff bytes (wordsBefore book bytes) counts (tripWindow book bytes .opening .0) 0 c (minutesOf bytes) statement 0
-      → RecordSays tariff bytes (wordsBetween tariff counts book bytes c) counts (tripWindow book bytes .opening .0) c (countAt bytes 0 - 1) 0
+      → RecordSays tariff bytes (wordsBefore window book) counts (window .opening .0) 0 c (minutesOf bytes) statement 0
+      → RecordSays tariff bytes (wordsBetween tariff counts window book bytes c) counts (window .opening .0) c (countAt bytes 0 - 1) 0
       statement (recordSize (partyAt bytes 0))
-      → StatementSays tariff book bytes counts statement
+      → StatementSays tariff counts window book bytes statement

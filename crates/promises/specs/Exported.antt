@@ -51,16 +51,16 @@ pub data Called (association : ℕ) (page page′ : List ℕ) : Call → Reply �
       {member r : ℕ} → Changed (closedFor association page member) page page′ r
       → Called association page page′ (closes member) (tells r [] association page′)
   called-settle :
-      {tariff : List ℕ} {member : ℕ} {trip statement statement′ : List ℕ} {r : ℕ}
-      → Settled (settledFor tariff association page member trip (length statement)) page page′ statement statement′ r
-      → Called association page page′ (settles tariff member (record { bytes = trip; room = length statement }))
+      {file : List ℕ} {member : ℕ} {trip statement statement′ : List ℕ} {r : ℕ}
+      → Settled (settledFor file association page member trip (length statement)) page page′ statement statement′ r
+      → Called association page page′ (settles file member (record { bytes = trip; room = length statement }))
       (tells r (writtenBy r statement′) association page′)
   called-post :
-      {tariff : List ℕ} {place : ℕ} {trip offered book′ : List ℕ} {r : ℕ} → Association association
+      {file : List ℕ} {place : ℕ} {trip offered book′ : List ℕ} {r : ℕ} → Association association
       → lends (firstPlace association) ownPlaces page place ≡ true
-      → Posted (postingOf tariff (bookAt page place) trip offered) (bookAt page place) book′ r
+      → Posted (postingOf file (bookAt page place) trip offered) (bookAt page place) book′ r
       → page′ ≡ replaced page (startOf place + numberSize) bookSize book′
-      → Called association page page′ (posts tariff place trip offered) (tells r [] association page′)
+      → Called association page page′ (posts file place trip offered) (tells r [] association page′)
 
 -- such calls of both associations one after another, with what they tell the one
 pub data CalledAll (association : ℕ) : List ℕ → List Asked → List ℕ → List Reply → Type 0 where

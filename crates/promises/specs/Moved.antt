@@ -1,21 +1,26 @@
--- Nights moved on the calendar: trips, books, parts and outcomes that are alike but for their minutes of UTC, which are all d later.
+-- Nights moved on the calendar: trips, books, parts and outcomes that are alike but for their minutes of UTC, which are all d later; where the
+-- moved windows open under the same editions.
 use Prim.Native.Nat.{ℕ, _+_, _≤_}
 use mathlib.Core.Path.{_≡_}
 use mathlib.Core.Logic.{_↔_}
 use mathlib.Core.List.{List, [], _∷_}
-use mathlib.Core.Bool.{true, cond}
+use mathlib.Core.Bool.{true, false, cond}
 use lib.ListN.{length}
 use lib.Dec.{eqb}
 use Rattle.wire.specs.Frame.{frameAt}
+use Rattle.editions.specs.declared.Editions.{Editions}
+use Rattle.editions.specs.Editions.{inForce}
+use Rattle.editions.specs.Reading.{ReadFile}
 use Rattle.calendar.specs.Stamps.{lastMinute, MovedStamp}
 use Rattle.trip.specs.Record.{checkinPlace, checkoutPlace, classAt, levelAt, partyAt, countAt, stopNumber}
 use Rattle.trip.specs.Moments.{stampAt, checkinOf, checkoutOf}
 use Rattle.trip.specs.Trips.{stampsRight}
 use Rattle.ledger.specs.Words.{word, tripsOf, openingOf, lastOutOf}
+use Rattle.ledger.specs.Windows.{belongs}
 use Rattle.statement.specs.Record.{Part, statementOf}
-use Rattle.settle.specs.Outcome.{Outcome, refused, accepted}
+use Rattle.settle.specs.Outcome.{Outcome, refused, accepted, bookAfter}
 use Rattle.settle.specs.Runs.{Offer}
-use Rattle.settle.specs.Steps.{Step, settling, posting}
+use Rattle.settle.specs.Steps.{Step, settling, posting, offerOf, stepOutcome}
 use Rattle.promises.specs.ReadBack.{EachReadable}
 
 -- two trips the same in every field but their stamps: the record's length and frame, class, level, party, the number of stops and each stop
@@ -45,7 +50,7 @@ pub record MovedStamps (d : ℕ) (trip trip′ : List ℕ) : Type 0 where
   pub checkout : MovedStamp d (stampAt trip checkoutPlace) (stampAt trip′ checkoutPlace)
 
 -- two books of one length, the same in every word but the opening minute and the last check-out: the trips, and from word 3 on each rider's
--- sums and each bicycle's covering area and payments
+-- sums, each bicycle's covering area and payments, and the window's edition
 pub record SameWords (book book′ : List ℕ) : Type 0 where
   pub size : length book′ ≡ length book
   pub trips : tripsOf book′ ≡ tripsOf book
@@ -104,3 +109,18 @@ MovedRun d = MovedSteps d (MovedTrip d)
 -- the same, told by the stamps
 abbrev pub MovedNight : ℕ → List Step → List Step → Type 0
 MovedNight d = MovedSteps d (MovedStamps d)
+
+-- ---- Under the same editions.
+
+-- where a trip opens a window, the edition in force at its check-in is still, or already, in force d minutes later. A file with a fault has none
+pub record OpensAlike (file : List ℕ) (d : ℕ) (book trip : List ℕ) : Type 0 where
+  pub in-force :
+      (editions : Editions) → ReadFile file editions → belongs book (checkoutOf trip) ≡ false
+      → inForce editions (checkinOf trip + d) ≡ inForce editions (checkinOf trip)
+
+-- so it is of each trip of a run that begins with a book
+pub data OpenAlike (file : List ℕ) (d : ℕ) : List ℕ → List Step → Type 0 where
+  alike-none : {book : List ℕ} → OpenAlike file d book []
+  alike-more :
+      {book : List ℕ} {step : Step} {run : List Step} → OpensAlike file d book (offerOf step .bytes)
+      → OpenAlike file d (bookAfter (stepOutcome file book step) book) run → OpenAlike file d book (step ∷ run)

@@ -3,8 +3,8 @@ use Prim.Native.Nat.{ℕ, _/_, _%_, _^_, _≤_, _<_}
 use mathlib.Core.Path.{_≡_}
 use mathlib.Core.List.{List}
 use lib.ListN.{length}
-use Rattle.layout.specs.declared.Reading.{Reading}
-use Rattle.layout.specs.declared.Reading.the-variants.{Fault, Faultless}
+use Rattle.editions.specs.declared.FileReading.{FileReading}
+use Rattle.editions.specs.declared.FileReading.the-variants.{Fault, Faultless}
 use Rattle.reader.specs.Filling.{Filling, unfilled, filled}
 use Rattle.settle.specs.declared.Answer.{Answer}
 use Rattle.settle.specs.declared.Answer.the-variants.{Refused, Written}
@@ -24,6 +24,6 @@ abbrev pub toldFilling : Filling → Answer
 toldFilling (unfilled number) = Refused number 0
 toldFilling (filled fields size) = Written size
 
-abbrev pub toldTariff : List ℕ → Reading → Answer
-toldTariff tariff (Fault number at) = Refused number at
-toldTariff tariff (Faultless counts) = Written (length tariff)
+abbrev pub toldTariff : List ℕ → FileReading → Answer
+toldTariff file (Fault number at) = Refused number at
+toldTariff file (Faultless editions) = Written (length file)

@@ -6,6 +6,7 @@ use mathlib.Core.Bool.{cond}
 use lib.Dec.{leb, ltb}
 use Rattle.units.specs.Day.{dayMinutes}
 use Rattle.layout.specs.declared.Counts.{Counts}
+use Rattle.editions.specs.declared.Editions.{Editions}
 use Rattle.areas.specs.Areas.{isAachen}
 use Rattle.trip.specs.Moments.{checkinOf, checkoutOf}
 use Rattle.ledger.specs.Words.{freshBook, coverWord, paidWord}
@@ -15,6 +16,7 @@ use Rattle.settle.specs.Outcome.{Outcome, refused, accepted}
 use Rattle.settle.specs.Runs.{Settlement}
 use Rattle.settle.specs.Steps.{Step, stepsFrom}
 use Rattle.promises.specs.Books.{bicycleChargeOf}
+use Rattle.promises.specs.Runs.{tariffAt, countsAt}
 
 -- a bicycle in a window: its word, 0 if unused, else 1 + its covering area; and what it was charged under areas of kind 8, the latest first
 pub record Cycled : Type 0 where
@@ -44,27 +46,31 @@ pub record BicycleWindow : Type 0 where
   pub opening : ℕ
   pub cycled : Cycled
 
-abbrev pub cycledIn : List ℕ → Counts → ℕ → List Part → BicycleWindow → BicycleWindow
-cycledIn tariff counts k parts window = record { opening = window .opening; cycled = cycledWith tariff counts k parts (window .cycled) }
+abbrev pub cycledIn : List ℕ → Editions → ℕ → List Part → BicycleWindow → BicycleWindow
+cycledIn file editions k parts window =
+    record {
+      opening = window .opening;
+      cycled = cycledWith (tariffAt file editions (window .opening)) (countsAt editions (window .opening)) k parts (window .cycled);
+    }
 
 -- the windows so far, the open one first, with an accepted trip: as for a rider (Runs: windowsWith)
-unfoldable pub cyclesWith : List ℕ → Counts → ℕ → List ℕ → List Part → List BicycleWindow → List BicycleWindow
-cyclesWith tariff counts k bytes parts [] = cycledIn tariff counts k parts (record { opening = checkinOf bytes; cycled = unused }) ∷ []
-cyclesWith tariff counts k bytes parts (latest ∷ earlier) =
-    cond (leb (checkoutOf bytes) (latest .opening + dayMinutes)) (cycledIn tariff counts k parts latest ∷ earlier)
-    (cycledIn tariff counts k parts (record { opening = checkinOf bytes; cycled = unused }) ∷ latest ∷ earlier)
+unfoldable pub cyclesWith : List ℕ → Editions → ℕ → List ℕ → List Part → List BicycleWindow → List BicycleWindow
+cyclesWith file editions k bytes parts [] = cycledIn file editions k parts (record { opening = checkinOf bytes; cycled = unused }) ∷ []
+cyclesWith file editions k bytes parts (latest ∷ earlier) =
+    cond (leb (checkoutOf bytes) (latest .opening + dayMinutes)) (cycledIn file editions k parts latest ∷ earlier)
+    (cycledIn file editions k parts (record { opening = checkinOf bytes; cycled = unused }) ∷ latest ∷ earlier)
 
-unfoldable pub cyclesAfter : List ℕ → Counts → ℕ → List ℕ → Outcome → List BicycleWindow → List BicycleWindow
-cyclesAfter tariff counts k bytes (refused number place) windows = windows
-cyclesAfter tariff counts k bytes (accepted new parts) windows = cyclesWith tariff counts k bytes parts windows
+unfoldable pub cyclesAfter : List ℕ → Editions → ℕ → List ℕ → Outcome → List BicycleWindow → List BicycleWindow
+cyclesAfter file editions k bytes (refused number place) windows = windows
+cyclesAfter file editions k bytes (accepted new parts) windows = cyclesWith file editions k bytes parts windows
 
-unfoldable pub cyclesOver : List ℕ → Counts → ℕ → List Settlement → List BicycleWindow → List BicycleWindow
-cyclesOver tariff counts k [] windows = windows
-cyclesOver tariff counts k (s ∷ more) windows = cyclesOver tariff counts k more (cyclesAfter tariff counts k (s .offer .bytes) (s .outcome) windows)
+unfoldable pub cyclesOver : List ℕ → Editions → ℕ → List Settlement → List BicycleWindow → List BicycleWindow
+cyclesOver file editions k [] windows = windows
+cyclesOver file editions k (s ∷ more) windows = cyclesOver file editions k more (cyclesAfter file editions k (s .offer .bytes) (s .outcome) windows)
 
 -- those of a run from a fresh book, the latest first
-abbrev pub cyclesOf : List ℕ → Counts → ℕ → List Step → List BicycleWindow
-cyclesOf tariff counts k run = cyclesOver tariff counts k (stepsFrom tariff freshBook run) []
+abbrev pub cyclesOf : List ℕ → Editions → ℕ → List Step → List BicycleWindow
+cyclesOf file editions k run = cyclesOver file editions k (stepsFrom file freshBook run) []
 
 -- the total of some charges
 unfoldable pub totalOf : List ℕ → ℕ

@@ -12,16 +12,20 @@ use Rattle.caps.specs.Tree.{Tree}
 use Rattle.caps.specs.Named.{NamedCap, capNamed, sumNamed, Passed}
 use Rattle.caps.specs.Rides.{ChargedRide, allTotal, secondTotal}
 use Rattle.layout.specs.declared.Counts.{Counts}
+use Rattle.editions.specs.declared.Editions.{Editions}
+use Rattle.editions.specs.Editions.{countsIn, tariffIn, inForce}
 use Rattle.areas.specs.Areas.{isAachen}
 use Rattle.trip.specs.Moments.{checkinOf, checkoutOf}
+use Rattle.trip.specs.Trips.{tripOf}
 use Rattle.caps.specs.declared.Cut.{Cut}
-use Rattle.ledger.specs.Words.{freshBook, tripsOf, openingOf}
+use Rattle.ledger.specs.Words.{freshBook, tripsOf, openingOf, editionOf}
 use Rattle.ledger.specs.Windows.{belongs}
 use Rattle.charging.specs.Caps.{treeOf}
 use Rattle.charging.specs.Charging.{isChild, carries, placeOf, priceFor}
 use Rattle.cycles.specs.InWords.{RidePays}
 use Rattle.statement.specs.Record.{Part, uncut}
-use Rattle.settle.specs.Outcome.{Outcome, refused, accepted}
+use Rattle.deciding.specs.Refusals.{windowIn, tariffFor, countsFor}
+use Rattle.settle.specs.Outcome.{Outcome, refused, accepted, tripParts}
 use Rattle.settle.specs.Runs.{Settlement}
 use Rattle.settle.specs.Steps.{Step, stepsFrom, bookAfterSteps}
 use Rattle.promises.specs.Conditions.{nameOfCut}
@@ -93,18 +97,19 @@ pub data PaysInTurn (tariff : List ℕ) (counts : Counts) (k : ℕ) : ℕ → �
 
 -- ---- The window that is open at the end, by the book before each trip.
 
--- the rider's rides so far, with an outcome: a refusal leaves them, and an accepted trip that opens a window begins anew
-unfoldable pub ridesAfter : List ℕ → Counts → ℕ → List ℕ → List ℕ → Outcome → List ChargedRide → List ChargedRide
-ridesAfter tariff counts rider book bytes (refused number place) before = before
-ridesAfter tariff counts rider book bytes (accepted new parts) before =
-    ridesWith tariff counts rider parts (cond (belongs book (checkoutOf bytes)) before [])
+-- the rider's rides so far, with an outcome: a refusal leaves them, and an accepted trip that opens a window begins anew. The edition is that of
+-- the trip's window
+unfoldable pub ridesAfter : List ℕ → Editions → ℕ → List ℕ → List ℕ → Outcome → List ChargedRide → List ChargedRide
+ridesAfter file editions rider book bytes (refused number place) before = before
+ridesAfter file editions rider book bytes (accepted new parts) before =
+    ridesWith (tariffFor file editions book bytes) (countsFor editions book bytes) rider parts (cond (belongs book (checkoutOf bytes)) before [])
 
 -- a rider's rides in the window that is open at the end of some settlements, the latest first; `before` are those that the window had
 -- before them
-unfoldable pub ridesOver : List ℕ → Counts → ℕ → List Settlement → List ChargedRide → List ChargedRide
-ridesOver tariff counts rider [] before = before
-ridesOver tariff counts rider (s ∷ more) before =
-    ridesOver tariff counts rider more (ridesAfter tariff counts rider (s .book) (s .offer .bytes) (s .outcome) before)
+unfoldable pub ridesOver : List ℕ → Editions → ℕ → List Settlement → List ChargedRide → List ChargedRide
+ridesOver file editions rider [] before = before
+ridesOver file editions rider (s ∷ more) before =
+    ridesOver file editions rider more (ridesAfter file editions rider (s .book) (s .offer .bytes) (s .outcome) before)
 
 -- ---- All windows, by the trips' own minutes.
 
@@ -126,33 +131,43 @@ pub record RiderWindow : Type 0 where
 abbrev pub opensAt : ℕ → RiderWindow
 opensAt checkin = record { opening = checkin; trips = []; rides = [] }
 
--- with an accepted trip: its opening stays
-abbrev pub withTrip : List ℕ → Counts → ℕ → List ℕ → List Part → RiderWindow → RiderWindow
-withTrip tariff counts rider bytes parts window =
+-- the tariff that settles all of a window that opens at some minute: that of the edition in force then; and its tree with a rider's caps
+abbrev pub tariffAt : List ℕ → Editions → ℕ → List ℕ
+tariffAt file editions opening = tariffIn file editions (inForce editions opening)
+
+abbrev pub countsAt : Editions → ℕ → Counts
+countsAt editions opening = countsIn editions (inForce editions opening)
+
+abbrev pub treeAt : List ℕ → Editions → ℕ → ℕ → Tree
+treeAt file editions opening rider = treeOf (tariffAt file editions opening) (countsAt editions opening) (isChild rider)
+
+-- with an accepted trip: its opening stays, and with it its edition
+abbrev pub withTrip : List ℕ → Editions → ℕ → List ℕ → List Part → RiderWindow → RiderWindow
+withTrip file editions rider bytes parts window =
     record {
       opening = window .opening;
       trips = spanOf bytes ∷ window .trips;
-      rides = ridesWith tariff counts rider parts (window .rides);
+      rides = ridesWith (tariffAt file editions (window .opening)) (countsAt editions (window .opening)) rider parts (window .rides);
     }
 
 -- the windows so far, the open one first, with an accepted trip: it belongs to the open window when its check-out is at most
 -- opening + 1,440; otherwise it opens the next one at its own check-in
-unfoldable pub windowsWith : List ℕ → Counts → ℕ → List ℕ → List Part → List RiderWindow → List RiderWindow
-windowsWith tariff counts rider bytes parts [] = withTrip tariff counts rider bytes parts (opensAt (checkinOf bytes)) ∷ []
-windowsWith tariff counts rider bytes parts (latest ∷ earlier) =
-    cond (leb (checkoutOf bytes) (latest .opening + dayMinutes)) (withTrip tariff counts rider bytes parts latest ∷ earlier)
-    (withTrip tariff counts rider bytes parts (opensAt (checkinOf bytes)) ∷ latest ∷ earlier)
+unfoldable pub windowsWith : List ℕ → Editions → ℕ → List ℕ → List Part → List RiderWindow → List RiderWindow
+windowsWith file editions rider bytes parts [] = withTrip file editions rider bytes parts (opensAt (checkinOf bytes)) ∷ []
+windowsWith file editions rider bytes parts (latest ∷ earlier) =
+    cond (leb (checkoutOf bytes) (latest .opening + dayMinutes)) (withTrip file editions rider bytes parts latest ∷ earlier)
+    (withTrip file editions rider bytes parts (opensAt (checkinOf bytes)) ∷ latest ∷ earlier)
 
 -- the windows so far, with an outcome: a refusal leaves them
-unfoldable pub windowsAfter : List ℕ → Counts → ℕ → List ℕ → Outcome → List RiderWindow → List RiderWindow
-windowsAfter tariff counts rider bytes (refused number place) windows = windows
-windowsAfter tariff counts rider bytes (accepted new parts) windows = windowsWith tariff counts rider bytes parts windows
+unfoldable pub windowsAfter : List ℕ → Editions → ℕ → List ℕ → Outcome → List RiderWindow → List RiderWindow
+windowsAfter file editions rider bytes (refused number place) windows = windows
+windowsAfter file editions rider bytes (accepted new parts) windows = windowsWith file editions rider bytes parts windows
 
 -- the windows after some settlements; `windows` are those before them
-unfoldable pub windowsOver : List ℕ → Counts → ℕ → List Settlement → List RiderWindow → List RiderWindow
-windowsOver tariff counts rider [] windows = windows
-windowsOver tariff counts rider (s ∷ more) windows =
-    windowsOver tariff counts rider more (windowsAfter tariff counts rider (s .offer .bytes) (s .outcome) windows)
+unfoldable pub windowsOver : List ℕ → Editions → ℕ → List Settlement → List RiderWindow → List RiderWindow
+windowsOver file editions rider [] windows = windows
+windowsOver file editions rider (s ∷ more) windows =
+    windowsOver file editions rider more (windowsAfter file editions rider (s .offer .bytes) (s .outcome) windows)
 
 -- a trip lies within the 24 hours from a window's opening on
 pub record WithinDay (opening : ℕ) (trip : Span) : Type 0 where
@@ -160,12 +175,13 @@ pub record WithinDay (opening : ℕ) (trip : Span) : Type 0 where
   pub forward : trip .checkin ≤ trip .checkout
   pub till : trip .checkout ≤ opening + dayMinutes
 
--- a book has no window open, and there is none; or the first is the one that it has open, since the same minute and with these rides
-pub data OpenFirst (book : List ℕ) (rides : List ChargedRide) : List RiderWindow → Type 0 where
-  none-open : tripsOf book ≡ 0 → rides ≡ [] → OpenFirst book rides []
+-- a book has no window open, and there is none; or the first is the one that it has open, since the same minute, under the edition in force
+-- then, and with these rides
+pub data OpenFirst (editions : Editions) (book : List ℕ) (rides : List ChargedRide) : List RiderWindow → Type 0 where
+  none-open : tripsOf book ≡ 0 → rides ≡ [] → OpenFirst editions book rides []
   one-open :
-      {latest : RiderWindow} {earlier : List RiderWindow} → 1 ≤ tripsOf book → openingOf book ≡ latest .opening → rides ≡ latest .rides
-      → OpenFirst book rides (latest ∷ earlier)
+      {latest : RiderWindow} {earlier : List RiderWindow} → 1 ≤ tripsOf book → openingOf book ≡ latest .opening
+      → editionOf book ≡ inForce editions (latest .opening) → rides ≡ latest .rides → OpenFirst editions book rides (latest ∷ earlier)
 
 -- the trips of some windows, all together
 unfoldable pub tripsIn : List RiderWindow → List Span
@@ -181,16 +197,30 @@ unfoldable pub acceptedOver : List Settlement → List Span → List Span
 acceptedOver [] before = before
 acceptedOver (s ∷ more) before = acceptedOver more (acceptedAfter (s .offer .bytes) (s .outcome) before)
 
+-- ---- A window's edition.
+
+-- an accepted trip, on the book before it: its window's edition is the one in force at the window's opening, and its parts are those of its rides
+-- by that edition's tariff. The book that it leaves names them both; and in the open window both are as they were
+pub record UnderOpening (file : List ℕ) (editions : Editions) (book bytes new : List ℕ) (parts : List Part) : Type 0 where
+  pub in-force : windowIn editions book bytes .edition ≡ inForce editions (windowIn editions book bytes .opening .0)
+  pub parts-are :
+      parts
+      ≡ tripParts (tariffAt file editions (windowIn editions book bytes .opening .0)) (countsAt editions (windowIn editions book bytes .opening .0)) book bytes
+      (tripOf bytes) (windowIn editions book bytes)
+  pub opening : openingOf new ≡ windowIn editions book bytes .opening .0
+  pub edition : editionOf new ≡ inForce editions (openingOf new)
+  pub stays : belongs book (checkoutOf bytes) ≡ true → (openingOf new ≡ openingOf book) × (editionOf new ≡ editionOf book)
+
 -- ---- A run from a fresh book.
 
 -- the book that it leaves
 abbrev pub bookOf : List ℕ → List Step → List ℕ
-bookOf tariff run = bookAfterSteps tariff freshBook run
+bookOf file run = bookAfterSteps file freshBook run
 
 -- a rider's rides in the window that is open at its end, the latest first
-abbrev pub ridesOf : List ℕ → Counts → ℕ → List Step → List ChargedRide
-ridesOf tariff counts rider run = ridesOver tariff counts rider (stepsFrom tariff freshBook run) []
+abbrev pub ridesOf : List ℕ → Editions → ℕ → List Step → List ChargedRide
+ridesOf file editions rider run = ridesOver file editions rider (stepsFrom file freshBook run) []
 
 -- its windows, the latest first, with a rider's rides in each
-abbrev pub windowsOf : List ℕ → Counts → ℕ → List Step → List RiderWindow
-windowsOf tariff counts rider run = windowsOver tariff counts rider (stepsFrom tariff freshBook run) []
+abbrev pub windowsOf : List ℕ → Editions → ℕ → List Step → List RiderWindow
+windowsOf file editions rider run = windowsOver file editions rider (stepsFrom file freshBook run) []

@@ -7,7 +7,7 @@ use mathlib.Core.Path.{_≡_, sym, ap, subst, _∙_}
 use mathlib.Core.List.{List, [], _∷_, _++_}
 use borrow.Author.Tests.{lt-ltb, le-ltb}
 use lib.ListN.{length}
-use Rattle.layout.specs.declared.Counts.{Counts}
+use Rattle.editions.specs.declared.Editions.{Editions}
 use Rattle.statement.specs.Record.{Part, largestStatement, statementOf, Recordable}
 use Rattle.statement.specs.Reading.{sizeIn}
 use Rattle.statement.specs.Contracts.{StandsAt, Recordables, none, more}
@@ -103,31 +103,31 @@ unfolding lineOf
 turned-down (refused number place) told = let same = told .answer in ap Refused cc
 turned-down (accepted new parts) told = no-size (sym (told .answer))
 
--- So what was settled under any tariff can be read.
+-- So what was settled under any file can be read.
 pub settled-readable :
-    (tariff book trip : List ℕ) (room : ℕ) {book′ statement statement′ : List ℕ} {r : Answer} {size : ℕ}
-    → Told (settled tariff book trip room) book book′ statement statement′ r → r ≡ answer.Written size → Readable statement′ size
-settled-readable tariff book trip room told is =
-    let wrote = rw is at told in written-says _ (few-parts (settled-accepted tariff book trip room wrote)) wrote .readable
+    (file book trip : List ℕ) (room : ℕ) {book′ statement statement′ : List ℕ} {r : Answer} {size : ℕ}
+    → Told (settled file book trip room) book book′ statement statement′ r → r ≡ answer.Written size → Readable statement′ size
+settled-readable file book trip room told is =
+    let wrote = rw is at told in written-says _ (few-parts (settled-accepted file book trip room wrote)) wrote .readable
 
 -- ---- What settling a record of a roll tells.
 
-module _ {tariff : List ℕ} {counts : Counts} {book : List ℕ} (trip : List ℕ) {book′ statement statement′ : List ℕ} {r : Answer} (ready : Ready tariff counts book)
-    (room : StatementRoom statement) (lent : NextSettled tariff counts book trip statement book′ statement′ r) where
-  o : ToldSound (settledUnder tariff counts book trip largestStatement) (counts .areas) book book′ statement statement′ r
+module _ {file : List ℕ} {editions : Editions} {book : List ℕ} (trip : List ℕ) {book′ statement statement′ : List ℕ} {r : Answer} (ready : Ready file editions book)
+    (room : StatementRoom statement) (lent : NextSettled file editions book trip statement book′ statement′ r) where
+  o : ToldSound (settledUnder file editions book trip largestStatement) editions book book′ statement statement′ r
   o =
-      subst (λ (bytes : ℕ). ToldSound (settledUnder tariff counts book trip bytes) (counts .areas) book book′ statement statement′ r) room lent
+      subst (λ (bytes : ℕ). ToldSound (settledUnder file editions book trip bytes) editions book book′ statement statement′ r) room lent
 
-  under : settled tariff book trip largestStatement ≡ settledUnder tariff counts book trip largestStatement
-  under = faultless-way tariff book trip largestStatement counts (ready .read)
+  under : settled file book trip largestStatement ≡ settledUnder file editions book trip largestStatement
+  under = faultless-way file book trip largestStatement editions (ready .read)
 
-  told-says : {size : ℕ} → r ≡ answer.Written size → Says (settledUnder tariff counts book trip largestStatement) statement′ size
-  told-says is = let told = rw is at (o .told) in written-says _ (few-parts (under-accepted tariff counts book trip largestStatement told)) told
+  told-says : {size : ℕ} → r ≡ answer.Written size → Says (settledUnder file editions book trip largestStatement) statement′ size
+  told-says is = let told = rw is at (o .told) in written-says _ (few-parts (under-accepted file editions book trip largestStatement told)) told
 
   pub readable : {size : ℕ} → r ≡ answer.Written size → Readable statement′ size
   readable is = told-says is .readable
 
-  pub charged-settled : {size : ℕ} {line : Line} → r ≡ answer.Written size → LineIn statement′ size line → SettledLine tariff (counts .areas) book trip statement book′ statement′ line
+  pub charged-settled : {size : ℕ} {line : Line} → r ≡ answer.Written size → LineIn statement′ size line → SettledLine file editions book trip statement book′ statement′ line
   charged-settled is e =
       record {
         line = e .value ∙ told-says is .line ∙ ap lineOf (sym under);
@@ -137,7 +137,7 @@ module _ {tariff : List ℕ} {counts : Counts} {book : List ℕ} (trip : List �
         range = e .range;
       }
 
-  pub refused-settled : {number place : ℕ} → r ≡ answer.Refused number place → SettledLine tariff (counts .areas) book trip statement book′ statement′ (Refused number)
+  pub refused-settled : {number place : ℕ} → r ≡ answer.Refused number place → SettledLine file editions book trip statement book′ statement′ (Refused number)
   refused-settled is =
       record {
         line = turned-down _ (rw is at (o .told)) ∙ ap lineOf (sym under);

@@ -119,32 +119,32 @@ longer-frame piece rest d = go (d .told)
 -- ---- Where the step at a piece is not `More`, it is the same at every longer piece, whether more can come or not.
 
 -- such a piece tells what stands at its start
-not-more : (tariff book piece : List ℕ) → (stepOf tariff book piece true ≡ More → ⊥) → unfinished piece ≡ false
-not-more tariff book piece other = go (unfinished piece) refl
+not-more : (file book piece : List ℕ) → (stepOf file book piece true ≡ More → ⊥) → unfinished piece ≡ false
+not-more file book piece other = go (unfinished piece) refl
   where
     go : (t : Bool) → unfinished piece ≡ t → unfinished piece ≡ false
-    go true e = absurd (other (more-way tariff book piece true e .0))
+    go true e = absurd (other (more-way file book piece true e .0))
     go false e = e
 
 step-whole :
-    (tariff book piece rest : List ℕ) (kind body : ℕ) → frameAt piece 0 ≡ frame.Whole kind body
-    → outcomeAt tariff book (piece ++ rest) (4 + body) ≡ outcomeAt tariff book piece (4 + body)
+    (file book piece rest : List ℕ) (kind body : ℕ) → frameAt piece 0 ≡ frame.Whole kind body
+    → outcomeAt file book (piece ++ rest) (4 + body) ≡ outcomeAt file book piece (4 + body)
 unfolding outcomeAt
-step-whole tariff book piece rest kind body e =
+step-whole file book piece rest kind body e =
     let facts = whole piece 0 kind body e in
     rw (take-append-le (4 + body) piece rest (omega arith))
 
 pub longer-same :
-    (tariff book piece rest : List ℕ) (more : Bool) → (stepOf tariff book piece true ≡ More → ⊥)
-    → (stepOf tariff book (piece ++ rest) more ≡ stepOf tariff book piece true)
-    × (bookStep tariff book (piece ++ rest) more ≡ bookStep tariff book piece true)
-longer-same tariff book piece rest more other = go (frameAt piece 0) refl
+    (file book piece rest : List ℕ) (more : Bool) → (stepOf file book piece true ≡ More → ⊥)
+    → (stepOf file book (piece ++ rest) more ≡ stepOf file book piece true)
+    × (bookStep file book (piece ++ rest) more ≡ bookStep file book piece true)
+longer-same file book piece rest more other = go (frameAt piece 0) refl
   where
     all : List ℕ
     all = piece ++ rest
 
     short : true && unfinished piece ≡ false
-    short = not-more tariff book piece other
+    short = not-more file book piece other
 
     d : Decided piece
     d = decided piece short
@@ -154,15 +154,15 @@ longer-same tariff book piece rest more other = go (frameAt piece 0) refl
 
     go :
         (f : Frame) → frameAt piece 0 ≡ f
-        → (stepOf tariff book all more ≡ stepOf tariff book piece true) × (bookStep tariff book all more ≡ bookStep tariff book piece true)
+        → (stepOf file book all more ≡ stepOf file book piece true) × (bookStep file book all more ≡ bookStep file book piece true)
     go frame.Broken e =
-        let here = broken-way tariff book piece true short (λ none. omega (arith, d .enough)) e in
-        let there = broken-way tariff book all more long (λ none. omega (arith, longer-told piece rest d .enough)) (longer-frame piece rest d ∙ e) in
+        let here = broken-way file book piece true short (λ none. omega (arith, d .enough)) e in
+        let there = broken-way file book all more long (λ none. omega (arith, longer-told piece rest d .enough)) (longer-frame piece rest d ∙ e) in
         (there .0 ∙ sym (here .0), there .1 ∙ sym (here .1))
     go (frame.Whole kind body) e =
-        let here = whole-way tariff book piece true short kind body e in
-        let there = whole-way tariff book all more long kind body (longer-frame piece rest d ∙ e) in
-        let same = step-whole tariff book piece rest kind body e in
+        let here = whole-way file book piece true short kind body e in
+        let there = whole-way file book all more long kind body (longer-frame piece rest d ∙ e) in
+        let same = step-whole file book piece rest kind body e in
         (rw same at (there .0) ∙ sym (here .0), rw same at (there .1) ∙ sym (here .1))
 
 -- ---- A whole roll.
@@ -186,22 +186,22 @@ unfolding offersOf
 no-offer records roll e = rw (e, offersOf)
 
 pub lines-step :
-    (records : ℕ) (tariff book roll : List ℕ)
-    → linesOf (suc records) tariff book roll
-    ≡ afterStep (stepOf tariff book roll false) (λ line used. linesOf records tariff (bookStep tariff book roll false) (drop used roll))
+    (records : ℕ) (file book roll : List ℕ)
+    → linesOf (suc records) file book roll
+    ≡ afterStep (stepOf file book roll false) (λ line used. linesOf records file (bookStep file book roll false) (drop used roll))
 unfolding linesOf linesIn runFrom offersOf brokenIn outcomeAt afterStep
-lines-step records tariff book roll = go (frameAt roll 0) refl
+lines-step records file book roll = go (frameAt roll 0) refl
   where
     go :
         (f : Frame) → frameAt roll 0 ≡ f
-        → linesOf (suc records) tariff book roll
-        ≡ afterStep (stepOf tariff book roll false) (λ line used. linesOf records tariff (bookStep tariff book roll false) (drop used roll))
+        → linesOf (suc records) file book roll
+        ≡ afterStep (stepOf file book roll false) (λ line used. linesOf records file (bookStep file book roll false) (drop used roll))
     go frame.Broken e =
         elim (ℕ-discrete (length roll) 0) [
-          | yes none ↦ rw (end-way tariff book roll false refl none .0, no-offer records roll e, eq-eqb (length roll) 0 none)
-          | no some ↦ rw (broken-way tariff book roll false refl some e .0, no-offer records roll e, e, ne-eqb (length roll) 0 some)
+          | yes none ↦ rw (end-way file book roll false refl none .0, no-offer records roll e, eq-eqb (length roll) 0 none)
+          | no some ↦ rw (broken-way file book roll false refl some e .0, no-offer records roll e, e, ne-eqb (length roll) 0 some)
         ]
     go (frame.Whole kind body) e =
-        let way = whole-way tariff book roll false refl kind body e in
+        let way = whole-way file book roll false refl kind body e in
         let facts = whole roll 0 kind body e in
         rw (way .0, way .1, first-offer records roll kind body e, e, ne-eqb (length roll) 0 (λ none. omega arith))

@@ -15,7 +15,8 @@ use Rattle.wire.specs.declared.Frame.{Frame}
 use Rattle.wire.specs.declared.Frame.the-variants as frame
 use Rattle.wire.proofs.Frames.{whole}
 use Rattle.wire.proofs.Tests.{both-left, both-right, one-of, told}
-use Rattle.ledger.specs.Sound.{sound}
+use Rattle.editions.specs.declared.Editions.{Editions}
+use Rattle.deciding.specs.Refusals.{soundIn}
 use Rattle.settle.specs.Outcome.{bookAfter}
 use Rattle.roll.specs.declared.Line.{Line}
 use Rattle.roll.specs.declared.Step.{Step}
@@ -54,26 +55,26 @@ whole-finished piece more kind body e =
     rw (le-ltb (length piece) 4 (omega arith), le-ltb (length piece) (2 + getLe 2 piece 0) (omega arith), and-false, and-false)
 
 -- Each way through a step, and the book after it.
-module _ (tariff book piece : List ℕ) (more : Bool) where
-  pub more-way : more && unfinished piece ≡ true → (stepOf tariff book piece more ≡ More) × (bookStep tariff book piece more ≡ book)
+module _ (file book piece : List ℕ) (more : Bool) where
+  pub more-way : more && unfinished piece ≡ true → (stepOf file book piece more ≡ More) × (bookStep file book piece more ≡ book)
   unfolding stepOf bookStep
   more-way e = (rw e, rw e)
 
   module _ (now : more && unfinished piece ≡ false) where
-    pub end-way : length piece ≡ 0 → (stepOf tariff book piece more ≡ End) × (bookStep tariff book piece more ≡ book)
+    pub end-way : length piece ≡ 0 → (stepOf file book piece more ≡ End) × (bookStep file book piece more ≡ book)
     unfolding stepOf bookStep
     end-way none = (rw (now, eq-eqb (length piece) 0 none), rw (now, eq-eqb (length piece) 0 none))
 
     pub broken-way :
         (length piece ≡ 0 → ⊥) → frameAt piece 0 ≡ frame.Broken
-        → (stepOf tariff book piece more ≡ Broken) × (bookStep tariff book piece more ≡ book)
+        → (stepOf file book piece more ≡ Broken) × (bookStep file book piece more ≡ book)
     unfolding stepOf bookStep
     broken-way some e = (rw (now, ne-eqb (length piece) 0 some, e), rw (now, ne-eqb (length piece) 0 some, e))
 
     pub whole-way :
         (kind body : ℕ) → frameAt piece 0 ≡ frame.Whole kind body
-        → (stepOf tariff book piece more ≡ Record (lineOf (outcomeAt tariff book piece (4 + body))) (4 + body))
-        × (bookStep tariff book piece more ≡ bookAfter (outcomeAt tariff book piece (4 + body)) book)
+        → (stepOf file book piece more ≡ Record (lineOf (outcomeAt file book piece (4 + body))) (4 + body))
+        × (bookStep file book piece more ≡ bookAfter (outcomeAt file book piece (4 + body)) book)
     unfolding stepOf bookStep
     whole-way kind body e =
         let facts = whole piece 0 kind body e in
@@ -81,75 +82,75 @@ module _ (tariff book piece : List ℕ) (more : Bool) where
         (rw (now, ne-eqb (length piece) 0 some, e), rw (now, ne-eqb (length piece) 0 some, e))
 
 -- What stands at the start, by what the step says.
-data Stands (tariff book piece : List ℕ) (more : Bool) : Step → Type 0 where
-  unfinished-yet : more && unfinished piece ≡ true → Stands tariff book piece more More
-  nothing : length piece ≡ 0 → Stands tariff book piece more End
-  not-framed : frameAt piece 0 ≡ frame.Broken → Stands tariff book piece more Broken
+data Stands (file book piece : List ℕ) (more : Bool) : Step → Type 0 where
+  unfinished-yet : more && unfinished piece ≡ true → Stands file book piece more More
+  nothing : length piece ≡ 0 → Stands file book piece more End
+  not-framed : frameAt piece 0 ≡ frame.Broken → Stands file book piece more Broken
   framed : {line : Line} {used : ℕ} (kind body : ℕ) → used ≡ 4 + body → frameAt piece 0 ≡ frame.Whole kind body
-      → Stands tariff book piece more (Record line used)
+      → Stands file book piece more (Record line used)
 
-module _ (tariff book piece : List ℕ) (more : Bool) where
-  stands : Stands tariff book piece more (stepOf tariff book piece more)
+module _ (file book piece : List ℕ) (more : Bool) where
+  stands : Stands file book piece more (stepOf file book piece more)
   stands = go (more && unfinished piece) refl
     where
-      at-frame : more && unfinished piece ≡ false → (length piece ≡ 0 → ⊥) → (f : Frame) → frameAt piece 0 ≡ f → Stands tariff book piece more (stepOf tariff book piece more)
-      at-frame now some frame.Broken e = rw (broken-way tariff book piece more now some e .0) (not-framed e)
-      at-frame now some (frame.Whole kind body) e = rw (whole-way tariff book piece more now kind body e .0) (framed kind body refl e)
+      at-frame : more && unfinished piece ≡ false → (length piece ≡ 0 → ⊥) → (f : Frame) → frameAt piece 0 ≡ f → Stands file book piece more (stepOf file book piece more)
+      at-frame now some frame.Broken e = rw (broken-way file book piece more now some e .0) (not-framed e)
+      at-frame now some (frame.Whole kind body) e = rw (whole-way file book piece more now kind body e .0) (framed kind body refl e)
 
-      go : (t : Bool) → more && unfinished piece ≡ t → Stands tariff book piece more (stepOf tariff book piece more)
-      go true e = rw (more-way tariff book piece more e .0) (unfinished-yet e)
+      go : (t : Bool) → more && unfinished piece ≡ t → Stands file book piece more (stepOf file book piece more)
+      go true e = rw (more-way file book piece more e .0) (unfinished-yet e)
       go false e =
           elim (ℕ-discrete (length piece) 0) [
-            | yes none ↦ rw (end-way tariff book piece more e none .0) (nothing none)
+            | yes none ↦ rw (end-way file book piece more e none .0) (nothing none)
             | no some ↦ at-frame e some (frameAt piece 0) refl
           ]
 
   -- A record is used whole: 4 bytes at least, and no more than the piece has.
-  pub record-within : (line : Line) (used : ℕ) → stepOf tariff book piece more ≡ Record line used → (4 ≤ used) × (used ≤ length piece)
+  pub record-within : (line : Line) (used : ℕ) → stepOf file book piece more ≡ Record line used → (4 ≤ used) × (used ≤ length piece)
   record-within line used e = go (rw e at stands)
     where
-      go : {line : Line} {used : ℕ} → Stands tariff book piece more (Record line used) → (4 ≤ used) × (used ≤ length piece)
+      go : {line : Line} {used : ℕ} → Stands file book piece more (Record line used) → (4 ≤ used) × (used ≤ length piece)
       go (framed kind body is f) = let facts = whole piece 0 kind body f in (omega arith, omega arith)
 
   -- A record that is not whole yet has fewer than 1,026 bytes.
-  pub more-short : stepOf tariff book piece more ≡ More → (more ≡ true) × (length piece < 1026)
+  pub more-short : stepOf file book piece more ≡ More → (more ≡ true) × (length piece < 1026)
   more-short e = go (rw e at stands)
     where
-      go : Stands tariff book piece more More → (more ≡ true) × (length piece < 1026)
+      go : Stands file book piece more More → (more ≡ true) × (length piece < 1026)
       go (unfinished-yet t) = (both-left more (unfinished piece) t, unfinished-short piece (both-right more (unfinished piece) t))
 
   -- It leaves the book as it is.
-  pub more-stays : stepOf tariff book piece more ≡ More → bookStep tariff book piece more ≡ book
+  pub more-stays : stepOf file book piece more ≡ More → bookStep file book piece more ≡ book
   more-stays e = go (rw e at stands)
     where
-      go : Stands tariff book piece more More → bookStep tariff book piece more ≡ book
-      go (unfinished-yet t) = more-way tariff book piece more t .1
+      go : Stands file book piece more More → bookStep file book piece more ≡ book
+      go (unfinished-yet t) = more-way file book piece more t .1
 
 -- The contract of `next`, way by way.
-module _ (tariff : List ℕ) (areas : ℕ) (book piece : List ℕ) (more u : Bool) (is : sound book areas ≡ true) (e : u ≡ unfinished piece) where
-  pub more-stepped : {statement : List ℕ} → more && u ≡ true → Stepped tariff areas book piece more statement book statement More
+module _ (file : List ℕ) (editions : Editions) (book piece : List ℕ) (more u : Bool) (is : soundIn editions book ≡ true) (e : u ≡ unfinished piece) where
+  pub more-stepped : {statement : List ℕ} → more && u ≡ true → Stepped file editions book piece more statement book statement More
   more-stepped t =
-      let way = more-way tariff book piece more (rw e at t) in
+      let way = more-way file book piece more (rw e at t) in
       record { found = sym (way .0); book-is = sym (way .1); statement-is = refl; sound-again = is; range = omega arith }
 
   module _ (t : more && u ≡ false) where
-    pub end-stepped : {statement : List ℕ} → length piece ≡ 0 → Stepped tariff areas book piece more statement book statement End
+    pub end-stepped : {statement : List ℕ} → length piece ≡ 0 → Stepped file editions book piece more statement book statement End
     end-stepped none =
-        let way = end-way tariff book piece more (rw e at t) none in
+        let way = end-way file book piece more (rw e at t) none in
         record { found = sym (way .0); book-is = sym (way .1); statement-is = refl; sound-again = is; range = omega arith }
 
-    pub broken-stepped : {statement : List ℕ} → (length piece ≡ 0 → ⊥) → frame.Broken ≡ frameAt piece 0 → Stepped tariff areas book piece more statement book statement Broken
+    pub broken-stepped : {statement : List ℕ} → (length piece ≡ 0 → ⊥) → frame.Broken ≡ frameAt piece 0 → Stepped file editions book piece more statement book statement Broken
     broken-stepped some f =
-        let way = broken-way tariff book piece more (rw e at t) some (sym f) in
+        let way = broken-way file book piece more (rw e at t) some (sym f) in
         record { found = sym (way .0); book-is = sym (way .1); statement-is = refl; sound-again = is; range = omega arith }
 
     pub record-stepped :
         (kind body : ℕ) {statement : List ℕ} (book′ : List ℕ) {statement′ : List ℕ} (line : Line) → frame.Whole kind body ≡ frameAt piece 0
-        → SettledLine tariff areas book (take (4 + body) piece) statement book′ statement′ line
-        → Stepped tariff areas book piece more statement book′ statement′ (Record line (4 + body))
+        → SettledLine file editions book (take (4 + body) piece) statement book′ statement′ line
+        → Stepped file editions book piece more statement book′ statement′ (Record line (4 + body))
     unfolding outcomeAt
     record-stepped kind body book′ line f s =
-        let way = whole-way tariff book piece more (rw e at t) kind body (sym f) in
+        let way = whole-way file book piece more (rw e at t) kind body (sym f) in
         record {
           found = rw (s .line) (sym (way .0));
           book-is = s .book-is ∙ sym (way .1);

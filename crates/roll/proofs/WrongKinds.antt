@@ -11,14 +11,13 @@ use Rattle.wire.specs.Frame.{frameAt}
 use Rattle.wire.specs.declared.Frame.the-variants as frame
 use Rattle.wire.proofs.Number.{get-take}
 use Rattle.wire.proofs.Frames.{whole, whole-back}
-use Rattle.layout.specs.declared.Counts.{Counts}
-use Rattle.layout.specs.Scan.{Read}
+use Rattle.editions.specs.declared.Editions.{Editions}
+use Rattle.editions.specs.Reading.{ReadFile}
 use Rattle.trip.specs.Record.{tripKind}
 use Rattle.trip.specs.Conditions.{other-kind, no-record}
 use Rattle.trip.proofs.Shapes.{five}
-use Rattle.ledger.specs.Sound.{sound}
 use Rattle.statement.specs.Record.{largestStatement}
-use Rattle.deciding.specs.Refusals.{rows}
+use Rattle.deciding.specs.Refusals.{soundIn, rows}
 use Rattle.settle.specs.Outcome.{refused}
 use Rattle.deciding.proofs.Rows.{skip, stop}
 use Rattle.deciding.proofs.Decisions.{refused-first}
@@ -42,19 +41,19 @@ frame-alone piece kind body e =
       short = facts .short;
     })
 
-module _ (tariff : List ℕ) (counts : Counts) (book piece : List ℕ) (more : Bool) (read : Read tariff counts) (is : sound book (counts .areas) ≡ true) where
-  refused-alone : (kind body : ℕ) → frameAt piece 0 ≡ frame.Whole kind body → (kind ≡ tripKind → ⊥) → outcomeAt tariff book piece (4 + body) ≡ refused 5 0
+module _ (file : List ℕ) (editions : Editions) (book piece : List ℕ) (more : Bool) (read : ReadFile file editions) (is : soundIn editions book ≡ true) where
+  refused-alone : (kind body : ℕ) → frameAt piece 0 ≡ frame.Whole kind body → (kind ≡ tripKind → ⊥) → outcomeAt file book piece (4 + body) ≡ refused 5 0
   unfolding outcomeAt rows
   refused-alone kind body e other =
       let alone = take (4 + body) piece in
       let no-trip = five alone .1 (no-record (other-kind kind body (frame-alone piece kind body e) other)) in
-      refused-way tariff book alone largestStatement counts read (refused-first tariff counts book alone largestStatement (skip _ _ (rw is) ∙ stop _ _ (rw no-trip)))
+      refused-way file book alone largestStatement editions read (refused-first file editions book alone largestStatement (skip _ _ (rw is) ∙ stop _ _ (rw no-trip)))
 
   pub wrong-kind :
       (kind body : ℕ) → frameAt piece 0 ≡ frame.Whole kind body → (kind ≡ tripKind → ⊥)
-      → (stepOf tariff book piece more ≡ Record (Refused 5) (4 + body)) × (bookStep tariff book piece more ≡ book)
+      → (stepOf file book piece more ≡ Record (Refused 5) (4 + body)) × (bookStep file book piece more ≡ book)
   unfolding lineOf
   wrong-kind kind body e other =
-      let way = whole-way tariff book piece more (whole-finished piece more kind body e) kind body e in
+      let way = whole-way file book piece more (whole-finished piece more kind body e) kind body e in
       let five = refused-alone kind body e other in
       (rw five at (way .0), rw five at (way .1))

@@ -6,10 +6,11 @@ use mathlib.Core.Bool.{Bool, true, cond}
 use lib.ListN.{length}
 use lib.Dec.{ltb}
 use Rattle.ledger.specs.Words.{bookSize, freshBook}
-use Rattle.ledger.specs.Sound.{sound}
+use Rattle.editions.specs.declared.Editions.{Editions}
 use Rattle.statement.specs.Record.{mostParts, largestStatement}
 use Rattle.statement.specs.Reading.{openingIn, areaIn, kmIn, minutesIn, sizeIn, centsIn}
 use Rattle.statement.specs.Contracts.{RecordAt, mostCents}
+use Rattle.deciding.specs.Refusals.{soundIn}
 use Rattle.settle.specs.Outcome.{settled, bookAfter, statementAfter}
 use Rattle.roll.specs.declared.Entry.{Entry}
 use Rattle.roll.specs.declared.Line.{Line}
@@ -38,7 +39,7 @@ mostLineCents = mostParts * mostCents
 pub record Fresh (book : List ℕ) : Type 0 where
   pub is : book ≡ freshBook
   pub size : bookSize ≡ length book
-  pub sound-book : (areas : ℕ) → sound book areas ≡ true
+  pub sound-book : (editions : Editions) → soundIn editions book ≡ true
 
 -- room for every record's statement
 abbrev pub StatementRoom : List ℕ → Type 0
@@ -73,16 +74,16 @@ pub record LineIn (statement : List ℕ) (size : ℕ) (r : Line) : Type 0 where
   pub value : r ≡ lineIn statement size
   pub range : lineCents r ≤ mostLineCents
 
-pub record SettledLine (tariff : List ℕ) (areas : ℕ) (book trip statement book′ statement′ : List ℕ) (r : Line) : Type 0 where
-  pub line : r ≡ lineOf (settled tariff book trip largestStatement)
-  pub book-is : book′ ≡ bookAfter (settled tariff book trip largestStatement) book
-  pub statement-is : statement′ ≡ statementAfter (settled tariff book trip largestStatement) statement
-  pub sound-again : sound book′ areas ≡ true
+pub record SettledLine (file : List ℕ) (editions : Editions) (book trip statement book′ statement′ : List ℕ) (r : Line) : Type 0 where
+  pub line : r ≡ lineOf (settled file book trip largestStatement)
+  pub book-is : book′ ≡ bookAfter (settled file book trip largestStatement) book
+  pub statement-is : statement′ ≡ statementAfter (settled file book trip largestStatement) statement
+  pub sound-again : soundIn editions book′ ≡ true
   pub range : lineCents r ≤ mostLineCents
 
-pub record Stepped (tariff : List ℕ) (areas : ℕ) (book piece : List ℕ) (more : Bool) (statement book′ statement′ : List ℕ) (r : Step) : Type 0 where
-  pub found : r ≡ stepOf tariff book piece more
-  pub book-is : book′ ≡ bookStep tariff book piece more
-  pub statement-is : statement′ ≡ statementStep tariff book piece statement r
-  pub sound-again : sound book′ areas ≡ true
+pub record Stepped (file : List ℕ) (editions : Editions) (book piece : List ℕ) (more : Bool) (statement book′ statement′ : List ℕ) (r : Step) : Type 0 where
+  pub found : r ≡ stepOf file book piece more
+  pub book-is : book′ ≡ bookStep file book piece more
+  pub statement-is : statement′ ≡ statementStep file book piece statement r
+  pub sound-again : soundIn editions book′ ≡ true
   pub range : stepCents r ≤ mostLineCents

@@ -67,5 +67,5 @@ linesIn (s ∷ more) = lineOf (s .outcome) ∷ linesIn more
 
 -- the lines of a roll, from a book on: those of its records, settled as one run; a broken frame is refused with 5 and ends it
 unfoldable pub linesOf : ℕ → List ℕ → List ℕ → List ℕ → List Line
-linesOf records tariff book roll =
-    linesIn (runFrom tariff book (offersOf records roll)) ++ cond (brokenIn records roll) (Refused 5 ∷ []) []
+linesOf records file book roll =
+    linesIn (runFrom file book (offersOf records roll)) ++ cond (brokenIn records roll) (Refused 5 ∷ []) []

@@ -21,31 +21,31 @@ unfinished piece =
 
 -- what the record at the start of a piece comes to, on a book; there is room for the largest statement
 unfoldable pub outcomeAt : List ℕ → List ℕ → List ℕ → ℕ → Outcome
-outcomeAt tariff book piece used = settled tariff book (take used piece) largestStatement
+outcomeAt file book piece used = settled file book (take used piece) largestStatement
 
 -- what stands at the start of a piece, where the roll may go on behind it or not
 unfoldable pub stepOf : List ℕ → List ℕ → List ℕ → Bool → Step
-stepOf tariff book piece more =
+stepOf file book piece more =
     cond (more && unfinished piece) More
     (cond (eqb (length piece) 0) End
     (elim (frameAt piece 0) [
       | frame.Broken ↦ Broken
-      | frame.Whole kind body ↦ Record (lineOf (outcomeAt tariff book piece (4 + body))) (4 + body)
+      | frame.Whole kind body ↦ Record (lineOf (outcomeAt file book piece (4 + body))) (4 + body)
     ]))
 
 -- the book after it
 unfoldable pub bookStep : List ℕ → List ℕ → List ℕ → Bool → List ℕ
-bookStep tariff book piece more =
+bookStep file book piece more =
     cond (more && unfinished piece) book
     (cond (eqb (length piece) 0) book
     (elim (frameAt piece 0) [
       | frame.Broken ↦ book
-      | frame.Whole kind body ↦ bookAfter (outcomeAt tariff book piece (4 + body)) book
+      | frame.Whole kind body ↦ bookAfter (outcomeAt file book piece (4 + body)) book
     ]))
 
 -- the statement that was lent, after it: of a record that was settled what settling leaves in it, which is all that was told of the record
 abbrev pub statementStep : List ℕ → List ℕ → List ℕ → List ℕ → Step → List ℕ
-statementStep tariff book piece statement End = statement
-statementStep tariff book piece statement More = statement
-statementStep tariff book piece statement Broken = statement
-statementStep tariff book piece statement (Record line used) = statementAfter (outcomeAt tariff book piece used) statement
+statementStep file book piece statement End = statement
+statementStep file book piece statement More = statement
+statementStep file book piece statement Broken = statement
+statementStep file book piece statement (Record line used) = statementAfter (outcomeAt file book piece used) statement

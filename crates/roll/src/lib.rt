@@ -1,6 +1,6 @@
 // A roll of trips, settled one record after another on one book, piece by piece: whoever reads the roll hands over what has come so far,
 // and is told what stands at its start and how many bytes that took.
-use layout::Counts;
+use editions::Editions;
 use ledger::words::SIZE;
 use settle::Answer;
 use settle::settle_next;
@@ -54,7 +54,7 @@ pub enum Step {
     Broken,
 }
 
-// A fresh book, which is sound under every tariff.
+// A fresh book, which is sound under every file.
 pub fn fresh_book() -> [u8; SIZE]
     ensures { λ r. ⌜ Fresh r ⌝ }
 {
@@ -98,17 +98,17 @@ fn charged_line(statement: &[u8], size: usize) -> Line
 // A record settled: its line, and the book brought up to date. What was told of it stands in the statement that is lent: its charge records, in
 // front of what stood there; of a refusal nothing is written.
 fn settle_line(
-    tariff: &[u8],
-    counts: Counts,
+    file: &[u8],
+    editions: Editions,
     book: &mut [u8],
     trip: &[u8],
     statement: &mut [u8],
 ) -> Line
-    requires { ⌜ Ready (now tariff) counts (now book) × StatementRoom (now statement) ⌝ }
-    ensures { λ r. ⌜ SettledLine (now (tariff .entry)) (counts .areas) (now (book .entry)) (now (trip .entry)) (now (statement .entry)) (now (book .exit))
+    requires { ⌜ Ready (now file) editions (now book) × StatementRoom (now statement) ⌝ }
+    ensures { λ r. ⌜ SettledLine (now (file .entry)) editions (now (book .entry)) (now (trip .entry)) (now (statement .entry)) (now (book .exit))
         (now (statement .exit)) r ⌝ }
 {
-    match settle_next(tariff, counts, book, trip, statement) {
+    match settle_next(file, editions, book, trip, statement) {
         Answer::Refused { number, place: _ } => Line::Refused(number as u64),
         Answer::Written(size) => charged_line(statement, size),
     }
@@ -128,15 +128,15 @@ fn is_unfinished(piece: &[u8]) -> bool
 // What stands at the start of a piece, and what it comes to on the book; `more` says whether the roll can go on behind the piece. The statement
 // is lent for a record's: whoever wants more than its line, as each person's charge, reads it there.
 pub fn next(
-    tariff: &[u8],
-    counts: Counts,
+    file: &[u8],
+    editions: Editions,
     book: &mut [u8],
     piece: &[u8],
     more: bool,
     statement: &mut [u8],
 ) -> Step
-    requires { ⌜ Ready (now tariff) counts (now book) × StatementRoom (now statement) ⌝ }
-    ensures { λ r. ⌜ Stepped (now (tariff .entry)) (counts .areas) (now (book .entry)) (now (piece .entry)) more (now (statement .entry)) (now (book .exit))
+    requires { ⌜ Ready (now file) editions (now book) × StatementRoom (now statement) ⌝ }
+    ensures { λ r. ⌜ Stepped (now (file .entry)) editions (now (book .entry)) (now (piece .entry)) more (now (statement .entry)) (now (book .exit))
         (now (statement .exit)) r ⌝ }
 {
     if more & is_unfinished(piece) {
@@ -150,7 +150,7 @@ pub fn next(
         Frame::Whole { kind: _, body } => {
             let used = 4 + body;
             Step::Record {
-                line: settle_line(tariff, counts, book, &piece[..used], statement),
+                line: settle_line(file, editions, book, &piece[..used], statement),
                 used,
             }
         }

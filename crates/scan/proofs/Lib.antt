@@ -8,3 +8,4 @@ pub mod CapLaws
 pub mod AreaRunLaws
 pub mod FactorRunLaws
 pub mod Prefix
+pub mod Halts

@@ -58,10 +58,10 @@ use Rattle.layout.proofs.FaultlessUntil.{Ends, fault, finish, ends, at-fault, f
 -- ---- What stands at a place is decided by the longest record's bytes from there on, and by the areas before it.
 
 module _ (n : ℕ) (b : List ℕ) (there : n ≤ length b) where
-  first-length : length (take n b) ≡ n
+  pub first-length : length (take n b) ≡ n
   first-length = length-take-le n b there
 
-  first-area : (at : ℕ) → at + areaSize ≤ n → areaFields (take n b) at ≡ areaFields b at
+  pub first-area : (at : ℕ) → at + areaSize ≤ n → areaFields (take n b) at ≡ areaFields b at
   unfolding areaFields
   first-area at fits =
       rw (
@@ -82,7 +82,7 @@ module _ (n : ℕ) (b : List ℕ) (there : n ≤ length b) where
         get-take 2 n b (at + 27) (omega arith),
       )
 
-  first-long : (at : ℕ) → at + (areaSize + longMore) ≤ n → longFields (take n b) at ≡ longFields b at
+  pub first-long : (at : ℕ) → at + (areaSize + longMore) ≤ n → longFields (take n b) at ≡ longFields b at
   unfolding longFields
   first-long at fits =
       rw (
@@ -95,11 +95,11 @@ module _ (n : ℕ) (b : List ℕ) (there : n ≤ length b) where
         get-take 1 n b (at + 41) (omega arith),
       )
 
-  first-factor : (at : ℕ) → at + factorSize ≤ n → factorFields (take n b) at ≡ factorFields b at
+  pub first-factor : (at : ℕ) → at + factorSize ≤ n → factorFields (take n b) at ≡ factorFields b at
   unfolding factorFields
   first-factor at fits = rw (get-take 1 n b (at + 4) (omega arith), get-take 1 n b (at + 5) (omega arith))
 
-  first-stop : (at : ℕ) → at + stopSize ≤ n → stopFields (take n b) at ≡ stopFields b at
+  pub first-stop : (at : ℕ) → at + stopSize ≤ n → stopFields (take n b) at ≡ stopFields b at
   unfolding stopFields
   first-stop at fits =
       rw (
@@ -108,33 +108,33 @@ module _ (n : ℕ) (b : List ℕ) (there : n ≤ length b) where
         get-take 4 n b (at + 9) (omega arith),
       )
 
-  -- the areas stand at the same places, with the same fields and kinds
-  module _ (wide : (areaSize + longMore) * mostAreas ≤ n) where
-    first-kind : (i : ℕ) → i < mostAreas → kindAt (take n b) (areaPlace b i) ≡ kindAt b (areaPlace b i)
-    first-kind i few = get-take 2 n b (areaPlace b i + 2) (omega (arith, place-is b i, long-few b i))
+  -- areas that stand there stand at the same places, with the same fields and kinds
+  module _ (areas : ℕ) (stand : (i : ℕ) → i < areas → areaPlace b i + areaSize ≤ n) where
+    pub first-kind : (i : ℕ) → i < areas → kindAt (take n b) (areaPlace b i) ≡ kindAt b (areaPlace b i)
+    first-kind i few = get-take 2 n b (areaPlace b i + 2) (omega (arith, stand i few))
 
-    first-places : (i : ℕ) → i ≤ mostAreas → areaPlace (take n b) i ≡ areaPlace b i
+    pub first-places : (i : ℕ) → i ≤ areas → areaPlace (take n b) i ≡ areaPlace b i
     unfolding areaPlace
     first-places zero few = refl
     first-places (suc i) few = rw (first-places i (omega arith), first-kind i few)
 
-    first-longs : (i : ℕ) → i ≤ mostAreas → longBits (take n b) i ≡ longBits b i
+    pub first-longs : (i : ℕ) → i ≤ areas → longBits (take n b) i ≡ longBits b i
     unfolding longBits
     first-longs zero few = refl
     first-longs (suc i) few = rw (first-longs i (omega arith), first-places i (omega arith), first-kind i few)
 
-    first-fields : (i : ℕ) → i < mostAreas → areaFields (take n b) (areaPlace (take n b) i) ≡ areaFields b (areaPlace b i)
+    first-fields : (i : ℕ) → i < areas → areaFields (take n b) (areaPlace (take n b) i) ≡ areaFields b (areaPlace b i)
     first-fields i few =
-        rw (first-places i (omega arith)) (first-area (areaPlace b i) (omega (arith, place-is b i, long-few b i)))
+        rw (first-places i (omega arith)) (first-area (areaPlace b i) (stand i few))
 
     -- the parent is looked at only where it is an earlier area
-    first-place :
-        (soFar : Counts) (kind : ℕ) (f : AreaFields) → soFar .areas ≤ mostAreas → placeRight (take n b) soFar kind f ≡ placeRight b soFar kind f
+    pub first-place :
+        (soFar : Counts) (kind : ℕ) (f : AreaFields) → soFar .areas ≤ areas → placeRight (take n b) soFar kind f ≡ placeRight b soFar kind f
     unfolding placeRight
     first-place soFar kind f few =
         elim (decLt (f .parent) (soFar .areas)) [
           | yes earlier ↦
-              let there : f .parent < mostAreas = omega arith in
+              let there : f .parent < areas = omega arith in
               let parent = first-fields (f .parent) there in
               let level : levelOf (take n b) (f .parent) ≡ levelOf b (f .parent) = ap (λ (g : AreaFields). g .level) parent in
               let flat : flatOf (take n b) (f .parent) ≡ flatOf b (f .parent) = ap (λ (g : AreaFields). g .«bicycle_flat») parent in
@@ -145,24 +145,28 @@ module _ (n : ℕ) (b : List ℕ) (there : n ≤ length b) where
           | no later ↦ rw (le-ltb (f .parent) (soFar .areas) (omega arith))
         ]
 
-    first-due : (soFar : Counts) → soFar .areas ≤ mostAreas → factorsDue (take n b) soFar ≡ factorsDue b soFar
+    pub first-due : (soFar : Counts) → soFar .areas ≤ areas → factorsDue (take n b) soFar ≡ factorsDue b soFar
     first-due soFar few =
         wide-same (levelOf (take n b)) (levelOf b) (soFar .areas)
         (λ i h. ap (λ (g : AreaFields). g .level) (first-fields i (omega arith)))
+
+  -- all areas that there may be
+  wide-stand : (areaSize + longMore) * mostAreas ≤ n → (i : ℕ) → i < mostAreas → areaPlace b i + areaSize ≤ n
+  wide-stand wide i few = omega (arith, place-is b i, long-few b i)
 
   module _ (at : ℕ) (soFar : Counts) (fits : at + longestRecord ≤ n) (few : soFar .areas ≤ mostAreas) (wide : (areaSize + longMore) * mostAreas ≤ n) where
     first-area-entry : (kind body : ℕ) → areaEntry (take n b) at soFar kind body ≡ areaEntry b at soFar kind body
     unfolding areaEntry
     first-area-entry kind body =
-        rw (first-area at (omega arith), first-long at (omega arith), first-place wide soFar kind (areaFields b at) few)
+        rw (first-area at (omega arith), first-long at (omega arith), first-place mostAreas (wide-stand wide) soFar kind (areaFields b at) few)
 
     first-factor-entry : (body : ℕ) → factorEntry (take n b) at soFar body ≡ factorEntry b at soFar body
     unfolding factorEntry
-    first-factor-entry body = rw (first-factor at (omega arith), first-due wide soFar few)
+    first-factor-entry body = rw (first-factor at (omega arith), first-due mostAreas (wide-stand wide) soFar few)
 
     first-stop-entry : (body : ℕ) → stopEntry (take n b) at soFar body ≡ stopEntry b at soFar body
     unfolding stopEntry
-    first-stop-entry body = rw (first-stop at (omega arith), first-due wide soFar few)
+    first-stop-entry body = rw (first-stop at (omega arith), first-due mostAreas (wide-stand wide) soFar few)
 
     first-entry : entryAt (take n b) at soFar ≡ entryAt b at soFar
     first-entry = go (frameAt b at) refl
@@ -204,13 +208,13 @@ module _ (n : ℕ) (b : List ℕ) (there : n ≤ length b) (wide : decidingBytes
               place = p .reached .place;
               inside = omega (arith, first-length n b there, early b at soFar p);
               few = few;
-              longs = p .reached .longs ∙ sym (first-longs n b there (omega arith) (soFar .areas) few);
+              longs = p .reached .longs ∙ sym (first-longs n b there mostAreas (wide-stand n b there (omega arith)) (soFar .areas) few);
             };
         area = λ i h.
             rw (
-              first-places n b there (omega arith) i (omega arith),
-              first-longs n b there (omega arith) i (omega arith),
-              first-kind n b there (omega arith) i (omega arith),
+              first-places n b there mostAreas (wide-stand n b there (omega arith)) i (omega arith),
+              first-longs n b there mostAreas (wide-stand n b there (omega arith)) i (omega arith),
+              first-kind n b there mostAreas (wide-stand n b there (omega arith)) i (omega arith),
             )
             (first-entry n b there (areaPlace b i) (areasBefore b i) (omega (arith, place-is b i, long-few b i)) (omega arith) (omega arith)
             ∙ p .area i h);

@@ -2,3 +2,4 @@ pub mod Contracts
 pub mod Blocks
 pub mod AreaRuns
 pub mod FactorRuns
+pub mod Halts

@@ -9,6 +9,7 @@ use layout::fields::MOST_AREAS;
 use layout::fields::STOP_SIZE;
 use std::num::wrapping_add_u64;
 use wire::eight_at;
+use wire::four_at;
 ghost use mathlib.Core.Path.{_≡_};
 ghost use Prim.Native.Nat.{_+_, _-_, _*_, _%_, _^_, _≤_};
 ghost use lib.ListN.{length};
@@ -21,6 +22,8 @@ const THREE: usize = 3;
 const NINE: usize = 9;
 
 const BLOCK: usize = 18;
+// A stop's length and kind, 11 and 2, as one number.
+const STOP_HEAD: u32 = 131_083;
 
 // The two words of a stop, or of several joined: the one of its length, kind and area, with the three bytes before them, and the one of its x
 // and y; and both moved.
@@ -175,8 +178,8 @@ fn threes_standing(b: &[u8], from: usize, areas: u16, most: usize) -> usize
     stops
 }
 
-// How many stops from a place on are found to stand, of `most` that there is room for; the one after them may stand or not.
-pub fn stops_standing(b: &[u8], from: usize, areas: u16, most: usize) -> usize
+// How many of so many stops from a place on are found to stand: all, with one test, or else some.
+fn stops_found(b: &[u8], from: usize, areas: u16, most: usize) -> usize
     requires { ⌜ (3 ≤ from) × (from + stopSize * most ≤ length (now b)) × (areas ≤ mostAreas) ⌝ }
     ensures { λ r. ⌜ StopsStand (now (b .entry)) from areas r × (r ≤ most) ⌝ }
 {
@@ -186,4 +189,39 @@ pub fn stops_standing(b: &[u8], from: usize, areas: u16, most: usize) -> usize
         }
     }
     threes_standing(b, from, areas, most)
+}
+
+// How many stops there likely are, of `most` that there is room for. Behind a file's last stop there is no room, so the last place has a stop's length
+// and kind; behind the stops of the first of two editions stands the second, and where it begins is searched for. It is a guess, which decides
+// nothing: whether they stand is tested.
+fn likely_stops(b: &[u8], from: usize, most: usize) -> usize
+    requires { ⌜ from + stopSize * most ≤ length (now b) ⌝ }
+    ensures { λ r. ⌜ r ≤ most ⌝ }
+{
+    if most == 0 {
+        return 0;
+    }
+    if four_at(b, from + STOP_SIZE * (most - 1)) == STOP_HEAD {
+        return most;
+    }
+    let mut low = 0;
+    let mut high = most - 1;
+    while low < high {
+        let middle = low + (high - low) / 2;
+        if four_at(b, from + STOP_SIZE * middle) == STOP_HEAD {
+            low = middle + 1;
+        } else {
+            high = middle;
+        }
+    }
+    low
+}
+
+// How many stops from a place on are found to stand, of `most` that there is room for; the one after them may stand or not.
+pub fn stops_standing(b: &[u8], from: usize, areas: u16, most: usize) -> usize
+    requires { ⌜ (3 ≤ from) × (from + stopSize * most ≤ length (now b)) × (areas ≤ mostAreas) ⌝ }
+    ensures { λ r. ⌜ StopsStand (now (b .entry)) from areas r × (r ≤ most) ⌝ }
+{
+    let likely = likely_stops(b, from, most);
+    stops_found(b, from, areas, likely)
 }

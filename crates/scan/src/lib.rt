@@ -43,12 +43,28 @@ ghost use lib.ListN.{length};
 ghost use Rattle.layout.specs.Layout.{stopSize, mostStops};
 ghost use Rattle.layout.specs.Rules.{factorsDue};
 ghost use Rattle.layout.specs.Scan.{Reached, areaEntry, factorEntry, stopEntry, entryAt, readTariff};
+ghost use Rattle.scan.specs.Halts.{haltOf, faultAt};
 
 pub mod area_run;
 pub mod blocks;
 pub mod cap_words;
 pub mod factor_run;
 pub mod price_words;
+
+// Where the reading of a tariff stops: at its end, with its counts; at its first faulty record behind a tariff that is faultless alone, with
+// that one's counts; or amid a tariff, while an area or a factor record is still due.
+pub enum Halt {
+    End(Counts),
+    Behind {
+        number: u8,
+        at: usize,
+        before: Counts,
+    },
+    Amid {
+        number: u8,
+        at: usize,
+    },
+}
 
 // An area record of a kind with a whole frame, after those so far.
 fn area_entry(b: &[u8], at: usize, so_far: Counts, kind: u16, body: usize) -> Entry
@@ -148,9 +164,25 @@ fn stops_due(left: usize, stops: u16) -> usize
     if room <= due { room } else { due }
 }
 
-// The first fault of any byte string offered as a tariff, or its counts.
-pub fn read_tariff(tariff: &[u8]) -> Reading
-    ensures { λ r. ⌜ r ≡ readTariff (now (tariff .entry)) ⌝ }
+// A fault at a place, after so many records, with so many factor records due.
+fn fault_at(number: u8, at: usize, so_far: Counts, due: u8) -> Halt
+    ensures { λ r. ⌜ r ≡ faultAt number at «so_far» due ⌝ }
+{
+    let lacking = (so_far.areas == 0) | (so_far.factors < due);
+    if lacking {
+        Halt::Amid { number, at }
+    } else {
+        Halt::Behind {
+            number,
+            at,
+            before: so_far,
+        }
+    }
+}
+
+// Where the reading of any byte string offered as a tariff stops.
+pub fn halt_of(tariff: &[u8]) -> Halt
+    ensures { λ r. ⌜ r ≡ haltOf (now (tariff .entry)) ⌝ }
 {
     let mut at = 0;
     let mut so_far = Counts {
@@ -163,10 +195,10 @@ pub fn read_tariff(tariff: &[u8]) -> Reading
     loop {
         match entry_at(tariff, at, so_far, due) {
             Entry::End => {
-                break Reading::Faultless(so_far);
+                break Halt::End(so_far);
             }
             Entry::Faulty(number) => {
-                break Reading::Fault { number, at };
+                break fault_at(number, at, so_far, due);
             }
             Entry::Area(kind) => {
                 let run = areas_found(tariff, after_area(tariff, Run { at, so_far, due }, kind));
@@ -193,5 +225,16 @@ pub fn read_tariff(tariff: &[u8]) -> Reading
                 so_far.stops += stops as u16;
             }
         }
+    }
+}
+
+// The first fault of any byte string offered as a tariff, or its counts.
+pub fn read_tariff(tariff: &[u8]) -> Reading
+    ensures { λ r. ⌜ r ≡ readTariff (now (tariff .entry)) ⌝ }
+{
+    match halt_of(tariff) {
+        Halt::End(counts) => Reading::Faultless(counts),
+        Halt::Behind { number, at, before } => Reading::Fault { number, at },
+        Halt::Amid { number, at } => Reading::Fault { number, at },
     }
 }

@@ -21,10 +21,12 @@ use Rattle.statement.specs.Contracts.{Recordables, StandsAt, StandFrom}
 use Rattle.statement.specs.Contracts as statements
 use Rattle.statement.proofs.Charges.{length-record}
 use Rattle.ledger.specs.declared.Window.{Window}
+use Rattle.ledger.specs.Words.{editionOf}
 use Rattle.ledger.specs.Sound.{sound}
 use Rattle.ledger.specs.Contracts.{WindowRight}
-use Rattle.ledger.proofs.SoundLaws.{sound-has}
-use Rattle.ledger.proofs.WindowLaws.{window-right}
+use Rattle.ledger.proofs.SoundLaws.{alone-has}
+use Rattle.ledger.proofs.WindowLaws.{window-right, window-room}
+use Rattle.charging.proofs.PostedLaws.{posted-edition}
 use Rattle.charging.specs.After.{posted}
 use Rattle.charging.specs.Contracts.{Rideable}
 use Rattle.charging.proofs.Stating as charging
@@ -41,7 +43,7 @@ use Rattle.settle.specs.Contracts.{RidesPostable, over, then}
 
 -- a book and a window that have room for all of them, and room for their records
 pub record RidesFit (tariff : List ℕ) (counts : Counts) (book : List ℕ) (window : Window) (checkout : ℕ) (rides : List Ride) (room : ℕ) : Type 0 where
-  pub rideable : EachRide (Rideable tariff counts book) rides
+  pub rideable : EachRide (Rideable tariff counts book (window .current)) rides
   pub right : WindowRight book window checkout
   pub few : window .trips + length rides ≤ 256
   pub fits : statementSize rides ≤ room
@@ -60,22 +62,22 @@ part-complete tariff counts book window ride = charging.part-complete tariff cou
 
 -- The fields of a ride's record hold what it says.
 pub can-record :
-    {tariff : List ℕ} {counts : Counts} {book : List ℕ} {window : Window} {checkout : ℕ} {ride : Ride} → Rideable tariff counts book ride
+    {tariff : List ℕ} {counts : Counts} {book : List ℕ} {window : Window} {checkout : ℕ} {ride : Ride} → Rideable tariff counts book (window .current) ride
     → WindowRight book window checkout → Recordable (partOf tariff counts book window ride)
 unfolding partOf
-can-record {window = window} ok right = charging.can-record ok window (omega (arith, right .head .order, right .head .last))
+can-record {window = window} ok right = charging.can-record window ok (omega (arith, right .head .order, right .head .last))
 
 module _ (tariff : List ℕ) (counts : Counts) (checkout : ℕ) where
   -- the rides are so on the book that one of them left, too
   carried :
-      {book : List ℕ} {window : Window} {ride : Ride} → Rideable tariff counts book ride → WindowRight book window checkout → (rest : List Ride)
-      → EachRide (Rideable tariff counts book) rest → EachRide (Rideable tariff counts (posted tariff counts book window checkout ride)) rest
+      {book : List ℕ} {window : Window} {ride : Ride} → Rideable tariff counts book (window .current) ride → WindowRight book window checkout → (rest : List Ride)
+      → EachRide (Rideable tariff counts book (window .current)) rest → EachRide (Rideable tariff counts (posted tariff counts book window checkout ride) true) rest
   carried ok right [] none = none
   carried ok right (next ∷ rest) (more ok′ others) = more (next-rideable ok right ok′) (carried ok right rest others)
 
   -- Each can be recorded, and the book that they leave is sound.
   pub all-right :
-      (book : List ℕ) (window : Window) (ride : Ride) (rest : List Ride) → EachRide (Rideable tariff counts book) (ride ∷ rest)
+      (book : List ℕ) (window : Window) (ride : Ride) (rest : List Ride) → EachRide (Rideable tariff counts book (window .current)) (ride ∷ rest)
       → WindowRight book window checkout → window .trips + length (ride ∷ rest) ≤ 256
       → Recordables (partsOf tariff counts book window checkout (ride ∷ rest))
       × (sound (postedAll tariff counts book window checkout (ride ∷ rest)) (counts .areas) ≡ true)
@@ -87,6 +89,17 @@ module _ (tariff : List ℕ) (counts : Counts) (checkout : ℕ) where
       (more (next-rideable ok right ok′) (carried ok right rest others)) (next-right ok right (omega arith)) (omega arith)
       in
       (statements.more (can-record ok right) parts, left)
+
+  -- The book names the window's edition.
+  pub all-edition :
+      (book : List ℕ) (window : Window) (ride : Ride) (rest : List Ride) → EachRide (Rideable tariff counts book (window .current)) (ride ∷ rest)
+      → WindowRight book window checkout → window .trips + length (ride ∷ rest) ≤ 256
+      → editionOf (postedAll tariff counts book window checkout (ride ∷ rest)) ≡ window .edition
+  unfolding postedAll oneMore
+  all-edition book window ride [] (more ok none) right few = posted-edition window ok checkout (window-room right) (omega (arith, right .small))
+  all-edition book window ride (next ∷ rest) (more ok (more ok′ others)) right few =
+      all-edition (posted tariff counts book window checkout ride) (oneMore window) next rest
+      (more (next-rideable ok right ok′) (carried ok right rest others)) (next-right ok right (omega arith)) (omega arith)
 
   -- Their records take what the rides say.
   pub parts-size :
@@ -105,7 +118,7 @@ module _ (tariff : List ℕ) (counts : Counts) (checkout : ℕ) where
 module _ (tariff : List ℕ) (counts : Counts) (checkout : Minutes) where
   -- Where the record of the first stands, it can be posted.
   ride-postable :
-      {class : ℕ} {statement : List ℕ} {book : List ℕ} {window : Window} {place : ℕ} {ride : Ride} → Rideable tariff counts book ride
+      {class : ℕ} {statement : List ℕ} {book : List ℕ} {window : Window} {place : ℕ} {ride : Ride} → Rideable tariff counts book (window .current) ride
       → ride .class ≡ class → WindowRight book window (checkout .0) → StandsAt (partOf tariff counts book window ride) statement place
       → Postable tariff counts book window class (partOf tariff counts book window ride) statement place
   unfolding partOf
@@ -123,7 +136,7 @@ module _ (tariff : List ℕ) (counts : Counts) (checkout : Minutes) where
   -- Where their records stand one behind the other, they can be posted one after another.
   pub rides-postable :
       (class : ℕ) (statement : List ℕ) {end : ℕ} (book : List ℕ) (window : Window) (place : ℕ) (ride : Ride) (rest : List Ride)
-      → EachRide (Rideable tariff counts book) (ride ∷ rest) → EachRide (λ r. r .class ≡ class) (ride ∷ rest)
+      → EachRide (Rideable tariff counts book (window .current)) (ride ∷ rest) → EachRide (λ r. r .class ≡ class) (ride ∷ rest)
       → WindowRight book window (checkout .0) → window .trips + length (ride ∷ rest) ≤ 256
       → StandFrom statement (partsOf tariff counts book window (checkout .0) (ride ∷ rest)) place → place + statementSize (ride ∷ rest) ≡ end
       → RidesPostable tariff counts checkout class statement end book window place (ride ∷ rest)
@@ -148,11 +161,13 @@ module _ (tariff : List ℕ) (counts : Counts) (book bytes : List ℕ) (trip : T
     rides-fit is =
         rw is
         (record {
-          rideable = rw (clear .trip-is) (good-rides tariff counts book bytes (clear .ready .read) (clear .ready .sound-book) (clear .good));
+          rideable =
+              rw (clear .trip-is)
+              (good-rides tariff counts book (window .current) bytes (clear .read) (clear .alone) (clear .covers) (clear .good));
           right =
-              window-right (sound-has book (counts .areas) (clear .ready .sound-book)) (rw (clear .trip-is) (fields .forward))
+              window-right (alone-has book (clear .alone)) (clear .next) (rw (clear .trip-is) (fields .forward))
               (rw (clear .trip-is) (fields .short)) (rw (clear .trip-is) (fields .range)) (clear .on-time) window (clear .window-is)
-              (omega (arith, clear .few, few-rides tariff counts bytes trip .0));
+              (omega (arith, clear .few, few-rides tariff counts bytes trip .0)) (clear .some-edition) (clear .small);
           few = clear .few;
           fits = clear .fits;
         })
@@ -169,6 +184,15 @@ module _ (tariff : List ℕ) (counts : Counts) (book bytes : List ℕ) (trip : T
             × (sound (postedAll tariff counts book window (trip .checkout .0) rides) (counts .areas) ≡ true)
         go [] ok some = absurd (omega arith)
         go (ride ∷ rest) ok some = all-right tariff counts (trip .checkout .0) book window ride rest (ok .rideable) (ok .right) (ok .few)
+
+    pub edition-posted : editionOf (tripPosted tariff counts book bytes trip window) ≡ window .edition
+    edition-posted = go (ridesOf tariff counts bytes trip) (rides-fit refl) (few-rides tariff counts bytes trip .0)
+      where
+        go :
+            (rides : List Ride) → RidesFit tariff counts book window (trip .checkout .0) rides room → 1 ≤ length rides
+            → editionOf (postedAll tariff counts book window (trip .checkout .0) rides) ≡ window .edition
+        go [] ok some = absurd (omega arith)
+        go (ride ∷ rest) ok some = all-edition tariff counts (trip .checkout .0) book window ride rest (ok .rideable) (ok .right) (ok .few)
 
     -- They take at most the bytes of the largest statement, and there is room for them.
     pub size-most :

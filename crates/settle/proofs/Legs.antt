@@ -63,7 +63,7 @@ module _ (tariff : List ℕ) (counts : Counts) (book bytes : List ℕ) (trip : T
 module _ {tariff : List ℕ} {counts : Counts} {book bytes : List ℕ} {trip : Trip} {window : Window} {breaking : Breaking} {room : ℕ}
     (clear : AllClear tariff counts book bytes trip window breaking room) where
   pub there : Riding tariff counts bytes (trip .stops)
-  there = rw (clear .trip-is) (riding (clear .ready .read) (clear .good))
+  there = rw (clear .trip-is) (riding (clear .read) (clear .good))
 
   pub order : InOrder trip
   order = rw (clear .trip-is) (in-order (clear .good))
@@ -139,12 +139,9 @@ module _ (tariff : List ℕ) (counts : Counts) (book bytes : List ℕ) (trip : T
       → partAfter tariff counts book window (Part one) other
       ≡ partOf tariff counts (posted tariff counts book window (trip .checkout .0) one) (oneMore window) other
   unfolding partOf oneMore
-  part-behind {other = other} ok =
-      let area = first-of (others-of (ok .rideable)) .area in
-      rw (
-        charged-behind (first-of (ok .rideable)) other area window (trip .checkout .0),
-        cut-behind (first-of (ok .rideable)) other area window (trip .checkout .0),
-      )
+  part-behind ok =
+      let next = first-of (others-of (ok .rideable)) in
+      rw (charged-behind (first-of (ok .rideable)) next window (trip .checkout .0), cut-behind (first-of (ok .rideable)) next window (trip .checkout .0))
 
   -- The records of one ride, or of two, are the trip's.
   one-wrote :

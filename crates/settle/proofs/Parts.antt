@@ -7,9 +7,11 @@ use mathlib.Core.Path.{_≡_, refl, sym, subst, _∙_}
 use mathlib.Core.List.{List, [], _∷_}
 use lib.ListN.{length, drop}
 use Rattle.layout.specs.declared.Counts.{Counts}
-use Rattle.layout.specs.declared.Reading.{Reading}
-use Rattle.layout.specs.declared.Reading.the-variants.{Fault, Faultless}
-use Rattle.layout.specs.Scan.{readTariff}
+use Rattle.editions.specs.declared.Editions.{Editions}
+use Rattle.editions.specs.declared.FileReading.{FileReading}
+use Rattle.editions.specs.declared.FileReading.the-variants.{Fault, Faultless}
+use Rattle.editions.specs.Reading.{readFile}
+use Rattle.editions.specs.Editions.{tariffIn, countsIn}
 use Rattle.trip.specs.declared.Trip.{Trip}
 use Rattle.trip.specs.declared.Ride.{Ride}
 use Rattle.fare.specs.declared.Breaking.{Breaking}
@@ -26,7 +28,7 @@ use Rattle.settle.specs.declared.Answer.the-variants as answer
 use Rattle.deciding.specs.declared.decide.Decision.{Decision}
 use Rattle.deciding.specs.declared.decide.Decision.the-variants.{Refused, Clear}
 use Rattle.deciding.specs.Deciding.{decidedUnder}
-use Rattle.settle.specs.Outcome.{Outcome, refused, accepted, partOf, oneMore, partsOf, postedAll, acceptedTrip, settledUnder, settled}
+use Rattle.settle.specs.Outcome.{Outcome, refused, accepted, partOf, oneMore, partsOf, postedAll, partsUnder, acceptedTrip, settledUnder, settled}
 use Rattle.settle.specs.Contracts.{Told}
 use Rattle.settle.proofs.Ways.{refused-under, accepted-under, fault-way, faultless-way}
 
@@ -89,24 +91,24 @@ FewParts o = (new : List ℕ) (parts : List Part) → o ≡ accepted new parts �
 none-refused : {A : Type 0} {number place : ℕ} {new : List ℕ} {parts : List Part} → refused number place ≡ accepted new parts → A
 none-refused e = absurd (let z : _≡_ {A = ℕ} 0 1 = cc in omega arith)
 
-pub under-few : (tariff : List ℕ) (counts : Counts) (book bytes : List ℕ) (room : ℕ) → FewParts (settledUnder tariff counts book bytes room)
+pub under-few : (file : List ℕ) (editions : Editions) (book bytes : List ℕ) (room : ℕ) → FewParts (settledUnder file editions book bytes room)
 unfolding acceptedTrip
-under-few tariff counts book bytes room new parts e = go (decidedUnder tariff counts book bytes room) refl
+under-few file editions book bytes room new parts e = go (decidedUnder file editions book bytes room) refl
   where
-    go : (d : Decision) → decidedUnder tariff counts book bytes room ≡ d → OneOrTwo parts
-    go (Refused why) is = none-refused (sym (refused-under tariff counts book bytes room is) ∙ e)
+    go : (d : Decision) → decidedUnder file editions book bytes room ≡ d → OneOrTwo parts
+    go (Refused why) is = none-refused (sym (refused-under file editions book bytes room is) ∙ e)
     go (Clear trip window breaking) is =
-        let same = sym (accepted-under tariff counts book bytes room trip window is) ∙ e in
-        let these : partsOf tariff counts book window (trip .checkout .0) (ridesOf tariff counts bytes trip) ≡ parts = cc in
-        subst OneOrTwo these (trip-few tariff counts book bytes trip window)
+        let same = sym (accepted-under file editions book bytes room trip window is) ∙ e in
+        let these : partsUnder file editions book bytes trip window ≡ parts = cc in
+        subst OneOrTwo these (trip-few (tariffIn file editions (window .edition)) (countsIn editions (window .edition)) book bytes trip window)
 
-pub settled-few : (tariff book bytes : List ℕ) (room : ℕ) → FewParts (settled tariff book bytes room)
-settled-few tariff book bytes room new parts e = go (readTariff tariff) refl
+pub settled-few : (file book bytes : List ℕ) (room : ℕ) → FewParts (settled file book bytes room)
+settled-few file book bytes room new parts e = go (readFile file) refl
   where
-    go : (r : Reading) → readTariff tariff ≡ r → OneOrTwo parts
-    go (Fault number at) is = none-refused (sym (fault-way tariff book bytes room number at is) ∙ e)
-    go (Faultless counts) is =
-        under-few tariff counts book bytes room new parts (sym (faultless-way tariff book bytes room counts is) ∙ e)
+    go : (r : FileReading) → readFile file ≡ r → OneOrTwo parts
+    go (Fault number at) is = none-refused (sym (fault-way file book bytes room number at is) ∙ e)
+    go (Faultless editions) is =
+        under-few file editions book bytes room new parts (sym (faultless-way file book bytes room editions is) ∙ e)
 
 -- ---- What a size tells: the outcome's parts, one or two, whose records the statement starts with, and their bytes.
 
@@ -141,12 +143,12 @@ told-size (accepted new parts) few {statement = statement} {statement′} {size}
 
 module _ {book′ statement statement′ : List ℕ} {size : ℕ} where
   pub under-accepted :
-      (tariff : List ℕ) (counts : Counts) (book bytes : List ℕ) (room : ℕ)
-      → Told (settledUnder tariff counts book bytes room) book book′ statement statement′ (answer.Written size)
-      → Accepted (settledUnder tariff counts book bytes room) statement′ size
-  under-accepted tariff counts book bytes room told = told-size _ (under-few tariff counts book bytes room) told
+      (file : List ℕ) (editions : Editions) (book bytes : List ℕ) (room : ℕ)
+      → Told (settledUnder file editions book bytes room) book book′ statement statement′ (answer.Written size)
+      → Accepted (settledUnder file editions book bytes room) statement′ size
+  under-accepted file editions book bytes room told = told-size _ (under-few file editions book bytes room) told
 
   pub settled-accepted :
-      (tariff book bytes : List ℕ) (room : ℕ) → Told (settled tariff book bytes room) book book′ statement statement′ (answer.Written size)
-      → Accepted (settled tariff book bytes room) statement′ size
-  settled-accepted tariff book bytes room told = told-size _ (settled-few tariff book bytes room) told
+      (file book bytes : List ℕ) (room : ℕ) → Told (settled file book bytes room) book book′ statement statement′ (answer.Written size)
+      → Accepted (settled file book bytes room) statement′ size
+  settled-accepted file book bytes room told = told-size _ (settled-few file book bytes room) told

@@ -15,29 +15,29 @@ use lib.Dec.{eqb, ltb}
 use Rattle.wire.proofs.Each.{each-at, each-all}
 use Rattle.wire.proofs.Tests.{both-left, both-right}
 use Rattle.layout.specs.declared.Counts.{Counts}
-use Rattle.layout.specs.declared.Reading.the-variants.{Fault}
-use Rattle.layout.specs.Scan.{readTariff, Read}
+use Rattle.editions.specs.declared.Editions.{Editions}
+use Rattle.editions.specs.declared.FileReading.the-variants.{Fault}
+use Rattle.editions.specs.Reading.{readFile, ReadFile}
+use Rattle.editions.specs.Editions.{tariffIn, countsIn}
 use Rattle.trip.specs.declared.Trip.{Trip}
 use Rattle.trip.specs.Trips.{tripOf}
 use Rattle.trip.proofs.Clear.{good-fields}
 use Rattle.trip.specs.declared.Ride.{Ride}
 use Rattle.fare.specs.declared.Breaking.{Breaking}
-use Rattle.fare.specs.Parts.{ridesOf}
 use Rattle.ledger.specs.declared.Window.{Window}
-use Rattle.ledger.specs.Sound.{sound}
 use Rattle.ledger.proofs.SoundLaws.{sound-has}
 use Rattle.statement.specs.Record.{largestStatement, statementOf, statementSize}
 use Rattle.settle.specs.declared.Answer.the-variants as answer
 use Rattle.deciding.specs.declared.decide.Decision.the-variants.{Refused, Clear}
 use Rattle.deciding.specs.declared.refusals.Refusal.{Refusal}
 use Rattle.deciding.specs.declared.refusals.Refusal.the-variants.{UnsoundBook, NoRoom, OtherRecord}
-use Rattle.deciding.specs.Refusals.{refusal, row, rows, Verdict, nothing, found, firstOf}
+use Rattle.deciding.specs.Refusals.{refusal, soundIn, tariffFor, countsFor, ridesFor, row, rows, Verdict, nothing, found, firstOf}
 use Rattle.deciding.specs.Deciding.{decidedUnder}
-use Rattle.settle.specs.Outcome.{tripParts, tripPosted, bookWith, quoteBytes}
+use Rattle.settle.specs.Outcome.{tripParts, tripPosted, partsUnder, bookWith, quoteBytes}
 use Rattle.settle.specs.Posting.{sameBytes, presentQuote, postingRows, Posting, unposted, renewed, postedUnder, postingOf}
 use Rattle.deciding.specs.Contracts.{AllClear}
 use Rattle.settle.specs.Contracts.{PostingTold, clearPosting}
-use Rattle.deciding.proofs.Rows.{skip, stop, end, has, distinct, inRange, earlierRows, earlier-decides, later-decides}
+use Rattle.deciding.proofs.Rows.{skip, stop, end, has, distinct, numbered, inRange, earlierRows, earlier-decides, later-decides}
 use Rattle.deciding.proofs.Rides.{rides-most}
 use Rattle.deciding.proofs.Decisions.{refused-found, clear-found, no-row}
 use Rattle.settle.proofs.Ways.{priced-under}
@@ -67,28 +67,28 @@ same-exactly bytes other = (there, back)
 
 -- ---- The rows in common.
 
-module _ (tariff : List ℕ) (counts : Counts) (book trip : List ℕ) where
+module _ (file : List ℕ) (editions : Editions) (book trip : List ℕ) where
   abbrev rides : List Ride
-  rides = ridesOf tariff counts trip (tripOf trip)
+  rides = ridesFor file editions book trip
 
   abbrev earlier : Verdict
-  earlier = firstOf (earlierRows tariff counts book trip)
+  earlier = firstOf (earlierRows file editions book trip)
 
   -- where none of 4 to 11 holds, and there is room, no row of settling does
-  clear-with-room : (room : ℕ) → earlier ≡ nothing → statementSize rides ≤ room → firstOf (rows tariff counts book trip room) ≡ nothing
+  clear-with-room : (room : ℕ) → earlier ≡ nothing → statementSize rides ≤ room → firstOf (rows file editions book trip room) ≡ nothing
   unfolding rows
-  clear-with-room room e fits = later-decides (earlierRows tariff counts book trip) _ e ∙ skip _ _ (le-ltb room (statementSize rides) fits) ∙ end
+  clear-with-room room e fits = later-decides (earlierRows file editions book trip) _ e ∙ skip _ _ (le-ltb room (statementSize rides) fits) ∙ end
 
   -- such a trip's records take at most the bytes of the largest statement
   few-bytes : earlier ≡ nothing → statementSize rides ≤ largestStatement
   few-bytes e =
-      let good = no-row tariff counts book trip (statementSize rides) (clear-with-room (statementSize rides) e (le-refl _)) .good in
+      let good = no-row file editions book trip (statementSize rides) (clear-with-room (statementSize rides) e (le-refl _)) .good in
       let ranges = good-fields good .ranges in
-      rides-most tariff counts trip (tripOf trip) (ranges .adults) (ranges .children) (ranges .bicycles)
+      rides-most (tariffFor file editions book trip) (countsFor editions book trip) trip (tripOf trip) (ranges .adults) (ranges .children) (ranges .bicycles)
 
   -- where settling finds a row, one of 4 to 11 holds, or none does and the room is too small
   pub earlier-or-room :
-      (room : ℕ) {why : Refusal} → firstOf (rows tariff counts book trip room) ≡ found why
+      (room : ℕ) {why : Refusal} → firstOf (rows file editions book trip room) ≡ found why
       → (earlier ≡ found why) ⊎ ((earlier ≡ nothing) × ((why ≡ NoRoom) × (room < statementSize rides)))
   unfolding rows firstOf
   earlier-or-room room {why} e = go earlier refl
@@ -99,17 +99,17 @@ module _ (tariff : List ℕ) (counts : Counts) (book trip : List ℕ) where
 
       go : (f : Verdict) → earlier ≡ f → (earlier ≡ found why) ⊎ ((earlier ≡ nothing) × ((why ≡ NoRoom) × (room < statementSize rides)))
       go (found other) is =
-          let same : other ≡ why = cc (earlier-decides (earlierRows tariff counts book trip) (row NoRoom (ltb room (statementSize rides)) ∷ []) is) in
+          let same : other ≡ why = cc (earlier-decides (earlierRows file editions book trip) (row NoRoom (ltb room (statementSize rides)) ∷ []) is) in
           inl (is ∙ ap found same)
       go nothing is =
           inr (
             is,
             last-one (ltb room (statementSize rides)) refl
-                (sym (later-decides (earlierRows tariff counts book trip) (row NoRoom (ltb room (statementSize rides)) ∷ []) is) ∙ e),
+                (sym (later-decides (earlierRows file editions book trip) (row NoRoom (ltb room (statementSize rides)) ∷ []) is) ∙ e),
           )
 
   -- with room for the largest statement it is one of 4 to 11
-  pub enough-room : {why : Refusal} → firstOf (rows tariff counts book trip largestStatement) ≡ found why → earlier ≡ found why
+  pub enough-room : {why : Refusal} → firstOf (rows file editions book trip largestStatement) ≡ found why → earlier ≡ found why
   enough-room {why} e =
       ⊎-elim (λ is. is)
       (λ (small : (earlier ≡ nothing) × ((why ≡ NoRoom) × (largestStatement < statementSize rides))).
@@ -117,7 +117,7 @@ module _ (tariff : List ℕ) (counts : Counts) (book trip : List ℕ) where
       (earlier-or-room largestStatement e)
 
   -- where none is found, none of 4 to 11 holds; and with room for the largest statement the other way round
-  pub none-earlier : (room : ℕ) → firstOf (rows tariff counts book trip room) ≡ nothing → earlier ≡ nothing
+  pub none-earlier : (room : ℕ) → firstOf (rows file editions book trip room) ≡ nothing → earlier ≡ nothing
   unfolding rows
   none-earlier room e = go earlier refl
     where
@@ -125,53 +125,53 @@ module _ (tariff : List ℕ) (counts : Counts) (book trip : List ℕ) where
       go nothing is = is
       go (found why) is =
           absurd
-          (let z : _≡_ {A = ℕ} 0 1 = cc (earlier-decides (earlierRows tariff counts book trip) (row NoRoom (ltb room (statementSize rides)) ∷ []) is) in
+          (let z : _≡_ {A = ℕ} 0 1 = cc (earlier-decides (earlierRows file editions book trip) (row NoRoom (ltb room (statementSize rides)) ∷ []) is) in
           omega arith)
 
-  pub none-then : earlier ≡ nothing → firstOf (rows tariff counts book trip largestStatement) ≡ nothing
+  pub none-then : earlier ≡ nothing → firstOf (rows file editions book trip largestStatement) ≡ nothing
   none-then e = clear-with-room largestStatement e (few-bytes e)
 
 -- ---- The table of a posting.
 
-module _ (tariff : List ℕ) (counts : Counts) (book trip offered : List ℕ) where
-  pub posting-distinct : distinct (postingRows tariff counts book trip offered) ≡ true
+module _ (file : List ℕ) (editions : Editions) (book trip offered : List ℕ) where
+  pub posting-distinct : distinct (postingRows file editions book trip offered) ≡ true
   unfolding postingRows distinct has
   posting-distinct = refl
 
-  pub posting-range : inRange (refusal OtherRecord) (postingRows tariff counts book trip offered) ≡ true
-  unfolding postingRows inRange
+  pub posting-range : inRange (refusal OtherRecord) (postingRows file editions book trip offered) ≡ true
+  unfolding postingRows inRange numbered
   posting-range = refl
 
   -- 12 does not stand in it
-  pub no-room-row : has refusal (refusal NoRoom) (postingRows tariff counts book trip offered) ≡ false
+  pub no-room-row : has refusal (refusal NoRoom) (postingRows file editions book trip offered) ≡ false
   unfolding postingRows has
   no-room-row = refl
 
 -- ---- What a posting comes to.
 
-module _ (tariff : List ℕ) (counts : Counts) (book trip offered : List ℕ) where
-  pub posting-found : {why : Refusal} → firstOf (postingRows tariff counts book trip offered) ≡ found why → postedUnder tariff counts book trip offered ≡ unposted (refusal why) 0
+module _ (file : List ℕ) (editions : Editions) (book trip offered : List ℕ) where
+  pub posting-found : {why : Refusal} → firstOf (postingRows file editions book trip offered) ≡ found why → postedUnder file editions book trip offered ≡ unposted (refusal why) 0
   unfolding postedUnder
   posting-found e = rw (e, postedUnder)
 
-  pub posting-none : firstOf (postingRows tariff counts book trip offered) ≡ nothing → postedUnder tariff counts book trip offered ≡ renewed (bookWith tariff counts book trip)
+  pub posting-none : firstOf (postingRows file editions book trip offered) ≡ nothing → postedUnder file editions book trip offered ≡ renewed (bookWith file editions book trip)
   unfolding postedUnder
   posting-none e = rw (e, postedUnder)
 
   -- one of 4 to 11
-  pub posting-earlier : {why : Refusal} → earlier tariff counts book trip ≡ found why → firstOf (postingRows tariff counts book trip offered) ≡ found why
+  pub posting-earlier : {why : Refusal} → earlier file editions book trip ≡ found why → firstOf (postingRows file editions book trip offered) ≡ found why
   unfolding postingRows
-  posting-earlier e = earlier-decides (earlierRows tariff counts book trip) _ e
+  posting-earlier e = earlier-decides (earlierRows file editions book trip) _ e
 
   -- or none of them, and then 13 or nothing
   pub posting-last :
-      earlier tariff counts book trip ≡ nothing
-      → firstOf (postingRows tariff counts book trip offered)
-      ≡ cond (sameBytes (presentQuote tariff counts book trip) offered) nothing (found OtherRecord)
+      earlier file editions book trip ≡ nothing
+      → firstOf (postingRows file editions book trip offered)
+      ≡ cond (sameBytes (presentQuote file editions book trip) offered) nothing (found OtherRecord)
   unfolding postingRows firstOf
   posting-last e =
-      later-decides (earlierRows tariff counts book trip) (row OtherRecord (not (sameBytes (presentQuote tariff counts book trip) offered)) ∷ []) e
-      ∙ turned (sameBytes (presentQuote tariff counts book trip) offered)
+      later-decides (earlierRows file editions book trip) (row OtherRecord (not (sameBytes (presentQuote file editions book trip) offered)) ∷ []) e
+      ∙ turned (sameBytes (presentQuote file editions book trip) offered)
     where
       turned : (t : Bool) → cond (not t) (found OtherRecord) nothing ≡ cond t nothing (found OtherRecord)
       turned true = refl
@@ -179,39 +179,39 @@ module _ (tariff : List ℕ) (counts : Counts) (book trip offered : List ℕ) wh
 
   -- by what is decided with room for the largest statement
   pub posted-refused :
-      {why : Refusal} → decidedUnder tariff counts book trip largestStatement ≡ Refused why → postedUnder tariff counts book trip offered ≡ unposted (refusal why) 0
+      {why : Refusal} → decidedUnder file editions book trip largestStatement ≡ Refused why → postedUnder file editions book trip offered ≡ unposted (refusal why) 0
   posted-refused e =
-      posting-found (posting-earlier (enough-room tariff counts book trip (refused-found tariff counts book trip largestStatement e)))
+      posting-found (posting-earlier (enough-room file editions book trip (refused-found file editions book trip largestStatement e)))
 
-  pub unsound-posting : sound book (counts .areas) ≡ false → postedUnder tariff counts book trip offered ≡ unposted (refusal UnsoundBook) 0
+  pub unsound-posting : soundIn editions book ≡ false → postedUnder file editions book trip offered ≡ unposted (refusal UnsoundBook) 0
   unfolding postingRows
   unsound-posting is = posting-found (stop _ _ (rw is))
 
   pub posted-clear :
-      (fields : Trip) (window : Window) {breaking : Breaking} → decidedUnder tariff counts book trip largestStatement ≡ Clear fields window breaking
-      → postedUnder tariff counts book trip offered ≡ clearPosting tariff counts book trip fields window offered
+      (fields : Trip) (window : Window) {breaking : Breaking} → decidedUnder file editions book trip largestStatement ≡ Clear fields window breaking
+      → postedUnder file editions book trip offered ≡ clearPosting (tariffIn file editions (window .edition)) (countsIn editions (window .edition)) book trip fields window offered
   posted-clear fields window e =
-      let (no-one, (fields-are, (window-is, broken))) = clear-found tariff counts book trip largestStatement e in
-      let quote = ap quoteBytes (priced-under tariff counts book trip largestStatement fields window e) in
-      let last = posting-last (none-earlier tariff counts book trip largestStatement no-one) in
-      let book-is : bookWith tariff counts book trip ≡ tripPosted tariff counts book trip fields window = rw (fields-are, window-is) in
-      go (sameBytes (statementOf (tripParts tariff counts book trip fields window)) offered) (rw quote at last) book-is
+      let (no-one, (fields-are, (window-is, broken))) = clear-found file editions book trip largestStatement e in
+      let quote = ap quoteBytes (priced-under file editions book trip largestStatement fields window e) in
+      let last = posting-last (none-earlier file editions book trip largestStatement no-one) in
+      let book-is : bookWith file editions book trip ≡ tripPosted (tariffIn file editions (window .edition)) (countsIn editions (window .edition)) book trip fields window = rw (fields-are, window-is) in
+      go (sameBytes (statementOf (partsUnder file editions book trip fields window)) offered) (rw quote at last) book-is
     where
-      go : (t : Bool) → firstOf (postingRows tariff counts book trip offered) ≡ cond t nothing (found OtherRecord)
-          → bookWith tariff counts book trip ≡ tripPosted tariff counts book trip fields window
-          → postedUnder tariff counts book trip offered
-          ≡ cond t (renewed (tripPosted tariff counts book trip fields window)) (unposted (refusal OtherRecord) 0)
+      go : (t : Bool) → firstOf (postingRows file editions book trip offered) ≡ cond t nothing (found OtherRecord)
+          → bookWith file editions book trip ≡ tripPosted (tariffIn file editions (window .edition)) (countsIn editions (window .edition)) book trip fields window
+          → postedUnder file editions book trip offered
+          ≡ cond t (renewed (tripPosted (tariffIn file editions (window .edition)) (countsIn editions (window .edition)) book trip fields window)) (unposted (refusal OtherRecord) 0)
       go true is book-is = posting-none is ∙ ap renewed book-is
       go false is book-is = posting-found is
 
-module _ (tariff book trip offered : List ℕ) where
-  pub fault-posting : (number at : ℕ) → readTariff tariff ≡ Fault number at → postingOf tariff book trip offered ≡ unposted number at
+module _ (file book trip offered : List ℕ) where
+  pub fault-posting : (number at : ℕ) → readFile file ≡ Fault number at → postingOf file book trip offered ≡ unposted number at
   unfolding postingOf
   fault-posting number at e = rw (e, postingOf)
 
-  pub faultless-posting : (counts : Counts) → Read tariff counts → postingOf tariff book trip offered ≡ postedUnder tariff counts book trip offered
+  pub faultless-posting : (editions : Editions) → ReadFile file editions → postingOf file book trip offered ≡ postedUnder file editions book trip offered
   unfolding postingOf
-  faultless-posting counts read = rw (read, postingOf)
+  faultless-posting editions read = rw (read, postingOf)
 
 -- ---- The answers.
 

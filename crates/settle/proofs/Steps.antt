@@ -6,17 +6,17 @@ use native.Mathlib.Omega.{arith}
 use mathlib.Core.Path.{_≡_, refl, ap, _∙_}
 use mathlib.Core.Bool.{Bool, true, false, cond}
 use mathlib.Core.List.{List, [], _∷_}
-use Rattle.layout.specs.declared.Counts.{Counts}
-use Rattle.layout.specs.declared.Reading.{Reading}
-use Rattle.layout.specs.declared.Reading.the-variants.{Fault, Faultless}
-use Rattle.layout.specs.Scan.{readTariff, Read}
+use Rattle.editions.specs.declared.Editions.{Editions}
+use Rattle.editions.specs.declared.FileReading.{FileReading}
+use Rattle.editions.specs.declared.FileReading.the-variants.{Fault, Faultless}
+use Rattle.editions.specs.Reading.{readFile, ReadFile}
 use Rattle.statement.specs.Record.{Part, largestStatement, statementOf}
 use Rattle.deciding.specs.declared.decide.Decision.{Decision}
 use Rattle.deciding.specs.declared.decide.Decision.the-variants.{Refused, Clear}
 use Rattle.deciding.specs.declared.refusals.Refusal.the-variants.{OtherRecord}
 use Rattle.deciding.specs.Refusals.{refusal}
 use Rattle.deciding.specs.Deciding.{decidedUnder}
-use Rattle.settle.specs.Outcome.{accepted, tripParts, acceptedTrip, quoted, settled, partsPriced, bookAfter}
+use Rattle.settle.specs.Outcome.{accepted, partsUnder, acceptedTrip, quoted, settled, partsPriced, bookAfter}
 use Rattle.settle.specs.Posting.{sameBytes, unposted, renewed, postingOf}
 use Rattle.settle.specs.Runs.{Offer, runFrom, bookFrom}
 use Rattle.settle.specs.Steps.{
@@ -38,12 +38,12 @@ use Rattle.settle.proofs.Postings.{posted-refused, posted-clear, fault-
 
 -- ---- One step.
 
-module _ (tariff book trip offered : List ℕ) {new : List ℕ} {parts : List Part}
-    (is : postedIn (partsPriced (quoted tariff book trip largestStatement)) (postingOf tariff book trip offered) ≡ accepted new parts) where
+module _ (file book trip offered : List ℕ) {new : List ℕ} {parts : List Part}
+    (is : postedIn (partsPriced (quoted file book trip largestStatement)) (postingOf file book trip offered) ≡ accepted new parts) where
   -- A posting that is accepted is the trip's settling, with room for any trip's records.
-  pub posting-settles : settled tariff book trip largestStatement ≡ accepted new parts
+  pub posting-settles : settled file book trip largestStatement ≡ accepted new parts
   unfolding acceptedTrip
-  posting-settles = go (readTariff tariff) refl
+  posting-settles = go (readFile file) refl
     where
       by-bytes :
           (posted : List ℕ) (charged : List Part) (same : Bool)
@@ -53,42 +53,42 @@ module _ (tariff book trip offered : List ℕ) {new : List ℕ} {parts : List Pa
       by-bytes posted charged false e = absurd (let z : _≡_ {A = ℕ} 0 1 = cc in omega arith)
 
       decided :
-          (counts : Counts) → Read tariff counts → (d : Decision) → decidedUnder tariff counts book trip largestStatement ≡ d
-          → settled tariff book trip largestStatement ≡ accepted new parts
-      decided counts read (Refused why) e =
-          let e′ = faultless-posting tariff book trip offered counts read ∙ posted-refused tariff counts book trip offered e in
+          (editions : Editions) → ReadFile file editions → (d : Decision) → decidedUnder file editions book trip largestStatement ≡ d
+          → settled file book trip largestStatement ≡ accepted new parts
+      decided editions read (Refused why) e =
+          let e′ = faultless-posting file book trip offered editions read ∙ posted-refused file editions book trip offered e in
           absurd (let z : _≡_ {A = ℕ} 0 1 = cc (rw e′ at is) in omega arith)
-      decided counts read (Clear fields window breaking) e =
-          let quote = faultless-quote tariff book trip largestStatement counts read ∙ priced-under tariff counts book trip largestStatement fields window e in
-          let posts = faultless-posting tariff book trip offered counts read ∙ posted-clear tariff counts book trip offered fields window e in
-          faultless-way tariff book trip largestStatement counts read
-          ∙ accepted-under tariff counts book trip largestStatement fields window e
-          ∙ by-bytes _ _ (sameBytes (statementOf (tripParts tariff counts book trip fields window)) offered) (rw (quote, posts) at is)
+      decided editions read (Clear fields window breaking) e =
+          let quote = faultless-quote file book trip largestStatement editions read ∙ priced-under file editions book trip largestStatement fields window e in
+          let posts = faultless-posting file book trip offered editions read ∙ posted-clear file editions book trip offered fields window e in
+          faultless-way file book trip largestStatement editions read
+          ∙ accepted-under file editions book trip largestStatement fields window e
+          ∙ by-bytes _ _ (sameBytes (statementOf (partsUnder file editions book trip fields window)) offered) (rw (quote, posts) at is)
 
-      go : (r : Reading) → readTariff tariff ≡ r → settled tariff book trip largestStatement ≡ accepted new parts
+      go : (r : FileReading) → readFile file ≡ r → settled file book trip largestStatement ≡ accepted new parts
       go (Fault number at) e =
-          let e′ = fault-posting tariff book trip offered number at e in
+          let e′ = fault-posting file book trip offered number at e in
           absurd (let z : _≡_ {A = ℕ} 0 1 = cc (rw e′ at is) in omega arith)
-      go (Faultless counts) e = decided counts e (decidedUnder tariff counts book trip largestStatement) refl
+      go (Faultless editions) e = decided editions e (decidedUnder file editions book trip largestStatement) refl
 
 -- So it is with every step.
 pub step-settles :
-    (tariff book : List ℕ) (step : Step) {new : List ℕ} {parts : List Part} → stepOutcome tariff book step ≡ accepted new parts
-    → settled tariff book (offerOf step .bytes) (offerOf step .room) ≡ accepted new parts
+    (file book : List ℕ) (step : Step) {new : List ℕ} {parts : List Part} → stepOutcome file book step ≡ accepted new parts
+    → settled file book (offerOf step .bytes) (offerOf step .room) ≡ accepted new parts
 unfolding stepOutcome
-step-settles tariff book (settling o) is = is
-step-settles tariff book (posting trip offered) is = posting-settles tariff book trip offered is
+step-settles file book (settling o) is = is
+step-settles file book (posting trip offered) is = posting-settles file book trip offered is
 
 -- ---- Trips that are all settled are a run.
 
-pub settlings-run : (tariff book : List ℕ) (run : List Offer) → stepsFrom tariff book (settlings run) ≡ runFrom tariff book run
+pub settlings-run : (file book : List ℕ) (run : List Offer) → stepsFrom file book (settlings run) ≡ runFrom file book run
 unfolding eachFrom under settlings runFrom stepOutcome
-settlings-run tariff book [] = refl
-settlings-run tariff book (o ∷ run) =
-    let outcome = settled tariff book (o .bytes) (o .room) in
-    ap (record { book = book; offer = o; outcome = outcome } ∷_) (settlings-run tariff (bookAfter outcome book) run)
+settlings-run file book [] = refl
+settlings-run file book (o ∷ run) =
+    let outcome = settled file book (o .bytes) (o .room) in
+    ap (record { book = book; offer = o; outcome = outcome } ∷_) (settlings-run file (bookAfter outcome book) run)
 
-pub settlings-book : (tariff book : List ℕ) (run : List Offer) → bookAfterSteps tariff book (settlings run) ≡ bookFrom tariff book run
+pub settlings-book : (file book : List ℕ) (run : List Offer) → bookAfterSteps file book (settlings run) ≡ bookFrom file book run
 unfolding bookAfterEach under settlings bookFrom stepOutcome
-settlings-book tariff book [] = refl
-settlings-book tariff book (o ∷ run) = settlings-book tariff (bookAfter (settled tariff book (o .bytes) (o .room)) book) run
+settlings-book file book [] = refl
+settlings-book file book (o ∷ run) = settlings-book file (bookAfter (settled file book (o .bytes) (o .room)) book) run

@@ -6,6 +6,8 @@ use mathlib.Core.Bool.{true, cond}
 use lib.ListN.{length}
 use Rattle.units.specs.declared.Minutes.{Minutes}
 use Rattle.layout.specs.declared.Counts.{Counts}
+use Rattle.editions.specs.declared.Editions.{Editions}
+use Rattle.editions.specs.Editions.{startIn, endIn, countsIn}
 use Rattle.trip.specs.declared.Trip.{Trip}
 use Rattle.trip.specs.declared.Ride.{Ride}
 use Rattle.fare.specs.declared.Breaking.{Breaking}
@@ -13,12 +15,11 @@ use Rattle.fare.specs.declared.Breaking.the-variants.{Unbroken, At}
 use Rattle.statement.specs.Record.{recordSize, statementOf}
 use Rattle.statement.specs.Contracts.{Recordables, Wrote}
 use Rattle.ledger.specs.declared.Window.{Window}
-use Rattle.ledger.specs.Sound.{sound}
 use Rattle.charging.specs.After.{posted}
 use Rattle.posting.specs.Contracts.{Postable}
 use Rattle.deciding.specs.declared.decide.Decision.the-variants as decision
 use Rattle.deciding.specs.declared.refusals.Refusal.the-variants.{OtherRecord}
-use Rattle.deciding.specs.Refusals.{refusal}
+use Rattle.deciding.specs.Refusals.{refusal, soundIn}
 use Rattle.deciding.specs.Deciding.{decidedUnder}
 use Rattle.settle.specs.declared.Answer.{Answer}
 use Rattle.settle.specs.declared.Answer.the-variants.{Refused, Written}
@@ -37,6 +38,7 @@ use Rattle.settle.specs.Outcome.{
   postedAll,
   tripParts,
   tripPosted,
+  partsUnder,
   quotedUnder,
   quoted,
   settledUnder,
@@ -62,18 +64,19 @@ RidesStated tariff counts book bytes trip window statement statement′ r =
     Wrote (statementOf (tripParts tariff counts book bytes trip window)) statement 0 statement′ r
 
 -- what stating a trip comes to: the refusal that was decided; or the bytes of its records, and what posting them asks
-unfoldable pub statedUnder : List ℕ → Counts → List ℕ → List ℕ → ℕ → Stated
-statedUnder tariff counts book trip room =
-    elim (decidedUnder tariff counts book trip room) [
+unfoldable pub statedUnder : List ℕ → Editions → List ℕ → List ℕ → ℕ → Stated
+statedUnder file editions book trip room =
+    elim (decidedUnder file editions book trip room) [
       | decision.Refused why ↦ stated.Refused why
       | decision.Clear fields window breaking ↦
-          Records (length (statementOf (tripParts tariff counts book trip fields window))) window (fields .checkout) (fields .class)
+          Records (length (statementOf (partsUnder file editions book trip fields window))) window (fields .checkout) (fields .class)
+          (startIn editions (window .edition)) (endIn file editions (window .edition)) (countsIn editions (window .edition))
     ]
 
 -- so is the answer, and the statement is left as the quote leaves it
-pub record TripStated (tariff : List ℕ) (counts : Counts) (book trip statement statement′ : List ℕ) (r : Stated) : Type 0 where
-  pub answer : r ≡ statedUnder tariff counts book trip (length statement)
-  pub statement-is : statement′ ≡ quoteAfter (quotedUnder tariff counts book trip (length statement)) statement
+pub record TripStated (file : List ℕ) (editions : Editions) (book trip statement statement′ : List ℕ) (r : Stated) : Type 0 where
+  pub answer : r ≡ statedUnder file editions book trip (length statement)
+  pub statement-is : statement′ ≡ quoteAfter (quotedUnder file editions book trip (length statement)) statement
 
 -- ---- Posting.
 
@@ -123,9 +126,9 @@ pub record Told (outcome : Outcome) (book book′ statement statement′ : List 
   pub statement-is : statement′ ≡ statementAfter outcome statement
 
 -- and the book left behind is sound again
-pub record ToldSound (outcome : Outcome) (areas : ℕ) (book book′ statement statement′ : List ℕ) (r : Answer) : Type 0 where
+pub record ToldSound (outcome : Outcome) (editions : Editions) (book book′ statement statement′ : List ℕ) (r : Answer) : Type 0 where
   pub told : Told outcome book book′ statement statement′ r
-  pub sound-again : sound book′ areas ≡ true
+  pub sound-again : soundIn editions book′ ≡ true
 
 -- of a quote
 abbrev pub toldQuote : Quote → Answer
@@ -151,28 +154,28 @@ pub record PostingTold (posting : Posting) (book book′ : List ℕ) (r : Answer
 -- ---- What each function answers, of the slices at its entry and at its exit.
 
 -- `settle_next`
-abbrev pub NextSettled : List ℕ → Counts → List ℕ → List ℕ → List ℕ → List ℕ → List ℕ → Answer → Type 0
-NextSettled tariff counts book trip statement book′ statement′ r =
-    ToldSound (settledUnder tariff counts book trip (length statement)) (counts .areas) book book′ statement statement′ r
+abbrev pub NextSettled : List ℕ → Editions → List ℕ → List ℕ → List ℕ → List ℕ → List ℕ → Answer → Type 0
+NextSettled file editions book trip statement book′ statement′ r =
+    ToldSound (settledUnder file editions book trip (length statement)) editions book book′ statement statement′ r
 
 -- `settle_under`
-abbrev pub UnderSettled : List ℕ → Counts → List ℕ → List ℕ → List ℕ → List ℕ → List ℕ → Answer → Type 0
-UnderSettled tariff counts book trip statement book′ statement′ r =
-    Told (settledUnder tariff counts book trip (length statement)) book book′ statement statement′ r
+abbrev pub UnderSettled : List ℕ → Editions → List ℕ → List ℕ → List ℕ → List ℕ → List ℕ → Answer → Type 0
+UnderSettled file editions book trip statement book′ statement′ r =
+    Told (settledUnder file editions book trip (length statement)) book book′ statement statement′ r
 
 -- `settle`
 abbrev pub TripSettled : List ℕ → List ℕ → List ℕ → List ℕ → List ℕ → List ℕ → Answer → Type 0
-TripSettled tariff book trip statement book′ statement′ r =
-    Told (settled tariff book trip (length statement)) book book′ statement statement′ r
+TripSettled file book trip statement book′ statement′ r =
+    Told (settled file book trip (length statement)) book book′ statement statement′ r
 
 -- `quote_next`
-abbrev pub NextQuoted : List ℕ → Counts → List ℕ → List ℕ → List ℕ → List ℕ → Answer → Type 0
-NextQuoted tariff counts book trip statement statement′ r =
-    QuoteTold (quotedUnder tariff counts book trip (length statement)) statement statement′ r
+abbrev pub NextQuoted : List ℕ → Editions → List ℕ → List ℕ → List ℕ → List ℕ → Answer → Type 0
+NextQuoted file editions book trip statement statement′ r =
+    QuoteTold (quotedUnder file editions book trip (length statement)) statement statement′ r
 
 -- `quote`
 abbrev pub TripQuoted : List ℕ → List ℕ → List ℕ → List ℕ → List ℕ → Answer → Type 0
-TripQuoted tariff book trip statement statement′ r = QuoteTold (quoted tariff book trip (length statement)) statement statement′ r
+TripQuoted file book trip statement statement′ r = QuoteTold (quoted file book trip (length statement)) statement statement′ r
 
 -- where all conditions are clear: 13, or the book with the trip
 abbrev pub clearPosting : List ℕ → Counts → List ℕ → List ℕ → Trip → Window → List ℕ → Posting
@@ -181,9 +184,9 @@ clearPosting tariff counts book bytes trip window offered =
     (unposted (refusal OtherRecord) 0)
 
 -- `post_next`
-abbrev pub NextPosted : List ℕ → Counts → List ℕ → List ℕ → List ℕ → List ℕ → Answer → Type 0
-NextPosted tariff counts book trip offered book′ r = PostingTold (postedUnder tariff counts book trip offered) book book′ r
+abbrev pub NextPosted : List ℕ → Editions → List ℕ → List ℕ → List ℕ → List ℕ → Answer → Type 0
+NextPosted file editions book trip offered book′ r = PostingTold (postedUnder file editions book trip offered) book book′ r
 
 -- `post`
 abbrev pub TripPosted : List ℕ → List ℕ → List ℕ → List ℕ → List ℕ → Answer → Type 0
-TripPosted tariff book trip offered book′ r = PostingTold (postingOf tariff book trip offered) book book′ r
+TripPosted file book trip offered book′ r = PostingTold (postingOf file book trip offered) book book′ r

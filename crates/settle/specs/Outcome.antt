@@ -1,26 +1,27 @@
 -- docs/RULES.md, section 14: the one outcome of settling a trip, which is made of its quote: what it would be charged, told and not posted.
--- 1 to 3 are the tariff's; 4 to 12 stand in the table of deciding's `Refusals`.
+-- 1 to 3 are the file's; 4 to 12 stand in the table of deciding's `Refusals`.
 use Prim.Native.Nat.{ℕ, _+_, _*_, _^_}
 use mathlib.Core.Path.{_≡_}
 use mathlib.Core.List.{List, [], _∷_, _++_}
 use mathlib.Core.Bool.{true}
 use lib.ListN.{length, drop}
 use Rattle.layout.specs.declared.Counts.{Counts}
-use Rattle.layout.specs.declared.Reading.the-variants.{Fault, Faultless}
-use Rattle.layout.specs.Scan.{readTariff}
+use Rattle.editions.specs.declared.Editions.{Editions}
+use Rattle.editions.specs.declared.FileReading.the-variants.{Fault, Faultless}
+use Rattle.editions.specs.Editions.{countsIn, tariffIn}
+use Rattle.editions.specs.Reading.{readFile}
 use Rattle.trip.specs.declared.Trip.{Trip}
-use Rattle.trip.specs.Moments.{checkinOf, checkoutOf}
 use Rattle.trip.specs.Trips.{tripOf}
 use Rattle.trip.specs.declared.Ride.{Ride}
 use Rattle.fare.specs.Parts.{ridesOf}
 use Rattle.ledger.specs.declared.Window.{Window}
-use Rattle.ledger.specs.Windows.{windowOf, inWindow}
+use Rattle.ledger.specs.Windows.{inWindow}
 use Rattle.charging.specs.Charging.{chargesOf}
 use Rattle.charging.specs.Cuts.{cutsOf}
 use Rattle.charging.specs.After.{posted}
 use Rattle.statement.specs.Record.{Part, statementOf}
 use Rattle.deciding.specs.declared.decide.Decision.the-variants.{Refused, Clear}
-use Rattle.deciding.specs.Refusals.{refusal}
+use Rattle.deciding.specs.Refusals.{refusal, windowIn, tariffFor, countsFor}
 use Rattle.deciding.specs.Deciding.{decidedUnder}
 
 -- a quote: a refusal with its number and place; or the parts that the trip would be charged in
@@ -48,7 +49,7 @@ partOf tariff counts book window ride =
 
 -- the same window, which is open now, with one trip more
 unfoldable pub oneMore : Window → Window
-oneMore window = record { current = true; opening = window .opening; trips = window .trips + 1 }
+oneMore window = record { current = true; opening = window .opening; trips = window .trips + 1; edition = window .edition }
 
 -- rides one after another: each is charged on the book that those before it left
 unfoldable pub partsOf : List ℕ → Counts → List ℕ → Window → ℕ → List Ride → List Part
@@ -73,44 +74,50 @@ unfoldable pub acceptedTrip : List ℕ → Counts → List ℕ → List ℕ → 
 acceptedTrip tariff counts book bytes trip window =
     accepted (tripPosted tariff counts book bytes trip window) (tripParts tariff counts book bytes trip window)
 
--- the book that has the trip of some bytes, in the window that it belongs to or opens
-abbrev pub bookWith : List ℕ → Counts → List ℕ → List ℕ → List ℕ
-bookWith tariff counts book trip = tripPosted tariff counts book trip (tripOf trip) (windowOf book (checkinOf trip) (checkoutOf trip))
+-- under a file of editions: the parts in a window, by the tariff of its edition; and the book that has the trip of some bytes, in the window that
+-- it belongs to or opens
+abbrev pub partsUnder : List ℕ → Editions → List ℕ → List ℕ → Trip → Window → List Part
+partsUnder file editions book bytes trip window =
+    tripParts (tariffIn file editions (window .edition)) (countsIn editions (window .edition)) book bytes trip window
+
+abbrev pub bookWith : List ℕ → Editions → List ℕ → List ℕ → List ℕ
+bookWith file editions book trip =
+    tripPosted (tariffFor file editions book trip) (countsFor editions book trip) book trip (tripOf trip) (windowIn editions book trip)
 
 -- ---- The quote.
 
--- of a trip on a book, under a tariff without fault, with so many bytes of room for the records. 4 to 12 have no place
-unfoldable pub quotedUnder : List ℕ → Counts → List ℕ → List ℕ → ℕ → Quote
-quotedUnder tariff counts book trip room =
-    elim (decidedUnder tariff counts book trip room) [
+-- of a trip on a book, under a file without fault, with so many bytes of room for the records. 4 to 12 have no place
+unfoldable pub quotedUnder : List ℕ → Editions → List ℕ → List ℕ → ℕ → Quote
+quotedUnder file editions book trip room =
+    elim (decidedUnder file editions book trip room) [
       | Refused why ↦ unquoted (refusal why) 0
-      | Clear fields window breaking ↦ priced (tripParts tariff counts book trip fields window)
+      | Clear fields window breaking ↦ priced (partsUnder file editions book trip fields window)
     ]
 
--- under any byte string as a tariff. 1 to 3: the tariff's first fault, at its record's offset
+-- under any byte string as a file. 1 to 3: the file's first fault, at its record's offset
 unfoldable pub quoted : List ℕ → List ℕ → List ℕ → ℕ → Quote
-quoted tariff book trip room =
-    elim (readTariff tariff) [
+quoted file book trip room =
+    elim (readFile file) [
       | Fault number at ↦ unquoted number at
-      | Faultless counts ↦ quotedUnder tariff counts book trip room
+      | Faultless editions ↦ quotedUnder file editions book trip room
     ]
 
 -- ---- The outcome.
 
 -- the quote's refusal; or its parts, with the book that has them
-unfoldable pub settledUnder : List ℕ → Counts → List ℕ → List ℕ → ℕ → Outcome
-settledUnder tariff counts book trip room =
-    elim (quotedUnder tariff counts book trip room) [
+unfoldable pub settledUnder : List ℕ → Editions → List ℕ → List ℕ → ℕ → Outcome
+settledUnder file editions book trip room =
+    elim (quotedUnder file editions book trip room) [
       | unquoted number place ↦ refused number place
-      | priced parts ↦ accepted (bookWith tariff counts book trip) parts
+      | priced parts ↦ accepted (bookWith file editions book trip) parts
     ]
 
--- under any byte string as a tariff
+-- under any byte string as a file
 unfoldable pub settled : List ℕ → List ℕ → List ℕ → ℕ → Outcome
-settled tariff book trip room =
-    elim (readTariff tariff) [
+settled file book trip room =
+    elim (readFile file) [
       | Fault number at ↦ refused number at
-      | Faultless counts ↦ settledUnder tariff counts book trip room
+      | Faultless editions ↦ settledUnder file editions book trip room
     ]
 
 -- ---- What comes back.

@@ -1,4 +1,4 @@
--- Runs: trips settled one after another on one book under one tariff, first to last. Every beginning of a run is a run.
+-- Runs: trips settled one after another on one book under one file of editions, first to last. Every beginning of a run is a run.
 use Prim.Native.Nat.{ℕ}
 use mathlib.Core.List.{List, [], _∷_}
 use Rattle.settle.specs.Outcome.{Outcome, settled, bookAfter}
@@ -16,12 +16,12 @@ pub record Settlement : Type 0 where
 
 -- the settlements of a run that begins with a book
 unfoldable pub runFrom : List ℕ → List ℕ → List Offer → List Settlement
-runFrom tariff book [] = []
-runFrom tariff book (o ∷ run) =
-    let outcome = settled tariff book (o .bytes) (o .room) in
-    record { book = book; offer = o; outcome = outcome } ∷ runFrom tariff (bookAfter outcome book) run
+runFrom file book [] = []
+runFrom file book (o ∷ run) =
+    let outcome = settled file book (o .bytes) (o .room) in
+    record { book = book; offer = o; outcome = outcome } ∷ runFrom file (bookAfter outcome book) run
 
 -- the book that it leaves
 unfoldable pub bookFrom : List ℕ → List ℕ → List Offer → List ℕ
-bookFrom tariff book [] = book
-bookFrom tariff book (o ∷ run) = bookFrom tariff (bookAfter (settled tariff book (o .bytes) (o .room)) book) run
+bookFrom file book [] = book
+bookFrom file book (o ∷ run) = bookFrom file (bookAfter (settled file book (o .bytes) (o .room)) book) run

@@ -24,39 +24,39 @@ postedIn parts (renewed new) = accepted new parts
 
 -- what a step comes to on a book: settling's outcome; or the posting's, with the parts of the present quote
 unfoldable pub stepOutcome : List ℕ → List ℕ → Step → Outcome
-stepOutcome tariff book (settling o) = settled tariff book (o .bytes) (o .room)
-stepOutcome tariff book (posting trip offered) =
-    postedIn (partsPriced (quoted tariff book trip largestStatement)) (postingOf tariff book trip offered)
+stepOutcome file book (settling o) = settled file book (o .bytes) (o .room)
+stepOutcome file book (posting trip offered) =
+    postedIn (partsPriced (quoted file book trip largestStatement)) (postingOf file book trip offered)
 
--- ---- Runs, each step under a tariff of its own.
+-- ---- Runs, each step under a file of its own.
 
 pub record StepUnder : Type 0 where
-  pub tariff : List ℕ
+  pub file : List ℕ
   pub step : Step
 
 -- what the steps come to, from a book on
 unfoldable pub eachFrom : List ℕ → List StepUnder → List Settlement
 eachFrom book [] = []
 eachFrom book (s ∷ later) =
-    let outcome = stepOutcome (s .tariff) book (s .step) in
+    let outcome = stepOutcome (s .file) book (s .step) in
     record { book = book; offer = offerOf (s .step); outcome = outcome } ∷ eachFrom (bookAfter outcome book) later
 
 -- the book that they leave
 unfoldable pub bookAfterEach : List ℕ → List StepUnder → List ℕ
 bookAfterEach book [] = book
-bookAfterEach book (s ∷ later) = bookAfterEach (bookAfter (stepOutcome (s .tariff) book (s .step)) book) later
+bookAfterEach book (s ∷ later) = bookAfterEach (bookAfter (stepOutcome (s .file) book (s .step)) book) later
 
--- ---- Runs under one tariff.
+-- ---- Runs under one file.
 
 unfoldable pub under : List ℕ → List Step → List StepUnder
-under tariff [] = []
-under tariff (step ∷ steps) = record { tariff = tariff; step = step } ∷ under tariff steps
+under file [] = []
+under file (step ∷ steps) = record { file = file; step = step } ∷ under file steps
 
 abbrev pub stepsFrom : List ℕ → List ℕ → List Step → List Settlement
-stepsFrom tariff book steps = eachFrom book (under tariff steps)
+stepsFrom file book steps = eachFrom book (under file steps)
 
 abbrev pub bookAfterSteps : List ℕ → List ℕ → List Step → List ℕ
-bookAfterSteps tariff book steps = bookAfterEach book (under tariff steps)
+bookAfterSteps file book steps = bookAfterEach book (under file steps)
 
 -- trips that are all settled
 unfoldable pub settlings : List Offer → List Step

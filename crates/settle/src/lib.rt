@@ -7,15 +7,15 @@
 //
 // Decide first, write last: only where all conditions are clear are book and statement written.
 use deciding::ready::Readiness;
+use deciding::ready::is_sound_in;
 use deciding::ready::readiness_of;
 use deciding::refusals::Refusal;
 use deciding::refusals::number;
-use layout::Counts;
-use ledger::sound::is_sound;
+use editions::Editions;
 use records::post_records;
 use state::Stated;
 use state::state_trip;
-ghost use Rattle.layout.specs.Scan.{Read};
+ghost use Rattle.editions.specs.Reading.{ReadFile};
 ghost use Rattle.deciding.specs.Contracts.{Ready};
 ghost use Rattle.settle.specs.Contracts.{NextSettled, UnderSettled, TripSettled};
 
@@ -29,20 +29,20 @@ pub enum Answer {
     Written(usize),
 }
 
-// 5 to 12: on a book that is sound, which is left sound. What a roll does for each record, with neither tariff nor book looked through
-// again. A trip that meets no refusal is stated, then its records are posted.
+// 5 to 12: on a book that is sound, which is left sound. What a roll does for each record, with neither file nor book looked through again. A
+// trip that meets no refusal is stated, then its records are posted, both under the edition of its window.
 pub fn settle_next(
-    tariff: &[u8],
-    counts: Counts,
+    file: &[u8],
+    editions: Editions,
     book: &mut [u8],
     trip: &[u8],
     statement: &mut [u8],
 ) -> Answer
-    requires { ⌜ Ready (now tariff) counts (now book) ⌝ }
-    ensures { λ r. ⌜ NextSettled (now (tariff .entry)) counts (now (book .entry)) (now (trip .entry)) (now (statement .entry)) (now (book .exit))
+    requires { ⌜ Ready (now file) editions (now book) ⌝ }
+    ensures { λ r. ⌜ NextSettled (now (file .entry)) editions (now (book .entry)) (now (trip .entry)) (now (statement .entry)) (now (book .exit))
         (now (statement .exit)) r ⌝ }
 {
-    match state_trip(tariff, counts, book, trip, statement) {
+    match state_trip(file, editions, book, trip, statement) {
         Stated::Refused(why) => Answer::Refused {
             number: number(why),
             place: 0,
@@ -52,9 +52,12 @@ pub fn settle_next(
             window,
             checkout,
             class,
+            from,
+            to,
+            counts,
         } => {
             post_records(
-                tariff,
+                &file[from..to],
                 counts,
                 book,
                 window,
@@ -68,36 +71,36 @@ pub fn settle_next(
     }
 }
 
-// 4 to 12: under a tariff that was read and found faultless, on any byte string as a book. For whoever has something else to refuse
-// between the tariff and the book.
+// 4 to 12: under a file that was read and found faultless, on any byte string as a book. For whoever has something else to refuse between
+// the file and the book.
 pub fn settle_under(
-    tariff: &[u8],
-    counts: Counts,
+    file: &[u8],
+    editions: Editions,
     book: &mut [u8],
     trip: &[u8],
     statement: &mut [u8],
 ) -> Answer
-    requires { ⌜ Read (now tariff) counts ⌝ }
-    ensures { λ r. ⌜ UnderSettled (now (tariff .entry)) counts (now (book .entry)) (now (trip .entry)) (now (statement .entry)) (now (book .exit))
+    requires { ⌜ ReadFile (now file) editions ⌝ }
+    ensures { λ r. ⌜ UnderSettled (now (file .entry)) editions (now (book .entry)) (now (trip .entry)) (now (statement .entry)) (now (book .exit))
         (now (statement .exit)) r ⌝ }
 {
-    if !is_sound(book, counts.areas as usize) {
+    if !is_sound_in(editions, book) {
         return Answer::Refused {
             number: number(Refusal::UnsoundBook),
             place: 0,
         };
     }
-    settle_next(tariff, counts, book, trip, statement)
+    settle_next(file, editions, book, trip, statement)
 }
 
-// 1 to 12: under any byte string as a tariff. The charge records go to the start of the statement, and the book is brought up to date; a
+// 1 to 12: under any byte string as a file. The charge records go to the start of the statement, and the book is brought up to date; a
 // refusal touches neither. It does not go through `settle_under`, whose frame would come on top.
-pub fn settle(tariff: &[u8], book: &mut [u8], trip: &[u8], statement: &mut [u8]) -> Answer
-    ensures { λ r. ⌜ TripSettled (now (tariff .entry)) (now (book .entry)) (now (trip .entry)) (now (statement .entry)) (now (book .exit))
+pub fn settle(file: &[u8], book: &mut [u8], trip: &[u8], statement: &mut [u8]) -> Answer
+    ensures { λ r. ⌜ TripSettled (now (file .entry)) (now (book .entry)) (now (trip .entry)) (now (statement .entry)) (now (book .exit))
         (now (statement .exit)) r ⌝ }
 {
-    match readiness_of(tariff, book) {
+    match readiness_of(file, book) {
         Readiness::Refused { number, place } => Answer::Refused { number, place },
-        Readiness::Ready(counts) => settle_next(tariff, counts, book, trip, statement),
+        Readiness::Ready(editions) => settle_next(file, editions, book, trip, statement),
     }
 }

@@ -8,7 +8,7 @@ use deciding::ready::Readiness;
 use deciding::ready::readiness_of;
 use deciding::refusals::Refusal;
 use deciding::refusals::number;
-use layout::Counts;
+use editions::Editions;
 use statement::LARGEST_STATEMENT;
 ghost use mathlib.Core.Path.{_≡_};
 ghost use Rattle.deciding.specs.Contracts.{Ready};
@@ -17,16 +17,16 @@ ghost use Rattle.settle.specs.Contracts.{NextQuoted, TripQuoted, NextPos
 
 // 5 to 12: on a book that is sound.
 pub fn quote_next(
-    tariff: &[u8],
-    counts: Counts,
+    file: &[u8],
+    editions: Editions,
     book: &[u8],
     trip: &[u8],
     statement: &mut [u8],
 ) -> Answer
-    requires { ⌜ Ready (now tariff) counts (now book) ⌝ }
-    ensures { λ r. ⌜ NextQuoted (now (tariff .entry)) counts (now (book .entry)) (now (trip .entry)) (now (statement .entry)) (now (statement .exit)) r ⌝ }
+    requires { ⌜ Ready (now file) editions (now book) ⌝ }
+    ensures { λ r. ⌜ NextQuoted (now (file .entry)) editions (now (book .entry)) (now (trip .entry)) (now (statement .entry)) (now (statement .exit)) r ⌝ }
 {
-    match state_trip(tariff, counts, book, trip, statement) {
+    match state_trip(file, editions, book, trip, statement) {
         Stated::Refused(why) => Answer::Refused {
             number: number(why),
             place: 0,
@@ -36,17 +36,20 @@ pub fn quote_next(
             window: _,
             checkout: _,
             class: _,
+            from: _,
+            to: _,
+            counts: _,
         } => Answer::Written(size),
     }
 }
 
-// 1 to 12: under any byte string as a tariff. The charge records go to the start of the statement; a refusal does not touch it.
-pub fn quote(tariff: &[u8], book: &[u8], trip: &[u8], statement: &mut [u8]) -> Answer
-    ensures { λ r. ⌜ TripQuoted (now (tariff .entry)) (now (book .entry)) (now (trip .entry)) (now (statement .entry)) (now (statement .exit)) r ⌝ }
+// 1 to 12: under any byte string as a file. The charge records go to the start of the statement; a refusal does not touch it.
+pub fn quote(file: &[u8], book: &[u8], trip: &[u8], statement: &mut [u8]) -> Answer
+    ensures { λ r. ⌜ TripQuoted (now (file .entry)) (now (book .entry)) (now (trip .entry)) (now (statement .entry)) (now (statement .exit)) r ⌝ }
 {
-    match readiness_of(tariff, book) {
+    match readiness_of(file, book) {
         Readiness::Refused { number, place } => Answer::Refused { number, place },
-        Readiness::Ready(counts) => quote_next(tariff, counts, book, trip, statement),
+        Readiness::Ready(editions) => quote_next(file, editions, book, trip, statement),
     }
 }
 
@@ -66,17 +69,17 @@ fn same_bytes(bytes: &[u8], other: &[u8]) -> bool
 
 // 5 to 11 and 13: on a book that is sound. The buffer has room for every statement, so 12 is never met.
 pub fn post_next(
-    tariff: &[u8],
-    counts: Counts,
+    file: &[u8],
+    editions: Editions,
     book: &mut [u8],
     trip: &[u8],
     offered: &[u8],
 ) -> Answer
-    requires { ⌜ Ready (now tariff) counts (now book) ⌝ }
-    ensures { λ r. ⌜ NextPosted (now (tariff .entry)) counts (now (book .entry)) (now (trip .entry)) (now (offered .entry)) (now (book .exit)) r ⌝ }
+    requires { ⌜ Ready (now file) editions (now book) ⌝ }
+    ensures { λ r. ⌜ NextPosted (now (file .entry)) editions (now (book .entry)) (now (trip .entry)) (now (offered .entry)) (now (book .exit)) r ⌝ }
 {
     let mut quote = [0u8; LARGEST_STATEMENT];
-    match state_trip(tariff, counts, book, trip, &mut quote) {
+    match state_trip(file, editions, book, trip, &mut quote) {
         Stated::Refused(why) => Answer::Refused {
             number: number(why),
             place: 0,
@@ -86,6 +89,9 @@ pub fn post_next(
             window,
             checkout,
             class,
+            from,
+            to,
+            counts,
         } => {
             if !same_bytes(&quote[..size], offered) {
                 return Answer::Refused {
@@ -93,18 +99,27 @@ pub fn post_next(
                     place: 0,
                 };
             }
-            post_records(tariff, counts, book, window, checkout, class, &quote, size);
+            post_records(
+                &file[from..to],
+                counts,
+                book,
+                window,
+                checkout,
+                class,
+                &quote,
+                size,
+            );
             Answer::Written(book.len())
         }
     }
 }
 
-// 1 to 11 and 13: under any byte string as a tariff. The book is brought up to date; a refusal does not touch it.
-pub fn post_quote(tariff: &[u8], book: &mut [u8], trip: &[u8], offered: &[u8]) -> Answer
-    ensures { λ r. ⌜ TripPosted (now (tariff .entry)) (now (book .entry)) (now (trip .entry)) (now (offered .entry)) (now (book .exit)) r ⌝ }
+// 1 to 11 and 13: under any byte string as a file. The book is brought up to date; a refusal does not touch it.
+pub fn post_quote(file: &[u8], book: &mut [u8], trip: &[u8], offered: &[u8]) -> Answer
+    ensures { λ r. ⌜ TripPosted (now (file .entry)) (now (book .entry)) (now (trip .entry)) (now (offered .entry)) (now (book .exit)) r ⌝ }
 {
-    match readiness_of(tariff, book) {
+    match readiness_of(file, book) {
         Readiness::Refused { number, place } => Answer::Refused { number, place },
-        Readiness::Ready(counts) => post_next(tariff, counts, book, trip, offered),
+        Readiness::Ready(editions) => post_next(file, editions, book, trip, offered),
     }
 }

@@ -18,6 +18,7 @@ fn one_more(window: Window) -> Window
         current: true,
         opening,
         trips: window.trips + 1,
+        edition: window.edition,
     }
 }
 

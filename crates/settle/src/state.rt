@@ -4,6 +4,10 @@ use charging::state::state_ride;
 use deciding::decide::Decision;
 use deciding::decide::decide;
 use deciding::refusals::Refusal;
+use editions::Editions;
+use editions::counts_in;
+use editions::end_in;
+use editions::start_in;
 use fare::Breaking;
 use fare::rides::duration;
 use fare::rides::ride_between;
@@ -17,7 +21,8 @@ ghost use lib.ListN.{length};
 ghost use Rattle.deciding.specs.Contracts.{Ready, AllClear};
 ghost use Rattle.settle.specs.Contracts.{firstEnd, RidesStated, TripStated};
 
-// What stating a trip comes to: the refusal that it meets; or the bytes written, and what posting them asks.
+// What stating a trip comes to: the refusal that it meets; or the bytes written, and what posting them asks. The tariff of the window's edition
+// stands in the file between two places; that it is looked up once keeps settling's stack small.
 pub enum Stated {
     Refused(Refusal),
     Records {
@@ -25,6 +30,9 @@ pub enum Stated {
         window: Window,
         checkout: Minutes,
         class: u8,
+        from: usize,
+        to: usize,
+        counts: Counts,
     },
 }
 
@@ -71,27 +79,30 @@ fn state_rides(
     next
 }
 
-// 5 to 12, under a faultless tariff, on a sound book: the one body of settling, of a quote and of a posting.
+// 5 to 12, under a faultless file, on a sound book: the one body of settling, of a quote and of a posting. The window's edition settles the trip.
 pub fn state_trip(
-    tariff: &[u8],
-    counts: Counts,
+    file: &[u8],
+    editions: Editions,
     book: &[u8],
     trip: &[u8],
     statement: &mut [u8],
 ) -> Stated
-    requires { ⌜ Ready (now tariff) counts (now book) ⌝ }
-    ensures { λ r. ⌜ TripStated (now (tariff .entry)) counts (now (book .entry)) (now (trip .entry)) (now (statement .entry)) (now (statement .exit)) r ⌝ }
+    requires { ⌜ Ready (now file) editions (now book) ⌝ }
+    ensures { λ r. ⌜ TripStated (now (file .entry)) editions (now (book .entry)) (now (trip .entry)) (now (statement .entry)) (now (statement .exit)) r ⌝ }
 {
     // Borrowed anew, slices come in registers; else each caller keeps copies of them on the stack for us.
-    let tariff = &*tariff;
+    let file = &*file;
     let book = &*book;
     let trip = &*trip;
-    match decide(tariff, counts, book, trip, statement.len()) {
+    match decide(file, editions, book, trip, statement.len()) {
         Decision::Refused(why) => Stated::Refused(why),
         Decision::Clear(fields, window, breaking) => {
             let checkout = fields.checkout;
+            let from = start_in(editions, window.edition);
+            let to = end_in(file, editions, window.edition);
+            let counts = counts_in(editions, window.edition);
             let size = state_rides(
-                tariff,
+                &file[from..to],
                 counts,
                 book,
                 trip,
@@ -105,6 +116,9 @@ pub fn state_trip(
                 window,
                 checkout,
                 class: fields.class,
+                from,
+                to,
+                counts,
             }
         }
     }

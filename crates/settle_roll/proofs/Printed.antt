@@ -67,55 +67,55 @@ Few on = records (on .tally) < mostRecords
 
 -- the lines of bytes that are still to be settled
 linesLeft : List ℕ → Carried → List ℕ → List Line
-linesLeft tariff on roll = linesOf (recordsLeft on) tariff (on .book) roll
+linesLeft file on roll = linesOf (recordsLeft on) file (on .book) roll
 
 textLeft : List ℕ → Carried → List ℕ → List ℕ
-textLeft tariff on roll = restText (on .tally) (linesLeft tariff on roll)
+textLeft file on roll = restText (on .tally) (linesLeft file on roll)
 
-no-lines : (left : ℕ) (tariff book roll : List ℕ) → left ≤ 0 → linesOf left tariff book roll ≡ []
+no-lines : (left : ℕ) (file book roll : List ℕ) → left ≤ 0 → linesOf left file book roll ≡ []
 unfolding linesOf linesIn runFrom offersOf brokenIn
-no-lines left tariff book roll none = let zero-is : left ≡ 0 = omega arith in rw zero-is
+no-lines left file book roll none = let zero-is : left ≡ 0 = omega arith in rw zero-is
 
 -- what stands at the start of the bytes kept stands at the start of all that is left
-record SameStart (tariff book kept : List ℕ) (more : Bool) (rest : List ℕ) : Type 0 where
-  step : stepOf tariff book (kept ++ rest) false ≡ stepOf tariff book kept more
-  book-after : bookStep tariff book (kept ++ rest) false ≡ bookStep tariff book kept more
+record SameStart (file book kept : List ℕ) (more : Bool) (rest : List ℕ) : Type 0 where
+  step : stepOf file book (kept ++ rest) false ≡ stepOf file book kept more
+  book-after : bookStep file book (kept ++ rest) false ≡ bookStep file book kept more
 
 same-start :
-    (tariff book kept : List ℕ) (more : Bool) (rest : List ℕ) → Still more rest → (stepOf tariff book kept more ≡ More → ⊥)
-    → SameStart tariff book kept more rest
-same-start tariff book kept true rest still other =
-    let same = longer-same tariff book kept rest false other in record { step = same .0; book-after = same .1 }
-same-start tariff book kept false rest (inl more) other = absurd (false≢true more)
-same-start tariff book kept false rest (inr none) other =
+    (file book kept : List ℕ) (more : Bool) (rest : List ℕ) → Still more rest → (stepOf file book kept more ≡ More → ⊥)
+    → SameStart file book kept more rest
+same-start file book kept true rest still other =
+    let same = longer-same file book kept rest false other in record { step = same .0; book-after = same .1 }
+same-start file book kept false rest (inl more) other = absurd (false≢true more)
+same-start file book kept false rest (inr none) other =
     let all : kept ++ rest ≡ kept = rw none (append-nil kept) in record { step = rw all; book-after = rw all }
 
-module _ (tariff kept : List ℕ) (more : Bool) (on : Carried) (rest : List ℕ) (few : Few on) (still : Still more rest) where
+module _ (file kept : List ℕ) (more : Bool) (on : Carried) (rest : List ℕ) (few : Few on) (still : Still more rest) where
   abbrev step-here : Step
-  step-here = stepOf tariff (on .book) kept more
+  step-here = stepOf file (on .book) kept more
 
   abbrev book-here : List ℕ
-  book-here = bookStep tariff (on .book) kept more
+  book-here = bookStep file (on .book) kept more
 
   -- the lines of what is left, by what stands at its start
   left-lines :
       (step : Step) → step-here ≡ step → (step ≡ More → ⊥)
-      → linesLeft tariff on (kept ++ rest)
-      ≡ afterStep step (λ line used. linesOf (mostRecords - (records (on .tally) + 1)) tariff book-here (drop used (kept ++ rest)))
+      → linesLeft file on (kept ++ rest)
+      ≡ afterStep step (λ line used. linesOf (mostRecords - (records (on .tally) + 1)) file book-here (drop used (kept ++ rest)))
   unfolding linesLeft
   left-lines step e other =
-      let here = same-start tariff (on .book) kept more rest still (rw e other) in
+      let here = same-start file (on .book) kept more rest still (rw e other) in
       let one-left : mostRecords - records (on .tally) ≡ suc (mostRecords - (records (on .tally) + 1)) = omega (arith, few) in
       rw (one-left, lines-step, here .step, here .book-after, e)
 
   -- behind a record come the lines of the rest, on the book that it left
   left-record :
       (line : Line) (used : ℕ) → step-here ≡ Record line used
-      → linesLeft tariff on (kept ++ rest)
-      ≡ line ∷ linesOf (mostRecords - records (counted (on .tally) line)) tariff book-here (drop used kept ++ rest)
+      → linesLeft file on (kept ++ rest)
+      ≡ line ∷ linesOf (mostRecords - records (counted (on .tally) line)) file book-here (drop used kept ++ rest)
   unfolding afterStep
   left-record line used e =
-      let fits = record-within tariff (on .book) kept more line used e in
+      let fits = record-within file (on .book) kept more line used e in
       left-lines (Record line used) e (λ more. let z : _≡_ {A = ℕ} 0 1 = cc in omega arith)
       ∙ rw (counted-one (on .tally) line, drop-append-le used kept rest (fits .1))
 
@@ -123,7 +123,7 @@ module _ (tariff kept : List ℕ) (more : Bool) (on : Carried) (rest : List ℕ)
 
   record-text :
       (used : ℕ) (text : List ℕ) (after : Carried) → PutsRecord step-here (on .tally) used text (after .tally) → after .book ≡ book-here
-      → textLeft tariff on (kept ++ rest) ≡ text ++ textLeft tariff after (drop used kept ++ rest)
+      → textLeft file on (kept ++ rest) ≡ text ++ textLeft file after (drop used kept ++ rest)
   unfolding linesLeft textLeft
   record-text used text after put book-is =
       rw (put .text-is, put .after-is, book-is, ← rest-more (on .tally) (put .line), ← left-record (put .line) used (put .is))
@@ -136,7 +136,7 @@ module _ (tariff kept : List ℕ) (more : Bool) (on : Carried) (rest : List ℕ)
 
   -- ---- The last turn's text.
 
-  over-text : {text : List ℕ} (step : Step) → step-here ≡ step → told.Ends (on .tally) text step → textLeft tariff on (kept ++ rest) ≡ text
+  over-text : {text : List ℕ} (step : Step) → step-here ≡ step → told.Ends (on .tally) text step → textLeft file on (kept ++ rest) ≡ text
   unfolding afterStep textLeft
   over-text End e (at-end is) =
       let none = left-lines End e (λ more. let z : _≡_ {A = ℕ} 0 1 = cc in omega arith) in rw none (rest-none (on .tally)) ∙ sym is
@@ -144,53 +144,53 @@ module _ (tariff kept : List ℕ) (more : Bool) (on : Carried) (rest : List ℕ)
       let only = left-lines Broken e (λ more. let z : _≡_ {A = ℕ} 0 1 = cc in omega arith) in
       sym (is ∙ rw (only, rest-more (on .tally) (Refused 5) [], rest-none (counted (on .tally) (Refused 5))))
   over-text (Record line used) e (at-last all is) =
-      let only = left-record line used e ∙ ap (line ∷_) (no-lines _ tariff _ _ (omega (arith, all))) in
+      let only = left-record line used e ∙ ap (line ∷_) (no-lines _ file _ _ (omega (arith, all))) in
       sym (is ∙ rw (only, rest-more (on .tally) line [], rest-none (counted (on .tally) line)))
 
 -- ---- All turns.
 
-module _ (tariff : List ℕ) where
-  tells : Tells (turnUnder tariff) Few (textLeft tariff)
+module _ (file : List ℕ) where
+  tells : Tells (turnUnder file) Few (textLeft file)
   unfolding turnUnder
   tells =
       record {
         at-put =
             λ kept more on rest used text after few still e.
-            let did = puts-by (bookStep tariff (on .book) kept more) (effectOf (stepOf tariff (on .book) kept more) (on .tally)) e in
-            let put = puts-record (stepOf tariff (on .book) kept more) (on .tally) (did .0) in (
-              after-record tariff kept more on rest few still used text (after .tally) put,
-              record-text tariff kept more on rest few still used text after put (did .1),
+            let did = puts-by (bookStep file (on .book) kept more) (effectOf (stepOf file (on .book) kept more) (on .tally)) e in
+            let put = puts-record (stepOf file (on .book) kept more) (on .tally) (did .0) in (
+              after-record file kept more on rest few still used text (after .tally) put,
+              record-text file kept more on rest few still used text after put (did .1),
             );
         at-end =
             λ kept more on rest text few still e.
-            let did = ends-with (bookStep tariff (on .book) kept more) (effectOf (stepOf tariff (on .book) kept more) (on .tally)) e in
-            over-text tariff kept more on rest few still _ refl (ends-by _ (on .tally) did);
+            let did = ends-with (bookStep file (on .book) kept more) (effectOf (stepOf file (on .book) kept more) (on .tally)) e in
+            over-text file kept more on rest few still _ refl (ends-by _ (on .tally) did);
       }
 
   -- What is written from the start on is the text of the roll's lines.
   pub printed :
-      (roll texts : List ℕ) → Prints (turnUnder tariff) start roll texts → texts ≡ textOf (linesOf mostRecords tariff freshBook roll)
+      (roll texts : List ℕ) → Prints (turnUnder file) start roll texts → texts ≡ textOf (linesOf mostRecords file freshBook roll)
   unfolding linesLeft textLeft start
   printed roll texts prints =
-      run.printed tells prints (omega arith) (inl refl) ∙ all-text (linesOf mostRecords tariff freshBook roll)
+      run.printed tells prints (omega arith) (inl refl) ∙ all-text (linesOf mostRecords file freshBook roll)
 
-  ends-all : Ends (turnUnder tariff) Few recordsLeft
+  ends-all : Ends (turnUnder file) Few recordsLeft
   unfolding turnUnder
   ends-all =
       record {
         at-put =
             λ kept more on used text after few e.
-            let did = puts-by (bookStep tariff (on .book) kept more) (effectOf (stepOf tariff (on .book) kept more) (on .tally)) e in
-            let put = puts-record (stepOf tariff (on .book) kept more) (on .tally) (did .0) in
+            let did = puts-by (bookStep file (on .book) kept more) (effectOf (stepOf file (on .book) kept more) (on .tally)) e in
+            let put = puts-record (stepOf file (on .book) kept more) (on .tally) (did .0) in
             let one = counted-one (on .tally) (put .line) in
             let not-all = eqb-false (records (counted (on .tally) (put .line))) mostRecords (put .not-last) in
             (rw (put .after-is) (omega (arith, few)), rw (put .after-is) (omega (arith, few)));
         at-asks =
             λ kept more on e.
-            more-short tariff (on .book) kept more (asks-more _ _ (asks-by _ (effectOf (stepOf tariff (on .book) kept more) (on .tally)) e)) .0;
+            more-short file (on .book) kept more (asks-more _ _ (asks-by _ (effectOf (stepOf file (on .book) kept more) (on .tally)) e)) .0;
       }
 
   -- Every roll is run through.
-  pub runs : (roll : List ℕ) → (texts : List ℕ) × Prints (turnUnder tariff) start roll texts
+  pub runs : (roll : List ℕ) → (texts : List ℕ) × Prints (turnUnder file) start roll texts
   unfolding start
   runs roll = run.runs ends-all start roll (omega arith)

@@ -13,7 +13,7 @@ use Rattle.streams.specs.Runs.{State, puts, ends, turnAt}
 use Rattle.streams.specs.Flows.{inputSize, outputSize, Inside, InRange, unused, CameMore, Made, left, Advanced}
 use Rattle.streams.proofs.Steps.{onward, unused-length, more-room, fed-on, stopped, put-on, put-out, at-last, on-is, writing-is, last-is}
 use Rattle.ledger.specs.Words.{freshBook}
-use Rattle.layout.specs.declared.Counts.{Counts}
+use Rattle.editions.specs.declared.Editions.{Editions}
 use Rattle.roll.specs.Pieces.{stepOf}
 use Rattle.roll.proofs.Starts.{more-stays}
 use Rattle.text.specs.Contracts.{Behind}
@@ -53,15 +53,15 @@ begins fresh put = same-start fresh put
 
 -- What a turn leaves of the bytes that are not settled yet.
 module _
-    {tariff : List ℕ} {counts : Counts} {book out book′ out′ : List ℕ} {run : Run} {t : Turn} (input : List ℕ) (r : InRange mostTurn (run .flow))
+    {file : List ℕ} {editions : Editions} {book out book′ out′ : List ℕ} {run : Run} {t : Turn} (input : List ℕ) (r : InRange mostTurn (run .flow))
     (size : length input ≡ inputSize)
-    (turned : Turned tariff counts book (unused (run .flow) input) (run .flow .more) (run .tally) out (run .flow .end) book′ out′ t)
+    (turned : Turned file editions book (unused (run .flow) input) (run .flow .more) (run .tally) out (run .flow .end) book′ out′ t)
   where
     abbrev before : State Carried
     before = reached run book input out
 
     abbrev effect : lines.Effect
-    effect = lines.effectOf (stepOf tariff book (unused (run .flow) input) (run .flow .more)) (run .tally)
+    effect = lines.effectOf (stepOf file book (unused (run .flow) input) (run .flow .more)) (run .tally)
 
     -- where its record is not whole yet, there is room for more bytes
     pub room-for-more : t ≡ turn.More → (run .flow .more ≡ true) × (run .flow .to < run .flow .from + inputSize)
@@ -71,17 +71,17 @@ module _
 
     pub asked-on :
         (input′ : List ℕ) (next : Flowed) → t ≡ turn.More → CameMore (run .flow) input input′ next
-        → Advanced (turnUnder tariff) mostTurn recordsLeft (run .flow) before input′ out′ (nextOn book′ (wentOn next (run .tally)))
+        → Advanced (turnUnder file) mostTurn recordsLeft (run .flow) before input′ out′ (nextOn book′ (wentOn next (run .tally)))
     unfolding turnAt turnUnder onBook
     asked-on input′ (flowed.On next) is came =
         let d = asked-by (subst (λ (t : Turn). Did out (run .flow .end) out′ effect t) is (turned .did)) in
-        let stays = turned .book-is ∙ more-stays tariff book (unused (run .flow) input) (run .flow .more) (asks-more _ _ (d .0)) in
+        let stays = turned .book-is ∙ more-stays file book (unused (run .flow) input) (run .flow .more) (asks-more _ _ (d .0)) in
         rw stays
-        (fed-on (turnUnder tariff) recordsLeft (run .flow) (before .carried) input out r size input′ out′ next (rw (d .0)) (d .1) came)
+        (fed-on (turnUnder file) recordsLeft (run .flow) (before .carried) input out r size input′ out′ next (rw (d .0)) (d .1) came)
     asked-on input′ (flowed.Write end next) is came = absurd came
     asked-on input′ (flowed.Stopped end) is came =
         let d = asked-by (subst (λ (t : Turn). Did out (run .flow .end) out′ effect t) is (turned .did)) in
-        stopped (turnUnder tariff) recordsLeft (run .flow) (before .carried) input out r size end input′ out′ (rw (d .0)) (d .1) came
+        stopped (turnUnder file) recordsLeft (run .flow) (before .carried) input out r size end input′ out′ (rw (d .0)) (d .1) came
 
     -- a record is used whole, and another may come
     module _ {used end : ℕ} {tally : Tally} (is : t ≡ turn.On used end tally) where
@@ -107,15 +107,15 @@ module _
 
       pub on-made :
           (next : Flowed) → Made mostTurn (onward (run .flow) used end) next
-          → Advanced (turnUnder tariff) mostTurn recordsLeft (run .flow) before input out′ (nextOn book′ (wentOn next tally))
+          → Advanced (turnUnder file) mostTurn recordsLeft (run .flow) before input out′ (nextOn book′ (wentOn next tally))
       unfolding turnAt turnUnder onBook
       on-made (flowed.On next) made =
           rw (turned .book-is)
-          (put-on (turnUnder tariff) recordsLeft (run .flow) (before .carried) input out r size used end out′ (rw (did .1))
+          (put-on (turnUnder file) recordsLeft (run .flow) (before .carried) input out r size used end out′ (rw (did .1))
           (did .2 .put) (facts .0) (omega (arith, facts .1 .1 .1, facts .1 .1 .0 .few)) next made)
       on-made (flowed.Write upto next) made =
           rw (turned .book-is)
-          (put-out (turnUnder tariff) recordsLeft (run .flow) (before .carried) input out r size used end out′ (rw (did .1))
+          (put-out (turnUnder file) recordsLeft (run .flow) (before .carried) input out r size used end out′ (rw (did .1))
           (did .2 .put) (facts .0) (omega (arith, facts .1 .1 .1, facts .1 .1 .0 .few)) upto next made)
       on-made (flowed.Stopped upto) made = absurd made
 
@@ -126,10 +126,10 @@ module _
           × Behind text mostTurn out (run .flow .end) out′ end
       did-last = ended-by (subst (λ (t : Turn). Did out (run .flow .end) out′ effect t) is (turned .did))
 
-      pub over : Advanced (turnUnder tariff) mostTurn recordsLeft (run .flow) before input out′ (nextOn book′ (Last end))
+      pub over : Advanced (turnUnder file) mostTurn recordsLeft (run .flow) before input out′ (nextOn book′ (Last end))
       unfolding turnAt turnUnder onBook
       over =
-          at-last (turnUnder tariff) recordsLeft (run .flow) (before .carried) input out r size end out′ (rw (did-last .1))
+          at-last (turnUnder file) recordsLeft (run .flow) (before .carried) input out r size end out′ (rw (did-last .1))
           (did-last .2 .put) (omega (arith, did-last .2 .room, r .room-left))
 
 pub still-counting : (next : Flowed) (tally : Tally) → Counting tally → StillCounting (wentOn next tally)
@@ -138,24 +138,24 @@ still-counting (flowed.Write end next) tally counting = counting
 still-counting (flowed.Stopped end) tally counting = tt
 
 -- What is known after a step, by its answer.
-module _ (tariff : List ℕ) {flow₀ : Flow} {s : State Carried} (book : List ℕ) {input out : List ℕ} where
+module _ (file : List ℕ) {flow₀ : Flow} {s : State Carried} (book : List ℕ) {input out : List ℕ} where
   pub on-by :
-      {t : Next} {next : Run} → Advanced (turnUnder tariff) mostTurn recordsLeft flow₀ s input out (nextOn book t) → t ≡ On next
+      {t : Next} {next : Run} → Advanced (turnUnder file) mostTurn recordsLeft flow₀ s input out (nextOn book t) → t ≡ On next
       → InRange mostTurn (next .flow)
       × (left recordsLeft (next .flow) (record { book = book; tally = next .tally }) < left recordsLeft flow₀ (s .carried))
-  on-by a is = on-is (subst (λ (t : Next). Advanced (turnUnder tariff) mostTurn recordsLeft flow₀ s input out (nextOn book t)) is a)
+  on-by a is = on-is (subst (λ (t : Next). Advanced (turnUnder file) mostTurn recordsLeft flow₀ s input out (nextOn book t)) is a)
 
   pub writing-by :
-      {t : Next} {end : ℕ} {next : Run} → Advanced (turnUnder tariff) mostTurn recordsLeft flow₀ s input out (nextOn book t) → t ≡ Write end next
+      {t : Next} {end : ℕ} {next : Run} → Advanced (turnUnder file) mostTurn recordsLeft flow₀ s input out (nextOn book t) → t ≡ Write end next
       → (end ≤ outputSize)
       × (InRange mostTurn (next .flow)
       × (left recordsLeft (next .flow) (record { book = book; tally = next .tally }) < left recordsLeft flow₀ (s .carried)))
-  writing-by a is = writing-is (subst (λ (t : Next). Advanced (turnUnder tariff) mostTurn recordsLeft flow₀ s input out (nextOn book t)) is a)
+  writing-by a is = writing-is (subst (λ (t : Next). Advanced (turnUnder file) mostTurn recordsLeft flow₀ s input out (nextOn book t)) is a)
 
   pub last-by :
-      {t : Next} {end : ℕ} → Advanced (turnUnder tariff) mostTurn recordsLeft flow₀ s input out (nextOn book t) → t ≡ Last end
+      {t : Next} {end : ℕ} → Advanced (turnUnder file) mostTurn recordsLeft flow₀ s input out (nextOn book t) → t ≡ Last end
       → end ≤ outputSize
-  last-by a is = last-is (subst (λ (t : Next). Advanced (turnUnder tariff) mostTurn recordsLeft flow₀ s input out (nextOn book t)) is a)
+  last-by a is = last-is (subst (λ (t : Next). Advanced (turnUnder file) mostTurn recordsLeft flow₀ s input out (nextOn book t)) is a)
 
 pub counting-by : {t : Next} {next : Run} → StillCounting t → t ≡ On next → Counting (next .tally)
 counting-by counting is = subst (λ (t : Next). StillCounting t) is counting

@@ -7,7 +7,7 @@ use Rattle.streams.specs.declared.flow.Flowed.the-variants as flowed
 use Rattle.streams.specs.Runs.{State}
 use Rattle.streams.specs.Flows.{Buffers, InRange, stateOf, Advanced}
 use Rattle.streams.specs.Flows as flow
-use Rattle.layout.specs.declared.Counts.{Counts}
+use Rattle.editions.specs.declared.Editions.{Editions}
 use Rattle.deciding.specs.Contracts.{Ready}
 use Rattle.roll.specs.Lines.{mostRecords}
 use Rattle.lines.specs.declared.tally.Tally.{Tally}
@@ -18,9 +18,9 @@ use Rattle.settle_roll.specs.declared.run.Next.{Next}
 use Rattle.settle_roll.specs.declared.run.Next.the-variants.{On, Write, Last}
 use Rattle.settle_roll.specs.Prints.{Carried, turnUnder, start}
 
--- what a step asks: a faultless tariff, a sound book, buffers of their sizes, room for a turn, and that a record may come
-pub record Running (tariff : List ℕ) (counts : Counts) (book input out : List ℕ) (run : Run) : Type 0 where
-  pub ready : Ready tariff counts book
+-- what a step asks: a faultless file, a sound book, buffers of their sizes, room for a turn, and that a record may come
+pub record Running (file : List ℕ) (editions : Editions) (book input out : List ℕ) (run : Run) : Type 0 where
+  pub ready : Ready file editions book
   pub sizes : Buffers input out
   pub range : InRange mostTurn (run .flow)
   pub counting : Counting (run .tally)
@@ -51,15 +51,15 @@ StillCounting (On run) = Counting (run .tally)
 StillCounting (Write end run) = Counting (run .tally)
 StillCounting (Last end) = Unit {0}
 
--- the tariff and the book are still as a step asks, and the run has advanced
+-- the file and the book are still as a step asks, and the run has advanced
 pub record StepTaken
-    (tariff : List ℕ) (counts : Counts) (run : Run) (book input out book′ input′ out′ : List ℕ) (r : Next)
+    (file : List ℕ) (editions : Editions) (run : Run) (book input out book′ input′ out′ : List ℕ) (r : Next)
     : Type 0 where
-  pub again : Ready tariff counts book′
+  pub again : Ready file editions book′
   pub counting : StillCounting r
-  pub advanced : Advanced (turnUnder tariff) mostTurn recordsLeft (run .flow) (reached run book input out) input′ out′ (nextOn book′ r)
+  pub advanced : Advanced (turnUnder file) mostTurn recordsLeft (run .flow) (reached run book input out) input′ out′ (nextOn book′ r)
 
 -- what the loop asks: it begins at the start
-pub record Begun (tariff : List ℕ) (counts : Counts) (book input out : List ℕ) (run : Run) : Type 0 where
-  pub running : Running tariff counts book input out run
+pub record Begun (file : List ℕ) (editions : Editions) (book input out : List ℕ) (run : Run) : Type 0 where
+  pub running : Running file editions book input out run
   pub at-start : reached run book input out ≡ start

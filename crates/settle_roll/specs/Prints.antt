@@ -20,10 +20,10 @@ onBook book lines.asks = asks
 onBook book (lines.puts used text tally) = puts used text (record { book = book; tally = tally })
 onBook book (lines.ends text) = ends text
 
--- the turn that comes, under a tariff
+-- the turn that comes, under a file
 unfoldable pub turnUnder : List ℕ → Turns Carried
-turnUnder tariff kept more on =
-    onBook (bookStep tariff (on .book) kept more) (lines.effectOf (stepOf tariff (on .book) kept more) (on .tally))
+turnUnder file kept more on =
+    onBook (bookStep file (on .book) kept more) (lines.effectOf (stepOf file (on .book) kept more) (on .tally))
 
 -- a run begins with a fresh book and the header
 unfoldable pub start : State Carried

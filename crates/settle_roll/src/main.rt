@@ -3,12 +3,12 @@
 //
 // input.rt   the tariff's first bytes
 // run.rt     the roll, turn by turn
+use editions::DECIDING_BYTES;
+use editions::FileReading;
+use editions::read_file;
 use input::load_tariff;
-use layout::Reading;
-use layout::fields::DECIDING_BYTES;
 use lines::texts::put_fault;
 use run::settle_roll;
-use scan::read_tariff;
 use streams::output::write;
 
 mod input;
@@ -22,19 +22,19 @@ fn print_fault(number: u8, at: usize) {
 }
 
 // A refused tariff gives its one line; under any other the roll is settled.
-fn settle_or_refuse(tariff: &[u8]) {
-    match read_tariff(tariff) {
-        Reading::Fault { number, at } => print_fault(number, at),
-        Reading::Faultless(counts) => settle_roll(tariff, counts),
+fn settle_or_refuse(file: &[u8]) {
+    match read_file(file) {
+        FileReading::Fault { number, at } => print_fault(number, at),
+        FileReading::Faultless(editions) => settle_roll(file, editions),
     }
 }
 
 fn main() {
-    let mut tariff = [0u8; DECIDING_BYTES];
-    let got = load_tariff(&mut tariff);
+    let mut file = [0u8; DECIDING_BYTES];
+    let got = load_tariff(&mut file);
     if got.failed {
         return;
     }
     let bytes = got.bytes;
-    settle_or_refuse(&tariff[..bytes]);
+    settle_or_refuse(&file[..bytes]);
 }

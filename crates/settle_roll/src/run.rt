@@ -1,5 +1,5 @@
 // The roll, turn by turn, on one book.
-use layout::Counts;
+use editions::Editions;
 use lines::tally::Tally;
 use lines::texts::put_header;
 use lines::turns::ROOM;
@@ -15,7 +15,7 @@ use streams::flow::make_room;
 use streams::flow::read_more;
 use streams::output::write;
 ghost use mathlib.Core.Path.{_≡_};
-ghost use Rattle.layout.specs.Scan.{Read};
+ghost use Rattle.editions.specs.Reading.{ReadFile};
 ghost use Rattle.roll.specs.Contracts.{StatementRoom};
 ghost use Rattle.settle_roll.specs.Contracts.{Running, wentOn, StepTaken, Begun};
 
@@ -51,16 +51,16 @@ fn go_on(flowed: Flowed, tally: Tally) -> Next
 
 // A turn, and what it asks for: bytes read, or bytes to be written.
 fn take_step(
-    tariff: &[u8],
-    counts: Counts,
+    file: &[u8],
+    editions: Editions,
     book: &mut [u8],
     input: &mut [u8],
     out: &mut [u8],
     statement: &mut [u8],
     run: Run,
 ) -> Next
-    requires { ⌜ Running (now tariff) counts (now book) (now input) (now out) run × StatementRoom (now statement) ⌝ }
-    ensures { λ r. ⌜ StepTaken (now (tariff .entry)) counts run (now (book .entry)) (now (input .entry)) (now (out .entry))
+    requires { ⌜ Running (now file) editions (now book) (now input) (now out) run × StatementRoom (now statement) ⌝ }
+    ensures { λ r. ⌜ StepTaken (now (file .entry)) editions run (now (book .entry)) (now (input .entry)) (now (out .entry))
         (now (book .exit)) (now (input .exit)) (now (out .exit)) r ⌝ }
 {
     let flow = run.flow;
@@ -68,8 +68,8 @@ fn take_step(
     let to = flow.to;
     let more = flow.more;
     match take_turn(
-        tariff,
-        counts,
+        file,
+        editions,
         book,
         &input[from..to],
         more,
@@ -94,19 +94,19 @@ fn take_step(
 
 // Turn after turn, until the run is over. All that is written is written here, as each step tells it: this loop and `write` are trusted.
 fn settle_all(
-    tariff: &[u8],
-    counts: Counts,
+    file: &[u8],
+    editions: Editions,
     book: &mut [u8],
     input: &mut [u8],
     out: &mut [u8],
     statement: &mut [u8],
     first: Run,
 )
-    requires { ⌜ Begun (now tariff) counts (now book) (now input) (now out) first × StatementRoom (now statement) ⌝ }
+    requires { ⌜ Begun (now file) editions (now book) (now input) (now out) first × StatementRoom (now statement) ⌝ }
 {
     let mut run = first;
     loop {
-        match take_step(tariff, counts, book, input, out, statement, run) {
+        match take_step(file, editions, book, input, out, statement, run) {
             Next::On(on) => {
                 run = on;
             }
@@ -124,9 +124,9 @@ fn settle_all(
     }
 }
 
-// The roll from standard input, under a faultless tariff, from a fresh book.
-pub fn settle_roll(tariff: &[u8], counts: Counts)
-    requires { ⌜ Read (now tariff) counts ⌝ }
+// The roll from standard input, under a faultless file, from a fresh book.
+pub fn settle_roll(file: &[u8], editions: Editions)
+    requires { ⌜ ReadFile (now file) editions ⌝ }
 {
     let mut book = fresh_book();
     let mut input = [0u8; INPUT];
@@ -147,8 +147,8 @@ pub fn settle_roll(tariff: &[u8], counts: Counts)
         },
     };
     settle_all(
-        tariff,
-        counts,
+        file,
+        editions,
         &mut book,
         &mut input,
         &mut out,

@@ -5,17 +5,21 @@ use areas::area;
 use deciding::decide::Decision;
 use deciding::decide::decide;
 use deciding::refusals::number;
+use editions::Edition;
+use editions::Editions;
+use editions::FileReading;
+use editions::counts_in;
+use editions::read_file;
+use editions::tariff_in;
 use fare::Breaking;
 use fare::parts::first_part;
 use fare::parts::second_part;
 use fare::rides::ride_of;
 use layout::Counts;
-use layout::Reading;
 use ledger::words::SIZE;
 use libc::STDIN_FILENO;
 use libc::STDOUT_FILENO;
 use prices::price;
-use scan::read_tariff;
 use settle::Answer;
 use settle::settle;
 use statement::LARGEST_STATEMENT;
@@ -59,15 +63,33 @@ fn say_number(text: &[u8], n: u64) {
     io::print_decimal(STDOUT_FILENO, n);
 }
 
-fn show_tariff(tariff: &[u8]) {
-    match read_tariff(tariff) {
-        Reading::Fault { number, at } => {
+fn say_edition(edition: Edition) {
+    let since = edition.since;
+    let counts = edition.counts;
+    say_number(b", from minute ", since.0 as u64);
+    say_number(b" areas ", counts.areas as u64);
+    say_number(b" stops ", counts.stops as u64);
+}
+
+fn say_editions(editions: Editions) {
+    match editions {
+        Editions::One(only) => say_edition(only),
+        Editions::Two(first, second) => {
+            say_edition(first);
+            say_edition(second);
+        }
+    }
+}
+
+fn show_tariff(file: &[u8]) {
+    match read_file(file) {
+        FileReading::Fault { number, at } => {
             say_number(b"tariff refused ", number as u64);
             say_number(b" at ", at as u64);
         }
-        Reading::Faultless(counts) => {
-            say_number(b"tariff faultless, areas ", counts.areas as u64);
-            say_number(b" stops ", counts.stops as u64);
+        FileReading::Faultless(editions) => {
+            say(b"tariff faultless");
+            say_editions(editions);
         }
     }
     say(b"\n");
@@ -122,14 +144,20 @@ fn show_rides(tariff: &[u8], counts: Counts, bytes: &[u8], fields: Trip, breakin
 }
 
 // A trip's price does not go by the book: it is tested as the first on a fresh one.
-fn show_price(tariff: &[u8], trip: &[u8]) {
-    let Reading::Faultless(counts) = read_tariff(tariff) else {
+fn show_price(file: &[u8], trip: &[u8]) {
+    let FileReading::Faultless(editions) = read_file(file) else {
         say(b"no tariff\n");
         return;
     };
     let fresh = [0u8; SIZE];
-    match decide(tariff, counts, &fresh, trip, LARGEST_STATEMENT) {
-        Decision::Clear(fields, _, breaking) => show_rides(tariff, counts, trip, fields, breaking),
+    match decide(file, editions, &fresh, trip, LARGEST_STATEMENT) {
+        Decision::Clear(fields, window, breaking) => show_rides(
+            tariff_in(file, editions, window.edition),
+            counts_in(editions, window.edition),
+            trip,
+            fields,
+            breaking,
+        ),
         Decision::Refused(why) => {
             say_number(b"refused ", number(why) as u64);
             say(b"\n");
@@ -189,9 +217,9 @@ fn show_records(statement: &[u8], size: usize)
     }
 }
 
-fn show_settled(tariff: &[u8], book: &mut [u8], trip: &[u8]) {
+fn show_settled(file: &[u8], book: &mut [u8], trip: &[u8]) {
     let mut statement = [0u8; LARGEST_STATEMENT];
-    match settle(tariff, book, trip, &mut statement) {
+    match settle(file, book, trip, &mut statement) {
         Answer::Written(size) => show_records(&statement, size),
         Answer::Refused { number, place } => {
             say_number(b"refused ", number as u64);
@@ -207,11 +235,11 @@ fn clear(book: &mut [u8]) {
     }
 }
 
-fn show(tag: u8, tariff: &[u8], book: &mut [u8], body: &[u8]) {
+fn show(tag: u8, file: &[u8], book: &mut [u8], body: &[u8]) {
     if tag == PRICE {
-        show_price(tariff, body);
+        show_price(file, body);
     } else if tag == SETTLE {
-        show_settled(tariff, book, body);
+        show_settled(file, book, body);
     } else if tag == FRESH {
         clear(book);
     } else {

@@ -122,3 +122,17 @@ frame-take n b at there fits =
       get-take 2 n b at (omega arith),
       get-take 2 n b (at + 2) (omega arith),
     )
+
+-- And a record that is whole within the first bytes is whole in these alone.
+pub whole-take :
+    (n : ℕ) (b : List ℕ) (at kind body : ℕ) → n ≤ length b → at + 4 + body ≤ n → frameAt b at ≡ Whole kind body
+    → frameAt (take n b) at ≡ Whole kind body
+whole-take n b at kind body there fits e =
+    let facts = whole b at kind body e in
+    whole-back (take n b) at kind body
+    (record {
+      kind-is = facts .kind-is ∙ sym (get-take 2 n b (at + 2) (omega arith));
+      length-is = get-take 2 n b at (omega arith) ∙ facts .length-is;
+      fits = omega (arith, length-take-le n b there);
+      short = facts .short;
+    })

@@ -1,7 +1,7 @@
 //! Settling tuned for speed, without `unsafe`: what the proved library is measured against.
 //!
 //! - [`numbers`]: little-endian numbers, and the ranges of several at once;
-//! - [`tariff`]: the tariff as it lies in its bytes, its first fault; [`areas`], [`factors`], [`stops`]: its records, many
+//! - [`editions`]: the tariff file's editions; [`tariff`]: a tariff as it lies in its bytes, its first fault; [`areas`], [`factors`], [`stops`]: its records, many
 //!   at once;
 //! - [`book`]: the book as it lies in its bytes, when it is sound, its window;
 //! - [`calendar`]: stamps and minute numbers; [`trip`]: the trip record; [`parts`]: its way, broken or not;
@@ -17,6 +17,7 @@ mod areas;
 mod book;
 mod calendar;
 mod charge;
+mod editions;
 mod factors;
 mod fare;
 mod line;
@@ -35,10 +36,11 @@ pub use roll::settle_roll;
 
 use book::Book;
 use charge::charge_party;
+use editions::{Editions, ROOM};
 use fare::Ride;
 use parts::Part;
 use record::{head_of, record_bytes};
-use tariff::{Tariff, MOST_AREAS};
+use tariff::Tariff;
 use trip::Trip;
 
 /// Whole cents.
@@ -75,7 +77,8 @@ impl Refusal {
 
 /// Checks a tariff alone; the answer is the library's number.
 pub fn check_tariff(tariff: &[u8]) -> u64 {
-    match Tariff::read(tariff, &mut [0; MOST_AREAS]) {
+    let mut room = ROOM;
+    match Editions::read(tariff, &mut room) {
         Ok(_) => tariff.len() as u64,
         Err(refusal) => refusal.0,
     }
@@ -90,17 +93,20 @@ pub fn settle(tariff: &[u8], book: &mut [u8], trip: &[u8], statement: &mut [u8])
 }
 
 fn try_to_settle(tariff: &[u8], book: &mut [u8], trip: &[u8], statement: &mut [u8]) -> Result<usize, Refusal> {
-    let mut places = [0; MOST_AREAS];
-    let tariff = Tariff::read(tariff, &mut places)?;
-    let mut book = Book::read(book, tariff.areas)?;
-    settle_next(&tariff, &mut book, trip, statement)
+    let mut room = ROOM;
+    let editions = Editions::read(tariff, &mut room)?;
+    let mut book = Book::read(book, editions.areas())?;
+    settle_next(&editions, &mut book, trip, statement)
 }
 
 /// Settles under a tariff without fault, on a book that is sound.
 #[inline(never)]
-fn settle_next(tariff: &Tariff, book: &mut Book, trip: &[u8], statement: &mut [u8]) -> Result<usize, Refusal> {
-    let (trip, parts) = Trip::read(trip, tariff)?;
-    let window = book.window_for(&trip, parts.many())?;
+fn settle_next(editions: &Editions, book: &mut Book, trip: &[u8], statement: &mut [u8]) -> Result<usize, Refusal> {
+    let (trip, numbers) = Trip::read(trip)?;
+    let window = book.window_for(&trip, editions)?;
+    let tariff = editions.tariff(window.edition);
+    let parts = trip.parts(numbers, tariff)?;
+    let window = window.counting(parts.many())?;
     let bytes = record_bytes(&trip);
     let written = bytes * parts.many();
     let Some((first, second)) = statement.get_mut(..written).map(|records| records.split_at_mut(bytes)) else {

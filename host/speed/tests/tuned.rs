@@ -49,7 +49,8 @@ fn faults_among_areas_of_both_kinds() {
     let common = "base 10000 km 1000 valid 1440 first 100 child 100";
     let aachen = "base 0 km 0 valid 30 first 0 child 0";
     let text = format!(
-        "area state parent 0 {common} cap levels 60000 1 2 3 60000 day 60000 bike 60000\n\
+        "edition 2000-01-01\n\
+         area state parent 0 {common} cap levels 60000 1 2 3 60000 day 60000 bike 60000\n\
          aachen region parent 0 {aachen} cap flat 60000 30 day none bike 60000 tickets flat 60000 trip 60000 town none\n\
          area region parent 0 {common} cap flat 0 1440 day 0 bike 60000\n\
          aachen city parent 1 {aachen} cap none day 60000 bike 60000 tickets none trip 0 town km\n\
@@ -66,7 +67,8 @@ fn faults_among_areas_of_both_kinds() {
 #[test]
 fn faults_among_many_factors() {
     let (prices, factor) = ("base 1 km 1 valid 30 first 0 child 0 cap none day none bike 0\n", "factor 9 mark 1\n");
-    let areas = format!("area state parent 0 {prices}") + &format!("area region parent 0 {prices}").repeat(31);
+    let areas = format!("edition 2000-01-01\narea state parent 0 {prices}")
+        + &format!("area region parent 0 {prices}").repeat(31);
     let text = areas + "factor 1 mark 0\n" + &factor.repeat(31) + "stop 31 0 0\n";
     faults_are_the_same(made(&text));
 }
@@ -89,6 +91,29 @@ fn answers_the_same(tariff: &[u8]) {
     let expected = number_of(model::settle(tariff, &mut vec![0; BOOK_BYTES], trip, &mut [0; 17]));
     assert_eq!(tuned::settle(tariff, &mut vec![0; BOOK_BYTES], trip, &mut [0; 17]), expected, "{tariff:?}");
     assert_eq!(tuned::check_tariff(tariff), number_of(model::check_tariff(tariff)), "{tariff:?}");
+}
+
+/// Two editions and a third, and whatever may stand behind them.
+#[test]
+fn faults_among_editions() {
+    let prices = "base 1 km 1 valid 30 first 0 child 0 cap none day none bike 0";
+    let edition = |date: &str, stops: usize| {
+        let stops = "stop 1 0 0\n".repeat(stops);
+        made(&format!(
+            "edition {date}\narea state parent 0 {prices}\narea region parent 0 {prices}\nfactor 1 mark 0\nfactor 2 mark 1\n{stops}"
+        ))
+    };
+    let (first, second) = (edition("2000-01-01", 2), edition("2026-06-01", 9));
+    let both = [&first[..], &second].concat();
+    faults_are_the_same(both.clone());
+    faults_are_the_same([&edition("2099-12-31", 0)[..], &edition("2000-01-01", 0)].concat());
+    for behind in [&first[..8], &[6, 0, 9], &[6, 0, 9, 0], &[7, 0, 9, 0, 0, 0, 0, 0, 0], &[2, 0, 9, 0], &[1, 0, 9, 0]] {
+        faults_are_the_same([&first, behind].concat());
+        answers_the_same(&[&both, behind].concat());
+    }
+    for stops in 0..=1_001 {
+        answers_the_same(&[&edition("2000-01-01", stops)[..], &second].concat());
+    }
 }
 
 /// Each number of each word of a book, beside those that it may have.
@@ -183,7 +208,8 @@ fn broken_trips() {
 #[test]
 fn as_many_records_as_there_may_be() {
     let tariff = made(
-        "area state parent 0 base 10000 km 1000 valid 30 first 100 child 0 cap none day none bike 0\n\
+        "edition 2000-01-01\n\
+         area state parent 0 base 10000 km 1000 valid 30 first 100 child 0 cap none day none bike 0\n\
          factor 1 mark 0\nstop 0 0 0\nstop 0 1000000 1000000\n",
     );
     let trip = "trip 2026-05-04T08:00+02:00 to 2026-05-04T08:00+02:00 class 1 level 0 adults 10 children 10 bikes 0 stops 0 1\n";

@@ -4,7 +4,7 @@ use milecopper_host::maker::cases::{cases_of, rolls_of};
 use milecopper_host::maker::compare::difference;
 use milecopper_host::maker::encoding::text_of;
 use milecopper_host::maker::{checked_bytes_of, raw_bytes_of, Fault};
-use milecopper_host::model::read_tariff;
+use milecopper_host::model::read_file;
 use milecopper_host::tool::{is_asked, misused};
 use std::cell::RefCell;
 use std::os::unix::fs::MetadataExt;
@@ -146,7 +146,7 @@ fn made_from(task: &Task, sources: &RefCell<Vec<PathBuf>>) -> Result<Vec<(String
     }
 }
 
-/// The stops of the tariff in this file, which holds its text or its bytes.
+/// The stops of the tariff in this file, which holds its text or its bytes, in the edition with the most of them.
 fn stops_in(name: &str, path: &Path) -> Result<usize, String> {
     let found = fs::read(path).map_err(|error| format!("the tariff {name}: {error}"))?;
     let bytes = if path.extension().is_some_and(|ending| ending == "bin") {
@@ -157,8 +157,8 @@ fn stops_in(name: &str, path: &Path) -> Result<usize, String> {
             .and_then(|text| checked_bytes_of(&text, &no_tariff))
             .map_err(|faults| format!("the tariff {name} has mistakes of its own, the first in {}", faults[0]))?
     };
-    let tariff = read_tariff(&bytes);
-    Ok(tariff.map_err(|_| format!("{name} is no tariff"))?.stops.len())
+    let file = read_file(&bytes).map_err(|_| format!("{name} is no tariff"))?;
+    Ok(file.editions.iter().map(|edition| edition.tariff.stops.len()).max().unwrap_or(0))
 }
 
 /// Writes each file beside its place, and only when all are written puts them there. What is no file, as /dev/null, is

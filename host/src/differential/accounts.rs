@@ -13,11 +13,10 @@ use super::cases::{Case, Draft};
 use super::fields::Layout;
 use super::random::Random;
 use super::run::{Difference, Run};
-use super::tariffs::tariff;
-use super::trips::{plan, start};
+use super::tariffs::file;
+use super::trips::{plan_in, start};
 use crate::model::page::{FREE, PAGE_BYTES, PLACES, PLACE_BYTES};
-use crate::model::read_tariff;
-use crate::model::tariff::Tariff;
+use crate::model::{read_file, File};
 use calls::{Call, PageCase};
 use damage::damage;
 use pages::{
@@ -30,7 +29,7 @@ const STEPS: u64 = 24;
 /// Where a chain stands.
 struct Chain {
     bytes: Vec<u8>,
-    tariff: Tariff,
+    file: File,
     page: Vec<u8>,
     /// Who is added, settled and closed, in both associations.
     pool: Vec<u32>,
@@ -86,11 +85,11 @@ impl PageDraft {
 impl Chain {
     fn start(random: &mut Random, many: [usize; 2]) -> Chain {
         let now = start(random);
-        let bytes = tariff(random);
-        let tariff = read_tariff(&bytes).expect("the makers of tariffs make no faults");
+        let bytes = file(random, now);
+        let file = read_file(&bytes).expect("the makers of files make no faults");
         let pool = pool(random);
-        let page = page_with(random, many, &pool, tariff.areas.len(), now);
-        Chain { bytes, tariff, page, pool, now }
+        let page = page_with(random, many, &pool, &file.areas(), now);
+        Chain { bytes, file, page, pool, now }
     }
 
     /// The next call: mostly with a member who is there, but for adding.
@@ -106,11 +105,11 @@ impl Chain {
 
     /// A call for a member; the trip is one that fits that member's book.
     fn draft(&self, random: &mut Random, call: Call, association: u32, member: u32) -> PageDraft {
-        let book = book_to_plan_on(&self.page, association, member, self.tariff.areas.len());
-        let plan = plan(random, &self.tariff, &book, self.now);
-        let parts = plan.parts(&self.tariff);
+        let book = book_to_plan_on(&self.page, association, member, &self.file.areas());
+        let (plan, edition) = plan_in(random, &self.file, &book, self.now);
+        let parts = plan.parts(self.file.tariff(edition));
         let case = Case { tariff: self.bytes.clone(), book, trip: plan.bytes(), room: 0, story: Vec::new() };
-        let mut draft = Draft { case, layout: Layout::of(&self.tariff), plan, parts };
+        let mut draft = Draft { case, layouts: Layout::all_of(&self.file), edition, plan, parts };
         draft.case.room = draft.statement_bytes() + random.pick(&[0, 0, 1, 5, 120]);
         PageDraft { page: self.page.clone(), association, member, call, draft, story: vec!["a call in a chain"] }
     }
@@ -211,7 +210,7 @@ fn taken_places(random: &mut Random, run: &mut Run, chain: &Chain) -> Result<(),
 }
 
 /// A book of any kind for a place, as it may stand there: not of another length.
-fn put_some_book(random: &mut Random, page: &mut [u8], place: usize, areas: usize, now: u64) {
+fn put_some_book(random: &mut Random, page: &mut [u8], place: usize, areas: &[usize], now: u64) {
     let book = some_book(random, areas, now);
     if let Some(found) = page.get_mut(book_of(place)) {
         found.copy_from_slice(&book);

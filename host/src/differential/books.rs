@@ -4,8 +4,8 @@ use super::random::Random;
 use super::trips::{DAY, LAST_MINUTE};
 use crate::numbers::number;
 
-pub const BYTES: usize = 5_468;
-pub const WORDS: usize = 1_367;
+pub const BYTES: usize = 5_472;
+pub const WORDS: usize = 1_368;
 /// The words of the window.
 pub const TRIPS: usize = 0;
 pub const OPENING: usize = 1;
@@ -15,6 +15,8 @@ pub const BICYCLES: usize = 1_347;
 /// The first of the ten words of their payments per trip, none of which is larger than this.
 pub const PAYMENTS: usize = 1_357;
 pub const MOST_PAYMENTS: u64 = 15_360_000;
+/// The word of the window's edition.
+pub const EDITION: usize = 1_367;
 /// The pairs of sums: 21 riders, 32 areas.
 const PAIRS: usize = 672;
 /// No sum is larger than this times the trips in the window.
@@ -47,10 +49,26 @@ fn read_pair(random: &mut Random, areas: usize) -> (usize, usize) {
     pair(32 * rider + random.index(areas))
 }
 
-/// A sound book for a tariff of so many areas, with its last check-out at `latest` or shortly before, and its numbers at
-/// the ends of their ranges.
-pub fn sound_at_the_edges(random: &mut Random, areas: usize, latest: u64) -> Vec<u8> {
+/// The areas of the book's edition, in a file whose editions have so many each; those of the first for a book without edition.
+fn areas_for(book: &[u8], areas: &[usize]) -> usize {
+    let edition = word(book, EDITION).saturating_sub(1) as usize;
+    areas.get(edition).or(areas.first()).copied().unwrap_or(1)
+}
+
+/// The edition of a book, which is set to this one where it has none.
+pub fn named_edition(book: &mut [u8], edition: usize) -> usize {
+    if word(book, EDITION) == 0 {
+        set_word(book, EDITION, edition as u64);
+    }
+    word(book, EDITION) as usize
+}
+
+/// A sound book for a file whose editions have so many areas each, with its last check-out at `latest` or shortly before, and
+/// its numbers at the ends of their ranges.
+pub fn sound_at_the_edges(random: &mut Random, areas: &[usize], latest: u64) -> Vec<u8> {
     let mut book = fresh();
+    set_word(&mut book, EDITION, random.within(1, areas.len() as u64));
+    let areas = areas_for(&book, areas);
     let trips = random.pick(&[1, 1, 2, 3, 10, 100, 254, 255, 256]);
     let last = latest.min(LAST_MINUTE).saturating_sub(random.pick(&[0, 0, 1, 60, 1_439, 1_440, 1_441]));
     let opening = last.saturating_sub(random.pick(&[0, 1, 60, 200, 1_000, 1_439, 1_440]));
@@ -75,19 +93,22 @@ pub fn sound_at_the_edges(random: &mut Random, areas: usize, latest: u64) -> Vec
 }
 
 /// Makes the book unsound in one way, mostly by the least that is enough.
-pub fn spoil(random: &mut Random, book: &mut Vec<u8>, areas: usize) {
+pub fn spoil(random: &mut Random, book: &mut Vec<u8>, editions: &[usize]) {
     if word(book, TRIPS) == 0 && random.chance(30) {
-        set_word(book, random.index(WORDS - 1) + 1, random.pick(&[1, 2, 1 << 8, 1 << 31]));
+        let place = if random.chance(30) { EDITION } else { random.index(WORDS - 1) + 1 };
+        set_word(book, place, random.pick(&[1, 2, 1 << 8, 1 << 31]));
         return;
     }
     if word(book, TRIPS) == 0 {
         set_word(book, TRIPS, 1);
     }
+    named_edition(book, 1);
+    let areas = areas_for(book, editions);
     let trips = word(book, TRIPS);
     let opening = word(book, OPENING);
     let (second, all) = pair(random.index(PAIRS));
     let limit = trips * MOST_A_TRIP;
-    match random.below(11) {
+    match random.below(14) {
         0 => set_word(book, TRIPS, random.pick(&[257, 258, 512, 1_134, 65_536, 1 << 31, u64::from(u32::MAX)])),
         1 => {
             set_word(book, TRIPS, 0);
@@ -121,8 +142,20 @@ pub fn spoil(random: &mut Random, book: &mut Vec<u8>, areas: usize) {
             let paid = random.pick(&[MOST_PAYMENTS + 1, MOST_PAYMENTS + 1, u64::from(u32::MAX)]);
             set_word(book, PAYMENTS + random.index(10), paid);
         }
-        // 5,428 bytes had a book before it had payments.
-        _ => book.resize(random.pick(&[0, 1, 4, 5_428, 5_428, 5_464, 5_467, 5_469, 5_472, 10_936]), 0),
+        10 => set_word(book, EDITION, 0),
+        11 => {
+            let more = editions.len() as u64 + 1;
+            set_word(book, EDITION, random.pick(&[more, more, 3, 256, 257, u64::from(u32::MAX)]));
+        }
+        12 => {
+            // The edition of the fewest areas, and a covering area that it lacks.
+            let fewest = (0..editions.len()).min_by_key(|&edition| editions[edition]).unwrap_or(0);
+            set_word(book, EDITION, 1 + fewest as u64);
+            let more = editions.get(fewest).map_or(32, |&areas| areas as u64) + 1;
+            set_word(book, BICYCLES + random.index(10), more);
+        }
+        // 5,428 bytes had a book before it had payments, 5,468 before it had an edition.
+        _ => book.resize(random.pick(&[0, 1, 4, 5_428, 5_428, 5_468, 5_468, 5_471, 5_473, 5_476, 10_944]), 0),
     }
 }
 
@@ -131,7 +164,7 @@ mod tests {
     use super::*;
     use crate::model::book::Book;
 
-    fn is_sound(book: &[u8], areas: usize) -> bool {
+    fn is_sound(book: &[u8], areas: &[usize]) -> bool {
         Book::read(book).is_some_and(|book| book.is_sound(areas))
     }
 
@@ -139,16 +172,17 @@ mod tests {
     fn sound_and_unsound() {
         let mut random = Random::of(1, 0);
         for _ in 0..3_000 {
-            let areas = random.within(1, 32) as usize;
+            let many = random.pick(&[1, 2, 2]);
+            let areas: Vec<usize> = (0..many).map(|_| random.within(1, 32) as usize).collect();
             let mut book = if random.chance(20) {
                 fresh()
             } else {
                 let latest = random.pick(&[0, 1, 5_000_000, LAST_MINUTE]);
-                sound_at_the_edges(&mut random, areas, latest)
+                sound_at_the_edges(&mut random, &areas, latest)
             };
-            assert!(is_sound(&book, areas));
-            spoil(&mut random, &mut book, areas);
-            assert!(!is_sound(&book, areas));
+            assert!(is_sound(&book, &areas));
+            spoil(&mut random, &mut book, &areas);
+            assert!(!is_sound(&book, &areas));
         }
     }
 }

@@ -47,13 +47,26 @@ impl Call<'_> {
 #[derive(Clone, Debug)]
 pub struct Draft {
     pub case: Case,
-    pub layout: Layout,
+    /// Of each edition of the tariff.
+    pub layouts: Vec<Layout>,
+    /// The number of the edition under which the trip is settled, from 1; before the first one that is 1.
+    pub edition: usize,
     pub plan: Plan,
     /// In how many parts the trip is charged.
     pub parts: usize,
 }
 
 impl Draft {
+    /// Of the edition under which the trip is settled.
+    pub fn layout(&self) -> &Layout {
+        &self.layouts[self.edition - 1]
+    }
+
+    /// How many areas each edition has.
+    pub fn areas(&self) -> Vec<usize> {
+        self.layouts.iter().map(|layout| layout.areas).collect()
+    }
+
     /// The bytes of the charge records.
     pub fn statement_bytes(&self) -> usize {
         self.parts * self.plan.record_bytes()

@@ -5,7 +5,7 @@ use super::accounts::Accounts;
 use super::cases::Case;
 use super::kinds::{is_rare, kinds_of, KINDS};
 use super::offers::Offers;
-use super::particulars::PARTICULARS;
+use super::particulars::particulars;
 use super::reads::Reads;
 use crate::answer::Refusal;
 use crate::model::statement::ChargeRecord;
@@ -19,7 +19,7 @@ pub struct Counts {
     /// By number, from 1.
     refusals: [u64; NUMBERS],
     /// Ways in which single refusals come about.
-    particulars: [u64; PARTICULARS.len()],
+    particulars: Vec<u64>,
     pub quotes: Offers,
     pub readings: Reads,
     pub accounts: Accounts,
@@ -41,7 +41,8 @@ impl Counts {
 
     pub fn count_refused(&mut self, case: &Case, number: u32) {
         self.refusals[number as usize] += 1;
-        for (count, (refusal, _, is_so)) in self.particulars.iter_mut().zip(PARTICULARS) {
+        self.particulars.resize(particulars().count(), 0);
+        for (count, (refusal, _, is_so)) in self.particulars.iter_mut().zip(particulars()) {
             *count += u64::from(refusal == number && is_so(case));
         }
     }
@@ -71,7 +72,7 @@ impl Counts {
         let kinds = self.counted_kinds().filter(|&(kind, count)| is_few(kind, count));
         let refusals = refusals.map(|refusal| format!("refusal {}", refusal as u32));
         let mut all: Vec<String> = refusals.chain(kinds.map(|(kind, _)| kind.to_string())).collect();
-        for ((number, way, _), count) in PARTICULARS.into_iter().zip(self.particulars) {
+        for ((number, way, _), &count) in particulars().zip(&self.particulars) {
             if count == 0 {
                 all.push(format!("refusal {number}, {way}"));
             }
@@ -102,7 +103,7 @@ impl fmt::Display for Counts {
             let what = format!("{:>2} {}", refusal as u32, refusal.text());
             line(out, self.refusals[refusal as usize], self.refused(), &what)?;
         }
-        for ((number, way, _), count) in PARTICULARS.into_iter().zip(self.particulars) {
+        for ((number, way, _), &count) in particulars().zip(&self.particulars) {
             line(out, count, self.refused(), &format!("{number:>2}, {way}"))?;
         }
         writeln!(out, "accepted {}; one case may be of several kinds", self.accepted)?;

@@ -1,13 +1,16 @@
 //! The area record at which a tariff is refused, field by field.
 
 use super::cases::Case;
-use crate::model::read_tariff;
-use crate::model::record::{record_at, Record, KIND_AACHEN_AREA, KIND_AREA};
+use super::fields::OPENING;
+use crate::model::read_file;
+use crate::model::record::{record_at, Record, KIND_AACHEN_AREA, KIND_AREA, KIND_EDITION};
 use crate::numbers::number;
 
 /// The record at which a tariff is refused, an area.
 pub struct Faulty<'a> {
     tariff: &'a [u8],
+    /// Where the first area of its edition begins.
+    pub first: usize,
     pub place: usize,
     pub record: Record<'a>,
 }
@@ -28,7 +31,7 @@ impl<'a> Faulty<'a> {
 
     /// The region that a city says it is in, if it stands before the city.
     pub fn region(&self) -> Option<Record<'a>> {
-        let mut place = 0;
+        let mut place = self.first;
         for _ in 0..self.record.body[1] {
             place += record_at(self.tariff, place)?.size();
         }
@@ -55,9 +58,23 @@ impl<'a> Faulty<'a> {
 
 /// Whether the tariff's first faulty record is a whole area, and one like this.
 pub fn is_faulty(case: &Case, like: impl Fn(&Faulty) -> bool) -> bool {
-    let Err(refusal) = read_tariff(&case.tariff) else { return false };
+    let Err(refusal) = read_file(&case.tariff) else { return false };
     let place = refusal.place as usize;
     let Some(record) = record_at(&case.tariff, place) else { return false };
     let is_area = [KIND_AREA, KIND_AACHEN_AREA].contains(&record.kind) && record.body.len() >= 25;
-    is_area && like(&Faulty { tariff: &case.tariff, place, record })
+    let first = openings_before(&case.tariff, place).last().map_or(0, |&opening| opening + OPENING);
+    is_area && like(&Faulty { tariff: &case.tariff, first, place, record })
+}
+
+/// Where the openings begin that stand before this place, up to which no record is faulty.
+pub fn openings_before(tariff: &[u8], end: usize) -> Vec<usize> {
+    let (mut openings, mut place) = (Vec::new(), 0);
+    while place < end {
+        let record = record_at(tariff, place).expect("before the first faulty record");
+        if record.kind == KIND_EDITION {
+            openings.push(place);
+        }
+        place += record.size();
+    }
+    openings
 }

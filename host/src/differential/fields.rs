@@ -1,19 +1,23 @@
 //! Where each field of a record stands, and the values just inside and just outside its range.
 
+use crate::model::editions::File;
 use crate::model::tariff::{Area, Tariff};
 use crate::numbers::number;
 
-/// Bytes of an area record of kind 1 and of kind 8, of a factor record, of a stop record, and of a trip record before its
-/// stops.
+/// Bytes of an edition's opening, of an area record of kind 1 and of kind 8, of a factor record, of a stop record, and of a trip
+/// record before its stops.
+pub const OPENING: usize = 8;
 pub const AREA: usize = 29;
 pub const AACHEN_AREA: usize = 42;
 pub const FACTOR: usize = 6;
 pub const STOP: usize = 13;
 pub const TRIP_HEAD: usize = 24;
 
-/// How many areas, factor records and stops a tariff has; they stand in this order.
+/// How many areas, factor records and stops an edition has; they stand in this order behind its opening.
 #[derive(Clone, Debug)]
 pub struct Layout {
+    /// Where the opening begins in the file.
+    pub opening: usize,
     pub areas: usize,
     pub factors: usize,
     pub stops: usize,
@@ -22,15 +26,26 @@ pub struct Layout {
 }
 
 impl Layout {
-    pub fn of(tariff: &Tariff) -> Layout {
+    /// Those of a file's editions.
+    pub fn all_of(file: &File) -> Vec<Layout> {
+        let mut all: Vec<Layout> = Vec::new();
+        for edition in &file.editions {
+            let opening = all.last().map_or(0, |before| before.end());
+            all.push(Layout::of(&edition.tariff, opening));
+        }
+        all
+    }
+
+    /// That of an edition with this tariff whose opening begins there.
+    fn of(tariff: &Tariff, opening: usize) -> Layout {
         let size = |area: &Area| if area.is_aachen() { AACHEN_AREA } else { AREA };
         let sizes: Vec<usize> = tariff.areas.iter().map(size).collect();
-        Layout { areas: sizes.len(), factors: tariff.factors.len(), stops: tariff.stops.len(), sizes }
+        Layout { opening, areas: sizes.len(), factors: tariff.factors.len(), stops: tariff.stops.len(), sizes }
     }
 
     /// Where the area of this number begins; that behind the last one is where the factor records begin.
     pub fn area(&self, number: usize) -> usize {
-        self.sizes[..number].iter().sum()
+        self.opening + OPENING + self.sizes[..number].iter().sum::<usize>()
     }
 
     pub fn area_size(&self, number: usize) -> usize {
@@ -54,6 +69,19 @@ impl Layout {
     pub fn stop(&self, number: usize) -> usize {
         self.factor(self.factors) + STOP * number
     }
+
+    /// Where the next edition's opening begins, or the file ends.
+    pub fn end(&self) -> usize {
+        self.stop(self.stops)
+    }
+
+    /// Where each record begins, the opening first, and where the edition ends.
+    pub fn places(&self) -> Vec<usize> {
+        let areas = (0..self.areas).map(|area| self.area(area));
+        let factors = (0..self.factors).map(|factor| self.factor(factor));
+        let stops = (0..=self.stops).map(|stop| self.stop(stop));
+        [self.opening].into_iter().chain(areas).chain(factors).chain(stops).collect()
+    }
 }
 
 /// A field of a record, counted from the record's first byte.
@@ -68,8 +96,9 @@ const fn field(place: usize, width: usize, edges: &'static [u64]) -> Field {
     Field { place, width, edges }
 }
 
-pub const LENGTHS: Field = field(0, 2, &[0, 1, 2, 3, 4, 11, 27, 40, 1_023, 1_024, 1_025, 65_535]);
-pub const KINDS: Field = field(2, 2, &[0, 1, 2, 3, 4, 5, 6, 7, 8, 9, 256, 257, 258, 259, 261, 263, 264, 65_535]);
+pub const LENGTHS: Field = field(0, 2, &[0, 1, 2, 3, 4, 6, 11, 27, 40, 1_023, 1_024, 1_025, 65_535]);
+pub const KINDS: Field =
+    field(2, 2, &[0, 1, 2, 3, 4, 5, 6, 7, 8, 9, 10, 256, 257, 258, 259, 261, 263, 264, 265, 65_535]);
 
 const PERCENTAGE: &[u64] = &[0, 1, 99, 100, 101, 255];
 const MINUTES: &[u64] = &[0, 29, 30, 31, 1_439, 1_440, 1_441, 65_535];
@@ -120,6 +149,9 @@ const HOUR: &[u64] = &[0, 1, 22, 23, 24, 255];
 const MINUTE: &[u64] = &[0, 1, 58, 59, 60, 255];
 const OFFSET: &[u64] = &[0, 1, 2, 3, 254, 255];
 const CARRIED: &[u64] = &[0, 1, 9, 10, 11, 255];
+
+/// Those of an edition's opening.
+pub static OPENING_FIELDS: [Field; 5] = [LENGTHS, KINDS, field(4, 2, YEAR), field(6, 1, MONTH), field(7, 1, DAY)];
 
 /// Bytes of a stamp, and where the check-in's begins; the check-out's stands behind it.
 pub const STAMP: usize = 7;

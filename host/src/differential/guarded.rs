@@ -135,7 +135,7 @@ mod tests {
     #[test]
     fn slices_stand_beside_the_page() {
         let mut guarded = Guarded::new();
-        for length in [0, 1, 532, 5_468, 65_664, LONGEST] {
+        for length in [0, 1, 532, 5_472, 65_712, LONGEST] {
             let bytes: Vec<u8> = (0..length).map(|place| place as u8).collect();
             guarded.hold(&bytes, Page::After);
             assert_eq!(guarded.bytes(), bytes);

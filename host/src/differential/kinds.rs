@@ -3,13 +3,14 @@
 use super::aachen::{self, kinds_of_aachen, AACHEN};
 use super::cases::Case;
 use super::cuts::{self, kinds_of_cuts, CUTS};
+use super::editions::{self, kinds_of_editions, EDITIONS};
 use super::mistaps::{kinds_of_mistaps, NEARLY};
 use crate::model::book::Book;
 use crate::model::charge::{costs_of, window_for};
 use crate::model::clock::{Stamp, MINUTES_IN_AN_HOUR};
 use crate::model::fare::{price, squared_distance, Ride};
 use crate::model::parts::{farthest_change, parts_of};
-use crate::model::read_tariff;
+use crate::model::read_file;
 use crate::model::statement::ChargeRecord;
 use crate::model::tariff::{Area, Level, Tariff, TripCap};
 use crate::model::trip::Trip;
@@ -40,23 +41,25 @@ const OF_A_TRIP: [&str; 18] = [
 /// Those of a part of one.
 const OF_A_PART: [&str; 3] = ["bicycle moved up", "several periods", "price cut by a trip cap"];
 
-/// All of them, with those of cuts, of kind 8 and of trips that are nearly mistaps.
-pub const KINDS: [&[&str]; 5] = [&OF_A_TRIP, &OF_A_PART, &CUTS, &AACHEN, &NEARLY];
+/// All of them, with those of cuts, of kind 8, of trips that are nearly mistaps and of editions.
+pub const KINDS: [&[&str]; 6] = [&OF_A_TRIP, &OF_A_PART, &CUTS, &AACHEN, &NEARLY, &EDITIONS];
 
 /// Whether a kind is enough if it is met at all.
 pub fn is_rare(kind: &str) -> bool {
-    kind == cuts::RARE || aachen::RARE.contains(&kind) || NEARLY.contains(&kind)
+    kind == cuts::RARE || [&aachen::RARE[..], &NEARLY, &editions::RARE].concat().contains(&kind)
 }
 
 /// Which kinds an accepted case is of; it may be of several, or of none.
 pub fn kinds_of(case: &Case, records: &[ChargeRecord]) -> Vec<bool> {
-    let tariff = read_tariff(&case.tariff).expect("accepted, so faultless");
+    let file = read_file(&case.tariff).expect("accepted, so faultless");
     let trip = Trip::read(&case.trip).expect("accepted, so a trip");
     let before = Book::read(&case.book).expect("accepted, so a book");
     let check_in = trip.check_in.minute_number().expect("accepted, so a time");
     let duration = records[0].minutes;
     let was_open = before.trips() != 0;
-    let mut book = window_for(before, check_in, check_in + duration);
+    let mut book = window_for(before.clone(), &file, check_in, check_in + duration).expect("accepted, so an edition");
+    let of_editions = kinds_of_editions(&file, &trip, &before, &book, check_in);
+    let tariff = file.tariff(book.edition());
     let of_trip = [
         was_open && book.trips() == 0,
         trip.class == 1,
@@ -65,21 +68,22 @@ pub fn kinds_of(case: &Case, records: &[ChargeRecord]) -> Vec<bool> {
         records[0].charges.len() == 31,
     ];
     let of_stamps = kinds_of_stamps(&trip, check_in);
-    let of_breaking = kinds_of_breaking(&tariff, &trip, records.len() == 2);
+    let of_breaking = kinds_of_breaking(tariff, &trip, records.len() == 2);
     let (mut of_part, mut of_cuts) = ([false; OF_A_PART.len()], [false; CUTS.len()]);
     let mut of_aachen = [false; AACHEN.len()];
     let mut paid = vec![book.payments(0)];
-    for (part, record) in parts_of(&tariff, &trip.stops, duration).iter().zip(records) {
-        let ride = Ride::of(&tariff, &trip, part);
-        join(&mut of_part, &kinds_of_part(&tariff, &trip, &ride, &book, record));
-        join(&mut of_cuts, &kinds_of_cuts(&tariff, &trip, &ride, &book, record));
-        join(&mut of_aachen, &kinds_of_aachen(&tariff, &trip, &ride, &book, record));
-        costs_of(&tariff, &trip, &ride, &mut book);
+    for (part, record) in parts_of(tariff, &trip.stops, duration).iter().zip(records) {
+        let ride = Ride::of(tariff, &trip, part);
+        join(&mut of_part, &kinds_of_part(tariff, &trip, &ride, &book, record));
+        join(&mut of_cuts, &kinds_of_cuts(tariff, &trip, &ride, &book, record));
+        join(&mut of_aachen, &kinds_of_aachen(tariff, &trip, &ride, &book, record));
+        costs_of(tariff, &trip, &ride, &mut book);
         paid.push(book.payments(0));
     }
     let of_paying = [paid.len() == 3 && paid[0] < paid[1] && paid[1] < paid[2]];
-    let of_mistaps = kinds_of_mistaps(&tariff, &trip, records);
-    [of_trip.as_slice(), &of_stamps, &of_breaking, &of_paying, &of_part, &of_cuts, &of_aachen, &of_mistaps].concat()
+    let of_mistaps = kinds_of_mistaps(tariff, &trip, records);
+    let of_trip = [of_trip.as_slice(), &of_stamps, &of_breaking, &of_paying].concat();
+    [of_trip.as_slice(), &of_part, &of_cuts, &of_aachen, &of_mistaps, &of_editions].concat()
 }
 
 /// Those of one, and those of another besides.

@@ -1,15 +1,17 @@
 //! What the run has to meet of single refusals: the ways in which one comes about that few cases show.
 
-use super::books::{word, BYTES, LAST_CHECK_OUT, MOST_PAYMENTS, PAYMENTS, TRIPS, WORDS};
+use super::books::{word, BYTES, EDITION, LAST_CHECK_OUT, MOST_PAYMENTS, PAYMENTS, TRIPS};
 use super::cases::Case;
+use super::editions;
 use super::faulty::is_faulty;
 use super::trips::HOUR;
-use crate::model::book::TRIPS_IN_A_WINDOW;
+use crate::model::book::{Book, TRIPS_IN_A_WINDOW};
+use crate::model::charge::window_for;
 use crate::model::clock::{Stamp, LAST_YEAR};
-use crate::model::read_tariff;
 use crate::model::record::{record_at, Record, KIND_AACHEN_AREA, KIND_AREA};
 use crate::model::statement::ChargeRecord;
 use crate::model::trip::Trip;
+use crate::model::{read_file, Tariff};
 use crate::numbers::number;
 
 /// Trips came as this kind before their stamps had offsets.
@@ -18,11 +20,16 @@ const KIND_WITHOUT_OFFSETS: u64 = 3;
 /// Of a refusal, by its number: a way in which it comes about, and whether it is that of a case that was so refused.
 pub type Particular = (u32, &'static str, fn(&Case) -> bool);
 
-pub const PARTICULARS: [Particular; 28] = [
+/// All of them, with those of editions.
+pub fn particulars() -> impl Iterator<Item = Particular> {
+    PARTICULARS.into_iter().chain(editions::PARTICULARS)
+}
+
+const PARTICULARS: [Particular; 28] = [
     (2, "kind 8 with the body of kind 1", |case| is_faulty(case, |fault| fault.is(KIND_AACHEN_AREA, 25))),
     (2, "kind 1 with the body of kind 8", |case| is_faulty(case, |fault| fault.is(KIND_AREA, 38))),
     (3, "a state of kind 8", |case| {
-        is_faulty(case, |fault| fault.is_aachen() && fault.place == 0 && fault.level() == 0)
+        is_faulty(case, |fault| fault.is_aachen() && fault.place == fault.first && fault.level() == 0)
     }),
     (3, "a city of kind 8 in a region of kind 1", |case| {
         is_faulty(case, |fault| fault.is_aachen() && fault.region().is_some_and(|region| region.kind == KIND_AREA))
@@ -54,7 +61,7 @@ pub const PARTICULARS: [Particular; 28] = [
         })
     }),
     (4, "payments above 15,360,000", |case| {
-        case.book.len() == BYTES && (PAYMENTS..WORDS).any(|place| word(&case.book, place) > MOST_PAYMENTS)
+        case.book.len() == BYTES && (PAYMENTS..EDITION).any(|place| word(&case.book, place) > MOST_PAYMENTS)
     }),
     (4, "a book of 5,428 bytes, without payments", |case| case.book.len() == 5_428),
     (5, "a record of kind 3", |case| {
@@ -86,8 +93,15 @@ pub const PARTICULARS: [Particular; 28] = [
 /// Whether all that the trip asks for is in range, so that it is refused for a town: that which contains all of its stops,
 /// or one that contains a part alone.
 fn is_in_a_town(case: &Case, is_whole: bool) -> bool {
-    let (Ok(tariff), Some(trip)) = (read_tariff(&case.tariff), Trip::read(&case.trip)) else { return false };
+    let (Some(tariff), Some(trip)) = (tariff_of(case), Trip::read(&case.trip)) else { return false };
     trip.counts_are_in_range() && tariff.areas[tariff.area_of_stops(&trip.stops)].is_marked_town() == is_whole
+}
+
+/// That of the edition under which the trip is settled.
+fn tariff_of(case: &Case) -> Option<Tariff> {
+    let (file, trip, book) = (read_file(&case.tariff).ok()?, Trip::read(&case.trip)?, Book::read(&case.book)?);
+    let window = window_for(book, &file, trip.check_in.minute_number()?, trip.check_out.minute_number()?)?;
+    Some(file.tariff(window.edition()).clone())
 }
 
 /// Whether the trip has so many minutes.

@@ -1,6 +1,6 @@
 //! A case and a difference in words.
 
-use super::books::{word, BICYCLES, BYTES, PAYMENTS, WORDS};
+use super::books::{word, BICYCLES, BYTES, EDITION, PAYMENTS, WORDS};
 use super::cases::{Call, Case};
 use super::statements::Asked;
 use crate::answer::Answer;
@@ -104,6 +104,7 @@ fn word_in_words(place: usize) -> String {
         0 => "trips".to_string(),
         1 => "opening".to_string(),
         2 => "last check-out".to_string(),
+        EDITION.. => "edition".to_string(),
         PAYMENTS.. => format!("payments of bicycle {}", place - PAYMENTS + 1),
         BICYCLES.. => format!("bicycle {}", place - BICYCLES + 1),
         _ => {

@@ -1,7 +1,8 @@
-//! Faultless tariffs of all sorts.
+//! Faultless tariff files of all sorts.
 
-use super::fields::{AACHEN_AREA, FACTOR, STOP};
+use super::fields::{AACHEN_AREA, FACTOR, OPENING, STOP};
 use super::random::Random;
+use super::trips::{local_stamp, DAY, LAST_MINUTE};
 use crate::numbers::put;
 
 /// The day cap that means none.
@@ -41,8 +42,67 @@ enum Numbers {
     Ends,
 }
 
+/// A faultless file of one or two editions. Of two the second mostly begins within the next days, and at times before `now`; at
+/// times no edition has begun.
+pub fn file(random: &mut Random, now: u64) -> Vec<u8> {
+    let today = now / DAY;
+    let first = match random.below(20) {
+        0 => today + 1,
+        1..4 => today,
+        4..7 => random.within(0, today),
+        _ => 0,
+    };
+    let soon = today + random.pick(&[0, 1, 1, 1, 2]);
+    let second = match random.below(10) {
+        0..5 => soon.max(first + 1),
+        5..7 => random.within(first + 1, today.max(first + 1)),
+        7 => first + 1,
+        8 => random.within(first + 1, (today + 4_000).max(first + 1)),
+        _ => LAST_MINUTE / DAY,
+    };
+    let is_one = random.chance(40) || second > LAST_MINUTE / DAY || second <= first;
+    let first = first.min(LAST_MINUTE / DAY);
+    let mut bytes = edition(first, &tariff(random));
+    if !is_one {
+        bytes.extend(edition(second, &tariff(random)));
+    }
+    bytes
+}
+
+/// An edition: an opening with the date that is so many days after 2000-01-01, and this tariff.
+pub fn edition(days: u64, tariff: &[u8]) -> Vec<u8> {
+    let mut bytes = opening(days);
+    bytes.extend(tariff);
+    bytes
+}
+
+/// The opening of an edition from the date that is so many days after 2000-01-01.
+pub fn opening(days: u64) -> Vec<u8> {
+    let mut bytes = Vec::with_capacity(OPENING);
+    put(&mut bytes, 2, OPENING as u64 - 2);
+    put(&mut bytes, 2, 9);
+    bytes.extend(&local_stamp(days * DAY, 0)[..4]);
+    bytes
+}
+
+/// The largest file: two editions, each of the state, 31 regions of kind 8, 32 factor records and 1,000 stops.
+pub fn largest_file(random: &mut Random) -> Vec<u8> {
+    [edition(0, &largest_tariff(random)), edition(1, &largest_tariff(random))].concat()
+}
+
+fn largest_tariff(random: &mut Random) -> Vec<u8> {
+    let mut areas = vec![next_area(random, &[], 100, Numbers::Ordinary)];
+    while areas.len() < 32 {
+        let region = next_area(random, &areas, 100, Numbers::Ordinary);
+        if region.aachen.is_some() {
+            areas.push(region);
+        }
+    }
+    tariff_of(random, &areas, 1_000, Numbers::Ordinary)
+}
+
 /// A faultless tariff: most are small, a few are as large as can be.
-pub fn tariff(random: &mut Random) -> Vec<u8> {
+fn tariff(random: &mut Random) -> Vec<u8> {
     let areas = match random.below(100) {
         0..6 => 1,
         6..12 => 2,
@@ -71,15 +131,22 @@ pub fn ordinary_tariff(random: &mut Random, areas: usize, stops: usize) -> Vec<u
 }
 
 fn tariff_with(random: &mut Random, areas: usize, stops: usize, numbers: Numbers) -> Vec<u8> {
-    let mut bytes = Vec::with_capacity((AACHEN_AREA + FACTOR) * areas + STOP * stops);
     let per_cent_regions = random.pick(&[25, 25, 25, 25, 25, 100]);
     let mut earlier: Vec<Area> = Vec::new();
     for _ in 0..areas {
         let area = next_area(random, &earlier, per_cent_regions, numbers);
-        put_area(&mut bytes, &area);
         earlier.push(area);
     }
-    let factors = put_factors(random, &mut bytes, &earlier, numbers);
+    tariff_of(random, &earlier, stops, numbers)
+}
+
+/// A tariff of these areas with so many stops.
+fn tariff_of(random: &mut Random, areas: &[Area], stops: usize, numbers: Numbers) -> Vec<u8> {
+    let mut bytes = Vec::with_capacity((AACHEN_AREA + FACTOR) * areas.len() + STOP * stops);
+    for area in areas {
+        put_area(&mut bytes, area);
+    }
+    let factors = put_factors(random, &mut bytes, areas, numbers);
     put_stops(random, &mut bytes, &factors, stops);
     bytes
 }
@@ -243,7 +310,7 @@ fn day_cap(random: &mut Random, numbers: Numbers, level: u64) -> u64 {
         (Numbers::Ordinary, _) if random.chance(15) => random.within(0, 2_500),
         (Numbers::Ordinary, 0) => random.within(1_200, 4_000),
         (Numbers::Ordinary, 1) => random.within(700, 3_000),
-        _ => money(random, numbers, 250, 900, 60_000),
+        _ => money(random, numbers, 150, 700, 60_000),
     }
 }
 
@@ -306,15 +373,17 @@ fn put_stop(bytes: &mut Vec<u8>, area: u64, [x, y]: [u64; 2]) {
 mod tests {
     use super::*;
     use crate::differential::fields::Layout;
-    use crate::model::read_tariff;
+    use crate::differential::trips::start;
+    use crate::model::read_file;
 
     #[test]
     fn every_one_is_faultless() {
         let mut random = Random::of(1, 0);
         for _ in 0..2_000 {
-            let bytes = tariff(&mut random);
-            let read = read_tariff(&bytes).expect("a faultless tariff");
-            assert_eq!(bytes.len(), Layout::of(&read).stop(read.stops.len()));
+            let now = start(&mut random);
+            let bytes = file(&mut random, now);
+            let read = read_file(&bytes).expect("a faultless file");
+            assert_eq!(Some(bytes.len()), Layout::all_of(&read).last().map(Layout::end));
         }
     }
 }

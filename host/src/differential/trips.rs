@@ -1,12 +1,15 @@
 //! Trips that fit a tariff and a book, so that most of them are accepted.
 
-use super::books::{word, LAST_CHECK_OUT, OPENING, TRIPS};
+use super::books::{word, EDITION, LAST_CHECK_OUT, OPENING, TRIPS};
 use super::fields::{STAMP, TRIP_HEAD};
 use super::random::Random;
+use crate::model::book::Book;
+use crate::model::charge::window_for;
 use crate::model::fare::squared_distance;
 use crate::model::parts::{parts_of, rides_in_a_marked_town};
 use crate::model::record::KIND_TRIP;
 use crate::model::tariff::{Tariff, TripCap};
+use crate::model::File;
 use crate::numbers::put;
 
 pub const HOUR: u64 = 60;
@@ -60,6 +63,14 @@ impl Plan {
         } else {
             1
         }
+    }
+
+    /// The number of the edition under which the trip is settled on this book; 1 where there is none.
+    pub fn edition(&self, file: &File, book: &[u8]) -> usize {
+        let book = Book::read(book).unwrap_or_else(Book::fresh);
+        let window = window_for(book, file, self.check_in, self.check_out);
+        let edition = window.map_or(1, |window| window.edition());
+        edition.clamp(1, file.editions.len())
     }
 
     /// Whether the trip is refused in first class.
@@ -125,6 +136,23 @@ pub fn start(random: &mut Random) -> u64 {
             days * DAY - 1 - random.below(400)
         }
         _ => random.below(LAST_MINUTE),
+    }
+}
+
+/// A trip that comes after the book's last one, and the number of the edition under which it is settled; `now` is the minute
+/// where the book has no trip. Mostly its stops are of that edition, else of another. Before the first edition it is 1.
+pub fn plan_in(random: &mut Random, file: &File, book: &[u8], now: u64) -> (Plan, usize) {
+    let is_there = |&edition: &usize| (1..=file.editions.len()).contains(&edition);
+    let of_the_book = Some(word(book, EDITION) as usize).filter(is_there);
+    let mut guess = of_the_book.or(file.in_force(now)).unwrap_or(1);
+    loop {
+        let plan = plan(random, file.tariff(guess), book, now);
+        let edition = plan.edition(file, book);
+        if edition == guess || random.chance(15) {
+            return (plan, edition);
+        }
+        // The other edition's stops fit as well at another time.
+        guess = edition;
     }
 }
 

@@ -1,8 +1,11 @@
 //! The rules that look at more than one line: which record may follow which, and what a record names.
 
 use super::words::with_commas;
-use crate::model::record::{KIND_AACHEN_AREA, KIND_AREA, KIND_FACTOR, KIND_STOP, KIND_TRIP};
+use crate::model::clock::Date;
+use crate::model::editions::MOST_EDITIONS;
+use crate::model::record::{Fields, KIND_AACHEN_AREA, KIND_AREA, KIND_EDITION, KIND_FACTOR, KIND_STOP, KIND_TRIP};
 use crate::model::tariff::{MOST_AREAS, MOST_STOPS};
+use crate::model::Minutes;
 use crate::numbers::number;
 
 /// Where a trip's body has its stops.
@@ -19,14 +22,16 @@ struct Area {
     flat: u64,
 }
 
-/// What stands in the lines so far.
+/// What stands in the lines so far: of a tariff the editions, and what the last of them has.
 #[derive(Default)]
 pub struct Order {
+    /// The first minute of each, where it has a date.
+    editions: Vec<Option<Minutes>>,
     areas: Vec<Area>,
     factors: usize,
     stops: usize,
     trips: usize,
-    /// The stops of the tariff that the trips are under, once that is named.
+    /// The stops of the tariff that the trips are under, of the edition with the most of them, once that is named.
     pub known_stops: Option<usize>,
 }
 
@@ -34,6 +39,7 @@ impl Order {
     /// The mistakes of the next record, which then counts as one of them.
     pub fn follow(&mut self, kind: u64, body: &[u8]) -> Vec<String> {
         match kind {
+            KIND_EDITION => self.edition(body),
             KIND_AREA | KIND_AACHEN_AREA => self.area(kind, body),
             KIND_FACTOR => self.factor(body),
             KIND_STOP => self.stop(body),
@@ -44,7 +50,26 @@ impl Order {
 
     /// The mistakes of where the text ends.
     pub fn end(&self) -> Vec<String> {
-        self.factors_missing().into_iter().collect()
+        self.areas_missing().into_iter().chain(self.factors_missing()).collect()
+    }
+
+    /// The next edition's opening. What follows is of that edition.
+    fn edition(&mut self, body: &[u8]) -> Vec<String> {
+        let mut mistakes = self.among_trips("an edition");
+        mistakes.extend(self.end());
+        if self.editions.len() >= MOST_EDITIONS {
+            mistakes
+                .push(format!("this is edition {}, and a tariff has {MOST_EDITIONS} at most", self.editions.len() + 1));
+        }
+        let since = Date::read(&mut Fields::of(body)).first_minute();
+        if let (Some(since), Some(&Some(before))) = (since, self.editions.last()) {
+            if since <= before {
+                mistakes.push("an edition's date is after that of the edition before".to_string());
+            }
+        }
+        self.editions.push(since);
+        (self.areas, self.factors, self.stops) = (Vec::new(), 0, 0);
+        mistakes
     }
 
     fn area(&mut self, kind: u64, body: &[u8]) -> Vec<String> {
@@ -124,7 +149,7 @@ impl Order {
 
     fn trip(&mut self, body: &[u8]) -> Vec<String> {
         let mut mistakes = Vec::new();
-        if !self.areas.is_empty() {
+        if !self.editions.is_empty() || !self.areas.is_empty() {
             mistakes.push("a trip in a tariff: trips stand in a text of their own".to_string());
         }
         match self.known_stops {
@@ -147,9 +172,23 @@ impl Order {
         mistakes
     }
 
+    /// The mistakes of where a record of an edition stands.
     fn in_a_tariff(&self, what: &str) -> Vec<String> {
+        let mut mistakes = self.among_trips(what);
+        if self.trips == 0 && self.editions.is_empty() && self.areas.len() + self.factors + self.stops == 0 {
+            mistakes.push(format!("{what} before any edition: a line 'edition DATE' comes first"));
+        }
+        mistakes
+    }
+
+    fn among_trips(&self, what: &str) -> Vec<String> {
         let told = format!("{what} among trips: a tariff stands in a text of its own");
         (self.trips > 0).then_some(told).into_iter().collect()
+    }
+
+    fn areas_missing(&self) -> Option<String> {
+        let told = "an edition without areas".to_string();
+        (!self.editions.is_empty() && self.areas.is_empty()).then_some(told)
     }
 
     /// One for the state and one for each region.

@@ -1,10 +1,10 @@
-//! The lines that give bytes: `area`, `aachen`, `factor`, `stop`, `trip`, `record`, `bytes` and `repeat`; and `tariff`, which names one.
+//! The lines that give bytes: `edition`, `area`, `aachen`, `factor`, `stop`, `trip`, `record`, `bytes` and `repeat`; and `tariff`, which names one.
 
 use super::order::Order;
-use super::stamps::{duration, stamp};
+use super::stamps::{date, duration, stamp};
 use super::words::{hexadecimal, whole, Words};
 use super::{Fault, StopsOf};
-use crate::model::record::{KIND_AACHEN_AREA, KIND_AREA, KIND_FACTOR, KIND_STOP, KIND_TRIP};
+use crate::model::record::{KIND_AACHEN_AREA, KIND_AREA, KIND_EDITION, KIND_FACTOR, KIND_STOP, KIND_TRIP};
 use crate::model::tariff::{
     BASE_PRICES, FACTORS, METRES, MONEY, MOST_AREAS, NO_DAY_CAP, PERCENTAGES, PRICES_PER_KM, VALIDITIES,
 };
@@ -26,7 +26,7 @@ const TOWNS: RangeInclusive<u64> = 0..=2;
 /// By default values are not checked, so that wrong ones can be written.
 #[derive(Default)]
 pub struct Records<'a> {
-    /// Where values are checked: the lines so far, and how many stops a tariff of some name has.
+    /// Where values are checked: the lines so far, and how many stops a tariff of some name has in its larger edition.
     checked: Option<(Order, StopsOf<'a>)>,
     bytes: Vec<u8>,
     /// The whole records among the lines taken, a repeated one once for each time.
@@ -140,6 +140,7 @@ fn content_of<'a>(words: &mut Words<'a>) -> Result<Content<'a>, String> {
         return Ok(Content::Nothing);
     };
     let content = match name {
+        "edition" => record(KIND_EDITION, date(words)?)?,
         "area" => record(KIND_AREA, area_body(words)?)?,
         "aachen" => record(KIND_AACHEN_AREA, aachen_body(words)?)?,
         "factor" => record(KIND_FACTOR, factor_body(words)?)?,

@@ -298,6 +298,16 @@ repeat 2";
     assert_eq!(raw.iter().map(|fault| fault.line).collect::<Vec<usize>>(), [1, 2, 3]);
 }
 
+/// Those of a text behind an edition's opening, whose line is not counted.
+fn mistakes_in_an_edition(text: &str) -> Vec<String> {
+    let told = mistakes(&format!("edition 2000-01-01\n{text}"));
+    let line_less = |told: &String| {
+        let (line, rest) = told.strip_prefix("line ").and_then(|told| told.split_once(':')).expect("a line");
+        format!("line {}:{rest}", line.parse::<usize>().expect("its number") - 1)
+    };
+    told.iter().map(line_less).collect()
+}
+
 #[test]
 fn mistakes_of_areas_of_kind_8_are_told() {
     let state = "area state parent 0 base 180 km 28 valid 360 first 50 child 50 cap none day 3000 bike 300\n";
@@ -308,7 +318,7 @@ fn mistakes_of_areas_of_kind_8_are_told() {
         format!("aachen city parent 1 {common} cap flat 320 60 day none bike 347 tickets flat 160 trip 228 town km\n");
     let factors = "factor 3 mark 0\n".repeat(2);
     let well = [state, &region, &city, &factors].concat();
-    assert_eq!(mistakes(&well), [""; 0], "a region's cap is not compared with the state's flat");
+    assert_eq!(mistakes_in_an_edition(&well), [""; 0], "a region's cap is not compared with the state's flat");
     let common_city = format!("area city parent 1 {common} cap none day none bike 200\n");
     for (text, told) in [
         (
@@ -328,14 +338,14 @@ fn mistakes_of_areas_of_kind_8_are_told() {
             "a city is of its region's kind: area 1 is a line 'aachen'",
         ),
     ] {
-        assert_eq!(mistakes(&text), [format!("line 3: {told}")]);
+        assert_eq!(mistakes_in_an_edition(&text), [format!("line 3: {told}")]);
     }
     let marked = well.replace("town none", "town base");
-    assert_eq!(mistakes(&marked), ["line 2: only a city is a town that drops something"]);
+    assert_eq!(mistakes_in_an_edition(&marked), ["line 2: only a city is a town that drops something"]);
     let aachen_state = region.replace("region", "state") + "factor 3 mark 0\n";
-    assert_eq!(mistakes(&aachen_state), ["line 1: the state is a line 'area', not 'aachen'"]);
+    assert_eq!(mistakes_in_an_edition(&aachen_state), ["line 1: the state is a line 'area', not 'aachen'"]);
     let in_common = well.replace(&region, &state.replace("state", "region"));
-    assert_eq!(mistakes(&in_common), ["line 3: a city is of its region's kind: area 1 is a line 'area'"]);
+    assert_eq!(mistakes_in_an_edition(&in_common), ["line 3: a city is of its region's kind: area 1 is a line 'area'"]);
 }
 
 #[test]
@@ -346,7 +356,7 @@ fn mistakes_of_a_tariff_are_told() {
     let factor = "factor 3 mark 0\n";
     let stop = "stop 0 300000 200000\n";
     let well = [state, &region, &city, factor, factor, stop].concat();
-    assert_eq!(mistakes(&well), [""; 0]);
+    assert_eq!(mistakes_in_an_edition(&well), [""; 0]);
     for (text, told) in [
         (
             well.replace("km 28", "km 1001").replacen("km 1001", "km 28", 2),
@@ -407,9 +417,46 @@ fn mistakes_of_a_tariff_are_told() {
             format!("{state}{factor}tariff t\n{GOOD_TRIP}"),
             "line 4: a trip in a tariff: trips stand in a text of their own",
         ),
+    ] {
+        assert_eq!(mistakes_in_an_edition(&text).first().map(String::as_str), Some(told), "{text}");
+    }
+    let among_trips = format!("tariff t\n{GOOD_TRIP}\n{state}{factor}");
+    assert_eq!(mistakes(&among_trips)[0], "line 3: an area among trips: a tariff stands in a text of its own");
+}
+
+#[test]
+fn editions() {
+    assert_eq!(bytes("edition 2026-06-01"), [6, 0, 9, 0, 0xea, 7, 6, 1]);
+    assert_eq!(bytes("edition 65535-255-0"), [6, 0, 9, 0, 255, 255, 255, 0]);
+    assert_eq!(fault("edition 2026-06"), "line 1: the date '2026-06' does not have 3 parts");
+    assert_eq!(fault("edition 2026-256-01"), "line 1: the month 256 does not fit in 1 byte");
+    let state =
+        "area state parent 0 base 180 km 28 valid 360 first 50 child 50 cap none day 3000 bike 500\nfactor 3 mark 0\n";
+    let well = format!("edition 2000-01-01\n{state}stop 0 1 2\nedition 2026-06-01\n{state}");
+    assert_eq!(mistakes(&well), [""; 0]);
+    let area_alone = state.replace("factor 3 mark 0\n", "");
+    for (text, told) in [
+        (state.to_string(), "line 1: an area before any edition: a line 'edition DATE' comes first"),
+        ("stop 0 1 2".to_string(), "line 1: a stop before any edition: a line 'edition DATE' comes first"),
+        ("edition 2000-01-01\n\n".to_string(), "line 1: an edition without areas"),
+        (well.replace("2000-01-01", "1999-12-31"), "line 1: edition 1999-12-31: the year is 2000 to 2099"),
+        (well.replace("2026-06-01", "2026-13-01"), "line 5: edition 2026-13-01: the month is 1 to 12"),
+        (well.replace("2026-06-01", "2026-06-31"), "line 5: edition 2026-06-31: June 2026 has 30 days, and no day 31"),
+        (well.replace("2026-06-01", "2000-01-01"), "line 5: an edition's date is after that of the edition before"),
+        (well.replace("2000-01-01", "2026-06-02"), "line 5: an edition's date is after that of the edition before"),
+        (format!("{well}edition 2026-06-02\n{state}"), "line 8: this is edition 3, and a tariff has 2 at most"),
         (
-            format!("tariff t\n{GOOD_TRIP}\n{state}{factor}"),
-            "line 3: an area among trips: a tariff stands in a text of its own",
+            format!("edition 2000-01-01\n{area_alone}edition 2026-06-01\n{state}"),
+            "line 3: factors are missing: 1 are due, one for the state and one for each region, and 0 stand there",
+        ),
+        (format!("edition 2000-01-01\nedition 2026-06-01\n{state}"), "line 2: an edition without areas"),
+        (
+            format!("tariff t\n{GOOD_TRIP}\nedition 2026-06-01\n{state}"),
+            "line 3: an edition among trips: a tariff stands in a text of its own",
+        ),
+        (
+            format!("edition 2026-06-01\ntariff t\n{GOOD_TRIP}"),
+            "line 3: a trip in a tariff: trips stand in a text of their own",
         ),
     ] {
         assert_eq!(mistakes(&text).first().map(String::as_str), Some(told), "{text}");
@@ -503,7 +550,7 @@ fn faults_of_a_case_file() {
         ("post:\nquote whole", "line 1: post: has no record"),
         ("post:\nroom 16\nrecord 3", "line 2: 'room' is no sort of line"),
         ("book:\nrecord 3", "line 2: 'record' is no line of a book"),
-        ("book:\nword 1367 1", "line 2: a book has no word 1367"),
+        ("book:\nword 1368 1", "line 2: a book has no word 1368"),
         ("book:\nword 3 7 7", "line 2: '7' is one word too many"),
         ("words:\nrecord 3", "line 1: words: takes no record"),
         // What only examples have.

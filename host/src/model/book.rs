@@ -1,12 +1,12 @@
-//! The book: 1,367 little-endian words of 4 bytes.
+//! The book: 1,368 little-endian words of 4 bytes.
 
 use super::clock::{LAST_MINUTE, MINUTES_IN_A_DAY};
 use super::tariff::MOST_AREAS;
 use super::{Cents, Minutes};
 use crate::numbers::{number, put};
 
-pub const BOOK_BYTES: usize = 5_468;
-const WORDS: usize = 1_367;
+pub const BOOK_BYTES: usize = 5_472;
+const WORDS: usize = 1_368;
 
 /// 0 is the account holder, 1..10 the adults carried, 11..20 the children.
 pub const RIDERS: usize = 21;
@@ -41,16 +41,19 @@ fn payments_word(bicycle: usize) -> usize {
     1_357 + bicycle
 }
 
+const EDITION_WORD: usize = 1_367;
+
 impl Book {
     /// A fresh book is all zero.
     pub fn fresh() -> Book {
         Book { words: vec![0; WORDS] }
     }
 
-    /// A book without trips whose window opens at this minute.
-    pub fn opened_at(minute: Minutes) -> Book {
+    /// A book without trips whose window opens at this minute, under the edition of this number.
+    pub fn opened_at(minute: Minutes, edition: usize) -> Book {
         let mut book = Book::fresh();
         book.words[1] = minute;
+        book.words[EDITION_WORD] = edition as u64;
         book
     }
 
@@ -102,13 +105,19 @@ impl Book {
         self.words[payments_word(bicycle)]
     }
 
-    /// Whether the book is sound under a tariff of that many areas.
-    pub fn is_sound(&self, areas: usize) -> bool {
+    /// The number of the window's edition; 0 in a fresh book.
+    pub fn edition(&self) -> usize {
+        self.words[EDITION_WORD] as usize
+    }
+
+    /// Whether the book is sound under a file whose editions have so many areas each.
+    pub fn is_sound(&self, areas: &[usize]) -> bool {
         self.words.iter().all(|&word| word == 0)
             || (1..=TRIPS_IN_A_WINDOW).contains(&self.trips())
                 && self.times_are_sound()
                 && self.sums_are_sound()
-                && self.bicycles_are_sound(areas)
+                && (1..=areas.len()).contains(&self.edition())
+                && self.bicycles_are_sound(areas[self.edition() - 1])
     }
 
     fn times_are_sound(&self) -> bool {

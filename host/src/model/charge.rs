@@ -3,19 +3,21 @@
 use super::book::Book;
 use super::caps::{caps_of, Cap, Cut};
 use super::clock::MINUTES_IN_A_DAY;
+use super::editions::File;
 use super::fare::{child_price, price, Ride};
 use super::tariff::{Kind, Tariff};
 use super::trip::Trip;
 use super::{Cents, Minutes};
 
-/// The book as the trip finds it: that of the open window if the trip belongs to it, else that of the next window,
-/// which opens at the trip's check-in with all sums, bicycles and payments back to none.
-pub fn window_for(book: Book, check_in: Minutes, check_out: Minutes) -> Book {
+/// The book as the trip finds it: that of the open window if the trip belongs to it, else that of the next window, which
+/// opens at the trip's check-in under the edition that is then in force, with all sums, bicycles and payments back to none.
+/// Nothing where no edition is in force then.
+pub fn window_for(book: Book, file: &File, check_in: Minutes, check_out: Minutes) -> Option<Book> {
     let is_open = book.trips() != 0;
     if is_open && check_out <= book.opening() + MINUTES_IN_A_DAY {
-        book
+        Some(book)
     } else {
-        Book::opened_at(check_in)
+        file.in_force(check_in).map(|edition| Book::opened_at(check_in, edition))
     }
 }
 

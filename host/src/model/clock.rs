@@ -12,6 +12,39 @@ pub const LAST_YEAR: u64 = 2099;
 pub const LAST_MINUTE: Minutes = 52_595_999;
 pub const MINUTES_IN_AN_HOUR: Minutes = 60;
 
+/// Year in 2 bytes, then month and day in one each.
+#[derive(Clone, Debug, PartialEq, Eq)]
+pub struct Date {
+    pub year: u64,
+    pub month: u64,
+    pub day: u64,
+}
+
+impl Date {
+    pub fn read(fields: &mut Fields) -> Date {
+        Date { year: fields.next(2), month: fields.next(1), day: fields.next(1) }
+    }
+
+    /// Whether it is a date 2000..2099.
+    pub fn is_date(&self) -> bool {
+        (FIRST_YEAR..=LAST_YEAR).contains(&self.year)
+            && (1..=12).contains(&self.month)
+            && (1..=days_in_month(self.year, self.month)).contains(&self.day)
+    }
+
+    /// The number of its first minute in UTC, or nothing where this is no date.
+    pub fn first_minute(&self) -> Option<Minutes> {
+        self.is_date().then(|| self.days_before() * MINUTES_IN_A_DAY)
+    }
+
+    /// The days from 2000-01-01 to this date.
+    fn days_before(&self) -> u64 {
+        let earlier_years: u64 = (FIRST_YEAR..self.year).map(days_in_year).sum();
+        let earlier_months: u64 = (1..self.month).map(|month| days_in_month(self.year, month)).sum();
+        earlier_years + earlier_months + self.day - 1
+    }
+}
+
 /// Year in 2 bytes, then month, day, hour, minute and offset in one each.
 #[derive(Clone, Debug, PartialEq, Eq)]
 pub struct Stamp {
@@ -47,13 +80,15 @@ impl Stamp {
 
     /// The minutes from 2000-01-01 00:00 to this date and clock time, both of the local clock.
     fn local_minute(&self) -> Minutes {
-        self.days_before() * MINUTES_IN_A_DAY + self.hour * MINUTES_IN_AN_HOUR + self.minute
+        self.date().days_before() * MINUTES_IN_A_DAY + self.hour * MINUTES_IN_AN_HOUR + self.minute
+    }
+
+    fn date(&self) -> Date {
+        Date { year: self.year, month: self.month, day: self.day }
     }
 
     pub fn is_date(&self) -> bool {
-        (FIRST_YEAR..=LAST_YEAR).contains(&self.year)
-            && (1..=12).contains(&self.month)
-            && (1..=days_in_month(self.year, self.month)).contains(&self.day)
+        self.date().is_date()
     }
 
     pub fn is_clock_time(&self) -> bool {
@@ -63,13 +98,6 @@ impl Stamp {
     /// Central European winter time is 1 hour ahead of UTC, summer time 2. Which of them the date has is not looked at.
     pub fn is_offset(&self) -> bool {
         (1..=2).contains(&self.offset)
-    }
-
-    /// The days from 2000-01-01 to this date.
-    fn days_before(&self) -> u64 {
-        let earlier_years: u64 = (FIRST_YEAR..self.year).map(days_in_year).sum();
-        let earlier_months: u64 = (1..self.month).map(|month| days_in_month(self.year, month)).sum();
-        earlier_years + earlier_months + self.day - 1
     }
 }
 

@@ -3,7 +3,7 @@
 //! a fresh book, settled and closed.
 
 use super::book::{Book, BOOK_BYTES};
-use super::tariff::read_tariff;
+use super::editions::read_file;
 use super::{refused, settle, unless, Refusal};
 use crate::numbers::{number, put};
 use std::ops::Range;
@@ -52,7 +52,7 @@ pub fn close(page: &mut [u8], association: u32, member: u32) -> Result<usize, Re
 }
 
 /// Settles a member's trip on that member's book, and answers as settling does. Refused, by 1 to 3, 21, 18, 19 and then 4 to
-/// 12: page and statement stay.
+/// 12 as settling is: page and statement stay.
 pub fn settle_member(
     tariff: &[u8],
     page: &mut [u8],
@@ -62,12 +62,12 @@ pub fn settle_member(
     statement: &mut [u8],
 ) -> Result<usize, Refusal> {
     // 1, 2, 3
-    read_tariff(tariff)?;
+    read_file(tariff)?;
     // 21, 18
     let half = Half::of(page, association, member)?;
     // 19: the association has no such member
     let place = half.place_of(member).ok_or(refused(19))?;
-    // 4 to 12, and 17
+    // from 4 on
     settle(tariff, &mut page[book_of(place)], trip, statement)
 }
 

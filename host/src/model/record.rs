@@ -12,6 +12,7 @@ pub const KIND_FACTOR: u64 = 5;
 pub const KIND_CHARGE: u64 = 6;
 pub const KIND_TRIP: u64 = 7;
 pub const KIND_AACHEN_AREA: u64 = 8;
+pub const KIND_EDITION: u64 = 9;
 
 pub struct Record<'a> {
     pub kind: u64,

@@ -4,14 +4,14 @@
 use super::book::BOOK_BYTES;
 use super::record::record_at;
 use super::statement::{ChargeRecord, LARGEST_STATEMENT};
-use super::{read_tariff, settle, Cents};
+use super::{read_file, settle, Cents};
 
 /// The run stops after so many records.
 pub const MOST_RECORDS: u64 = 65_535;
 
 /// The text that the program prints for this tariff and this roll.
 pub fn settle_roll(tariff: &[u8], roll: &[u8]) -> String {
-    if let Err(refusal) = read_tariff(tariff) {
+    if let Err(refusal) = read_file(tariff) {
         return format!("tariff refused {} at {}\n", refusal.number, refusal.place);
     }
     let mut book = vec![0; BOOK_BYTES];

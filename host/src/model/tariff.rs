@@ -1,8 +1,8 @@
-//! A tariff: 1 to 32 areas, then a factor record for the state and for each region, then 0 to 1,000 stops, nothing
-//! else. Refusals 1 to 3.
+//! The tariff of an edition: 1 to 32 areas, then a factor record for the state and for each region, then 0 to 1,000 stops.
+//! Refusals 2 and 3.
 
-use super::record::{record_at, Fields, Record, KIND_AACHEN_AREA, KIND_AREA, KIND_FACTOR, KIND_STOP};
-use super::{Cents, Metres, Minutes, Refusal};
+use super::record::{Fields, Record, KIND_AACHEN_AREA, KIND_AREA, KIND_FACTOR, KIND_STOP};
+use super::{Cents, Metres, Minutes};
 use std::ops::RangeInclusive;
 
 pub const MOST_AREAS: usize = 32;
@@ -118,40 +118,30 @@ pub struct Tariff {
     pub stops: Vec<Stop>,
 }
 
-/// The tariff, or the fault of its first faulty record and that record's place.
-pub fn read_tariff(bytes: &[u8]) -> Result<Tariff, Refusal> {
-    let mut tariff = Tariff { areas: Vec::new(), factors: Vec::new(), stops: Vec::new() };
-    let mut place = 0;
-    while place < bytes.len() {
-        let fault = |number| Refusal { number, place: place as u32 };
-        let record = record_at(bytes, place).ok_or(fault(1))?;
-        if !tariff.may_go_on_with(&record) {
-            return Err(fault(2));
+impl Tariff {
+    /// As it is where an edition was opened.
+    pub fn empty() -> Tariff {
+        Tariff { areas: Vec::new(), factors: Vec::new(), stops: Vec::new() }
+    }
+
+    /// Takes the next record, or tells its fault, 2 or 3.
+    pub fn go_on_with(&mut self, record: &Record) -> Result<(), u32> {
+        if !self.may_go_on_with(record) {
+            return Err(2);
         }
         match record.kind {
-            KIND_AREA | KIND_AACHEN_AREA => {
-                let area = read_area(&record, &tariff.areas).ok_or(fault(3))?;
-                tariff.areas.push(area);
-            }
-            KIND_FACTOR => {
-                let factor = read_factor(record.body, tariff.factors.is_empty()).ok_or(fault(3))?;
-                tariff.factors.push(factor);
-            }
-            _ => {
-                let stop = read_stop(record.body, tariff.areas.len()).ok_or(fault(3))?;
-                tariff.stops.push(stop);
-            }
+            KIND_AREA | KIND_AACHEN_AREA => self.areas.push(read_area(record, &self.areas).ok_or(3u32)?),
+            KIND_FACTOR => self.factors.push(read_factor(record.body, self.factors.is_empty()).ok_or(3u32)?),
+            _ => self.stops.push(read_stop(record.body, self.areas.len()).ok_or(3u32)?),
         }
-        place += record.size();
+        Ok(())
     }
-    // A record is still due: an area, or a factor record.
-    if tariff.areas.is_empty() || tariff.factors.len() < tariff.factors_due() {
-        return Err(Refusal { number: 2, place: place as u32 });
-    }
-    Ok(tariff)
-}
 
-impl Tariff {
+    /// Whether no record is due any more: it has areas, and all of their factor records.
+    pub fn is_whole(&self) -> bool {
+        !self.areas.is_empty() && self.factors.len() == self.factors_due()
+    }
+
     /// Whether kind, body length, order and number let this record come next.
     fn may_go_on_with(&self, record: &Record) -> bool {
         let length = record.body.len();
@@ -159,12 +149,7 @@ impl Tariff {
             KIND_AREA => length == AREA_BODY && self.may_have_another_area(),
             KIND_AACHEN_AREA => length == AACHEN_AREA_BODY && self.may_have_another_area(),
             KIND_FACTOR => length == FACTOR_BODY && self.stops.is_empty() && self.factors.len() < self.factors_due(),
-            KIND_STOP => {
-                length == STOP_BODY
-                    && !self.areas.is_empty()
-                    && self.factors.len() == self.factors_due()
-                    && self.stops.len() < MOST_STOPS
-            }
+            KIND_STOP => length == STOP_BODY && self.is_whole() && self.stops.len() < MOST_STOPS,
             _ => false,
         }
     }

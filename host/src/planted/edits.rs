@@ -7,7 +7,7 @@ pub struct Planted {
     pub edits: &'static [(&'static str, &'static str, &'static str)],
 }
 
-pub const PLANTED: [Planted; 40] = [
+pub const PLANTED: [Planted; 52] = [
     // Promise 1: a refusal changes nothing, and the refusals are tried in their order.
     Planted {
         name: "refusal_12_writes_the_book",
@@ -18,21 +18,15 @@ pub const PLANTED: [Planted; 40] = [
         )],
     },
     Planted {
-        name: "stops_after_stamps",
-        edits: &[
-            (
-                "model.rs",
-                "unless(trip.stops.iter().all(|&stop| stop < tariff.stops.len()), 7)?;",
-                "let known = trip.stops.iter().all(|&stop| stop < tariff.stops.len());",
-            ),
-            ("model.rs", "unless(trip.class != 1 ||", "unless(!known || trip.class != 1 ||"),
-            (
-                "model.rs",
-                "let check_out = trip.check_out.minute_number().ok_or(refused(8))?;",
-                "let check_out = trip.check_out.minute_number().ok_or(refused(8))?;
-                 unless(known, 7)?;",
-            ),
-        ],
+        name: "stops_before_10",
+        edits: &[(
+            "model.rs",
+            "unless(book.trips() == 0 || book.last_check_out() <= check_in, 10)?;",
+            "let window = window_for(book.clone(), &file, check_in, check_out);
+             let stops = window.map_or(usize::MAX, |window| file.tariff(window.edition()).stops.len());
+             unless(trip.stops.iter().all(|&stop| stop < stops), 7)?;
+             unless(book.trips() == 0 || book.last_check_out() <= check_in, 10)?;",
+        )],
     },
     // Promise 2: every step of a price rounds up for itself.
     Planted {
@@ -108,14 +102,14 @@ pub const PLANTED: [Planted; 40] = [
         )],
     },
     Planted {
-        name: "town_after_stamps",
+        name: "town_after_11",
         edits: &[
-            ("model.rs", "unless(trip.class != 1 || !rides_in_a_marked_town(&tariff, &trip.stops), 6)?;", ""),
+            ("model.rs", "unless(trip.class != 1 || !rides_in_a_marked_town(tariff, &trip.stops), 6)?;", ""),
             (
                 "model.rs",
-                "let check_out = trip.check_out.minute_number().ok_or(refused(8))?;",
-                "let check_out = trip.check_out.minute_number().ok_or(refused(8))?;
-                 unless(trip.class != 1 || !rides_in_a_marked_town(&tariff, &trip.stops), 6)?;",
+                "unless(window.trips() + parts.len() as u64 <= TRIPS_IN_A_WINDOW, 11)?;",
+                "unless(window.trips() + parts.len() as u64 <= TRIPS_IN_A_WINDOW, 11)?;
+                 unless(trip.class != 1 || !rides_in_a_marked_town(tariff, &trip.stops), 6)?;",
             ),
         ],
     },
@@ -187,8 +181,11 @@ pub const PLANTED: [Planted; 40] = [
         edits: &[(
             "model.rs",
             "unless(!trip.is_mistap(check_out - check_in), 17)?;",
-            "let point = |stop: usize| (tariff.stops[stop].x, tariff.stops[stop].y);
-             let is_one_point = trip.stops.iter().all(|&stop| point(stop) == point(trip.stops[0]));
+            "let window = window_for(book.clone(), &file, check_in, check_out);
+             let stops = window.map_or(Vec::new(), |window| file.tariff(window.edition()).stops.clone());
+             let point = |stop: usize| stops.get(stop).map(|stop| (stop.x, stop.y));
+             let is_there = |stop: usize| point(stop).is_some() && point(stop) == point(trip.stops[0]);
+             let is_one_point = trip.stops.iter().all(|&stop| stop == trip.stops[0] || is_there(stop));
              unless(!is_one_point || check_out - check_in > 2, 17)?;",
         )],
     },
@@ -208,12 +205,85 @@ pub const PLANTED: [Planted; 40] = [
         name: "mistap_of_a_part",
         edits: &[(
             "model.rs",
-            "let parts = parts_of(&tariff, &trip.stops, check_out - check_in);",
-            "let parts = parts_of(&tariff, &trip.stops, check_out - check_in);
+            "let parts = parts_of(tariff, &trip.stops, check_out - check_in);",
+            "let parts = parts_of(tariff, &trip.stops, check_out - check_in);
              for part in &parts {
                  unless(!Trip { stops: part.stops.clone(), ..trip.clone() }.is_mistap(part.minutes), 17)?;
              }",
         )],
+    },
+    // Editions: which one settles a trip, what a file may be, what a book may hold, and where 22 stands.
+    Planted {
+        name: "edition_of_the_check_in",
+        edits: &[(
+            "model.rs",
+            "let tariff = file.tariff(window.edition());",
+            "let tariff = file.tariff(file.in_force(check_in).unwrap_or(window.edition()));",
+        )],
+    },
+    Planted {
+        name: "edition_of_the_check_out",
+        edits: &[("charge.rs", "file.in_force(check_in)", "file.in_force(check_in).and(file.in_force(check_out))")],
+    },
+    Planted {
+        name: "edition_from_its_second_minute",
+        edits: &[("editions.rs", "edition.since <= minute", "edition.since < minute || minute == 0")],
+    },
+    Planted {
+        name: "edition_of_the_last_window",
+        edits: &[(
+            "charge.rs",
+            "Book::opened_at(check_in, edition)",
+            "Book::opened_at(check_in, if is_open { book.edition() } else { edition })",
+        )],
+    },
+    Planted { name: "equal_dates", edits: &[("editions.rs", "earlier.since < since", "earlier.since <= since")] },
+    Planted {
+        name: "third_edition",
+        edits: &[("editions.rs", "const MOST_EDITIONS: usize = 2;", "const MOST_EDITIONS: usize = 3;")],
+    },
+    Planted {
+        name: "opening_before_the_factor_records",
+        edits: &[(
+            "editions.rs",
+            "let is_due = self.editions.is_empty() || self.is_whole();",
+            "let is_due = self.editions.last().is_none_or(|last| !last.tariff.areas.is_empty());",
+        )],
+    },
+    Planted {
+        name: "bicycles_by_the_last_edition",
+        edits: &[("book.rs", "areas[self.edition() - 1]", "areas[areas.len() - 1]")],
+    },
+    Planted {
+        name: "book_without_an_edition",
+        edits: &[
+            ("book.rs", "(1..=areas.len()).contains(&self.edition())", "self.edition() <= areas.len()"),
+            ("book.rs", "areas[self.edition() - 1]", "areas[self.edition().max(1) - 1]"),
+            ("book.rs", "self.words[EDITION_WORD] as usize", "self.words[EDITION_WORD].max(u64::from(self.trips() > 0)) as usize"),
+        ],
+    },
+    Planted {
+        name: "no_edition_before_10",
+        edits: &[(
+            "model.rs",
+            "unless(book.trips() == 0 || book.last_check_out() <= check_in, 10)?;",
+            "unless(window_for(book.clone(), &file, check_in, check_out).is_some(), 22)?;
+             unless(book.trips() == 0 || book.last_check_out() <= check_in, 10)?;",
+        )],
+    },
+    Planted {
+        name: "no_edition_after_7",
+        edits: &[(
+            "model.rs",
+            "let window = window_for(book, &file, check_in, check_out).ok_or(refused(22))?;",
+            "let stops = file.tariff(1).stops.len();
+             let number = if trip.stops.iter().all(|&stop| stop < stops) { 22 } else { 7 };
+             let window = window_for(book, &file, check_in, check_out).ok_or(refused(number))?;",
+        )],
+    },
+    Planted {
+        name: "closing_leaves_the_edition",
+        edits: &[("page.rs", "page[bytes_of(place)].fill(0);", "page[bytes_of(place)][..PLACE_BYTES - 4].fill(0);")],
     },
     // A page of accounts: the lowest place, the whole of it and no other, every number, and the order of the refusals.
     Planted {
@@ -272,15 +342,15 @@ pub const PLANTED: [Planted; 40] = [
     },
     Planted {
         name: "page_before_the_tariff",
-        edits: &[("page.rs", "read_tariff(tariff)?;", "Half::of(page, association, member)?; read_tariff(tariff)?;")],
+        edits: &[("page.rs", "read_file(tariff)?;", "Half::of(page, association, member)?; read_file(tariff)?;")],
     },
     Planted {
         name: "others_books_looked_at",
         edits: &[(
             "page.rs",
-            "// 4 to 12, and 17\n",
-            "let areas = read_tariff(tariff)?.areas.len();
-             let is_sound = |place| Book::read(&page[book_of(place)]).is_some_and(|book| book.is_sound(areas));
+            "// from 4 on\n",
+            "let areas = read_file(tariff)?.areas();
+             let is_sound = |place| Book::read(&page[book_of(place)]).is_some_and(|book| book.is_sound(&areas));
              let own = half.first..half.first + PLACES_OF_EACH;
              unless(own.into_iter().all(|place| half.numbers[place - half.first] == FREE || is_sound(place)), 4)?;\n",
         )],

@@ -39,7 +39,7 @@ same-length-2 c = search needs
 returns : tie.Need-returns
 returns c =
     let a = c .before .before .before .before .before .before .before .before .before .before .before .args in
-    place-told _ (a .counts) (a .page .now) (a .place) (a .place * placeSize + numberSize + bookSize - (a .place * placeSize + numberSize)) _ _ (omega arith) (c .before .before .before .before .settle-under .ensures)
+    place-told _ (a .editions) (a .page .now) (a .place) (a .place * placeSize + numberSize + bookSize - (a .place * placeSize + numberSize)) _ _ (omega arith) (c .before .before .before .before .settle-under .ensures)
 
 pub settle-at-spec : {M : Type 1} → statement M
 settle-at-spec =

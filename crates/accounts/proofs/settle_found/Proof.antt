@@ -40,7 +40,7 @@ returns : tie.Need-returns
 returns c =
     let a = c .before .before .before .before .before .before .before .before .before .args in
     rw (c .refuse .ensures)
-    (refusal-told _ _ _ _ 0 (under-wrong-page (a .first) (a .count) (a .page .now) (a .member) (a .tariff .now) (a .trip .now) (length (a .statement .now)) (a .counts) (sym (c .before .before .before .account-of .ensures) ∙ c .before .enum-told .given .1)) (omega arith))
+    (refusal-told _ _ _ _ 0 (under-wrong-page (a .first) (a .count) (a .page .now) (a .member) (a .file .now) (a .trip .now) (length (a .statement .now)) (a .editions) (sym (c .before .before .before .account-of .ensures) ∙ c .before .enum-told .given .1)) (omega arith))
 
 same-length-2 : tie.Need-same-length-2
 same-length-2 c = search needs
@@ -49,7 +49,7 @@ returns-2 : tie.Need-returns-2
 returns-2 c =
     let a = c .before .before .before .before .before .before .before .before .before .args in
     rw (c .refuse2 .ensures)
-    (refusal-told _ _ _ _ 0 (under-absent (a .first) (a .count) (a .page .now) (a .member) (a .tariff .now) (a .trip .now) (length (a .statement .now)) (a .counts) (sym (c .before .before .before .account-of .ensures) ∙ c .before .enum-told2 .given .1)) (omega arith))
+    (refusal-told _ _ _ _ 0 (under-absent (a .first) (a .count) (a .page .now) (a .member) (a .file .now) (a .trip .now) (length (a .statement .now)) (a .editions) (sym (c .before .before .before .account-of .ensures) ∙ c .before .enum-told2 .given .1)) (omega arith))
 
 same-length-3 : tie.Need-same-length-3
 same-length-3 c = search needs
@@ -60,7 +60,7 @@ same-length-4 c = search needs
 returns-3 : tie.Need-returns-3
 returns-3 c =
     let a = c .before .before .before .before .before .before .before .before .before .before .before .before .before .before .before .before .args in
-    rw (under-present (a .first) (a .count) (a .page .now) (a .member) (a .tariff .now) (a .trip .now) (length (a .statement .now)) (a .counts) _ (sym (c .before .before .before .before .before .before .before .before .before .before .account-of .ensures) ∙ c .before .before .before .before .before .before .before .before .place .given .1)) (c .before .before .before .before .settle-at .ensures)
+    rw (under-present (a .first) (a .count) (a .page .now) (a .member) (a .file .now) (a .trip .now) (length (a .statement .now)) (a .editions) _ (sym (c .before .before .before .before .before .before .before .before .before .before .account-of .ensures) ∙ c .before .before .before .before .before .before .before .before .place .given .1)) (c .before .before .before .before .settle-at .ensures)
 
 pub settle-found-spec : {M : Type 1} → statement M
 settle-found-spec =

@@ -6,7 +6,8 @@ use native.Mathlib.Omega.{arith}
 use mathlib.Core.Path.{ap, _∙_}
 use borrow.Author.Needs.{needs}
 use Rattle.statement.specs.Record.{Part, headSize}
-use Rattle.ledger.proofs.SoundLaws.{sound-has, fresh-is}
+use Rattle.ledger.proofs.SoundLaws.{fresh-is}
+use Rattle.charging.proofs.ChargeLaws.{ride-book}
 use Rattle.posting.specs.Contracts.{Postable}
 use Rattle.posting.proofs.PostSteps.{
   Groups,
@@ -62,7 +63,7 @@ cast-bicycles c = search needs
 open-window-requires : tie.Need-open-window-requires Inv-loop μ-loop
 open-window-requires c κs =
     let p = c .before .before .before .before .before .before .before .before .pre .postable in
-    let has = sound-has _ _ (p .rideable .sound-book) in
+    let has = ride-book (p .rideable) in
     (has .size, (fresh-is has, p .few))
 
 -- what the record says of its part

@@ -1,4 +1,4 @@
--- `settle::settle` meets its contract: tariff and book are refused, or what comes on a book that is ready.
+-- `settle::settle` meets its contract: file and book are refused, or what comes on a book that is ready.
 -- Assumes nothing.
 use mathlib.Core.Path.{sym, _∙_}
 use Rattle.settle.proofs.Ways.{faultless-way, refusal-told}
@@ -14,11 +14,11 @@ readiness-of-requires c κs = search needs
 enum-known-number : tie.Need-enum-known-number
 enum-known-number c = search needs
 
-enum-known-counts : tie.Need-enum-known-counts
-enum-known-counts c = search needs
+enum-known-editions : tie.Need-enum-known-editions
+enum-known-editions c = search needs
 
 settle-next-requires : tie.Need-settle-next-requires
-settle-next-requires c κs = ready-then _ _ (sym (c .before .before .before .before .before .readiness-of .ensures) ∙ c .before .before .before .counts .given .1)
+settle-next-requires c κs = ready-then _ _ (sym (c .before .before .before .before .before .readiness-of .ensures) ∙ c .before .before .before .editions .given .1)
 
 same-length : tie.Need-same-length
 same-length c = search needs
@@ -36,7 +36,7 @@ same-length-3 c = search needs
 
 returns-2 : tie.Need-returns-2
 returns-2 c =
-    let ready = ready-then _ _ (sym (c .before .before .before .before .before .before .before .before .before .before .readiness-of .ensures) ∙ c .before .before .before .before .before .before .before .before .counts .given .1) in
+    let ready = ready-then _ _ (sym (c .before .before .before .before .before .before .before .before .before .before .readiness-of .ensures) ∙ c .before .before .before .before .before .before .before .before .editions .given .1) in
     rw (faultless-way _ _ _ _ _ (ready .read)) (c .before .before .before .before .settle-next .ensures .told)
 
 pub settle-spec : {M : Type 1} → statement M
@@ -45,7 +45,7 @@ settle-spec =
     (tie.spec
     readiness-of-requires
     enum-known-number
-    enum-known-counts
+    enum-known-editions
     settle-next-requires
     same-length
     returns

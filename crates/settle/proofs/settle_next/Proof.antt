@@ -1,9 +1,11 @@
 -- `settle::settle_next` meets its contract: a refusal leaves everything, and the records that were stated are posted as the accepted outcome.
 -- Assumes nothing.
+use Prim.Native.Nat.{_≤_}
 use native.Mathlib.Omega.{arith}
-use Rattle.settle.proofs.Ways.{refusal-told, refused-under}
-use Rattle.settle.proofs.Answers.{why-refused, records-postable, settled-told}
 use borrow.Author.Needs.{needs}
+use lib.ListN.{length}
+use Rattle.settle.proofs.Ways.{refusal-told, refused-under}
+use Rattle.settle.proofs.Answers.{why-refused, slice-near, records-postable, settled-told}
 use Rattle.settle.proofs.settle_next.Statement.{statement}
 use Rattle.settle.proofs.settle_next.Tie as tie
 
@@ -23,9 +25,25 @@ enum-known-size c = search needs
 abbrev start : tie.After-size → tie.Start
 start c = c .before .before .before .before .before .before .before .before .before .before .before
 
+-- the two places are within the file
+near :
+    (c : tie.After-size)
+    → (c .size .given .0 .1 .1 .1 .1 .0 ≤ c .size .given .0 .1 .1 .1 .1 .1 .0)
+    × (c .size .given .0 .1 .1 .1 .1 .1 .0 ≤ length (start c .args .file .now))
+near c = slice-near (start c .pre) (c .before .before .before .before .state-trip .ensures) (c .size .given .1)
+
+sub-post-records : tie.Need-sub-post-records
+sub-post-records c = near (c .before) .0
+
+part-post-records-start : tie.Need-part-post-records-start
+part-post-records-start c = omega (arith, near (c .before) .0, near (c .before) .1)
+
+part-post-records-end : tie.Need-part-post-records-end
+part-post-records-end c = omega (arith, near (c .before) .0, near (c .before) .1)
+
 post-records-requires : tie.Need-post-records-requires
 post-records-requires c κs =
-    let at = c .before .before .before in
+    let at = c .before .before .before .before in
     records-postable (start at .pre) (at .before .before .before .before .state-trip .ensures) (at .size .given .1)
 
 same-length : tie.Need-same-length
@@ -51,7 +69,7 @@ same-length-4 c = search needs
 
 returns-2 : tie.Need-returns-2
 returns-2 c =
-    let at = c .before .before .before .before .before .before in
+    let at = c .before .before .before .before .before .before .before in
     settled-told (start at .pre) (at .before .before .before .before .state-trip .ensures) (at .size .given .1) (c .before .before .post-records .ensures)
 
 pub settle-next-spec : {M : Type 1} → statement M
@@ -62,6 +80,9 @@ settle-next-spec =
     enum-known-why
     number-requires
     enum-known-size
+    sub-post-records
+    part-post-records-start
+    part-post-records-end
     post-records-requires
     same-length
     same-length-2

@@ -2,17 +2,14 @@
 -- Assumes nothing.
 use native.Mathlib.Omega.{arith}
 use mathlib.Core.Path.{sym, _∙_}
+use borrow.Author.Needs.{needs}
 use borrow.Author.Tests.{not-true, not-false}
 use Rattle.settle.proofs.Ways.{refusal-told, unsound-under}
-use borrow.Author.Needs.{needs}
 use Rattle.settle.proofs.settle_under.Statement.{statement}
 use Rattle.settle.proofs.settle_under.Tie as tie
 
-cast-is-sound : tie.Need-cast-is-sound
-cast-is-sound c = search needs
-
-is-sound-requires : tie.Need-is-sound-requires
-is-sound-requires c κs = search needs
+is-sound-in-requires : tie.Need-is-sound-in-requires
+is-sound-in-requires c κs = search needs
 
 number-requires : tie.Need-number-requires
 number-requires c κs = search needs
@@ -23,11 +20,14 @@ same-length c = search needs
 returns : tie.Need-returns
 returns c =
     refusal-told _ _ _ _ 0
-    (rw (c .number .ensures) (unsound-under _ _ _ _ _ (sym (c .before .before .is-sound .ensures) ∙ not-true _ (c .before .if1 .taken)))) (omega arith)
+    (rw (c .number .ensures) (unsound-under _ _ _ _ _ (sym (c .before .before .is-sound-in .ensures) ∙ not-true _ (c .before .if1 .taken)))) (omega arith)
 
 settle-next-requires : tie.Need-settle-next-requires
 settle-next-requires c κs =
-    record { read = c .before .before .before .before .before .before .before .before .before .before .pre; sound-book = sym (c .before .before .before .is-sound .ensures) ∙ not-false _ (c .before .before .if1 .left) }
+    record {
+      read = c .before .before .before .before .before .before .before .before .before .pre;
+      sound-book = sym (c .before .before .before .is-sound-in .ensures) ∙ not-false _ (c .before .before .if1 .left);
+    }
 
 same-length-2 : tie.Need-same-length-2
 same-length-2 c = search needs
@@ -42,8 +42,7 @@ pub settle-under-spec : {M : Type 1} → statement M
 settle-under-spec =
     tie.close
     (tie.spec
-    cast-is-sound
-    is-sound-requires
+    is-sound-in-requires
     number-requires
     same-length
     returns

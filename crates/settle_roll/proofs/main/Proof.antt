@@ -1,4 +1,4 @@
--- `main` is safe: the bytes that the tariff has are there.
+-- `main` is safe: the bytes that were read of the file are there.
 -- Assumes nothing.
 use native.Mathlib.Omega.{arith}
 use mathlib.Core.Path.{sym}
@@ -16,8 +16,8 @@ load-tariff-requires c κs = search needs
 returns : tie.Need-returns
 returns c = search needs
 
-array-share-prefix-tariff : tie.Need-array-share-prefix-tariff
-array-share-prefix-tariff c = search needs
+array-share-prefix-file : tie.Need-array-share-prefix-file
+array-share-prefix-file c = search needs
 
 slice-aggregate-settle-or-refuse : tie.Need-slice-aggregate-settle-or-refuse
 slice-aggregate-settle-or-refuse c = sym (length-take-le _ _ (omega arith))
@@ -35,7 +35,7 @@ main-spec =
     slice-aggregate-load-tariff
     load-tariff-requires
     returns
-    array-share-prefix-tariff
+    array-share-prefix-file
     slice-aggregate-settle-or-refuse
     settle-or-refuse-requires
     returns-2)

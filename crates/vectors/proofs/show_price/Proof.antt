@@ -1,18 +1,18 @@
--- `vectors::show_price` is safe and ends: only a good trip under a faultless tariff is priced.
+-- `vectors::show_price` is safe and ends: only a good trip under a faultless file is priced, by the tariff of its window's edition.
 -- Assumes nothing.
 use mathlib.Core.Path.{sym, _∙_}
 use borrow.Author.Needs.{needs}
 use Rattle.fare.proofs.GoodTrips.{riding, in-order}
-use Rattle.ledger.proofs.SoundLaws.{fresh-sound}
-use Rattle.deciding.proofs.Decisions.{clear-found, no-row}
+use Rattle.deciding.proofs.Decisions.{all-clear}
+use Rattle.roll.proofs.Fresh.{fresh-in}
 use Rattle.vectors.proofs.show_price.Statement.{statement}
 use Rattle.vectors.proofs.show_price.Tie as tie
 
-read-tariff-requires : tie.Need-read-tariff-requires
-read-tariff-requires c κs = search needs
+read-file-requires : tie.Need-read-file-requires
+read-file-requires c κs = search needs
 
-enum-known-counts : tie.Need-enum-known-counts
-enum-known-counts c = search needs
+enum-known-editions : tie.Need-enum-known-editions
+enum-known-editions c = search needs
 
 enum-told : tie.Need-enum-told
 enum-told c = search needs
@@ -32,19 +32,27 @@ slice-aggregate-decide c = search needs
 decide-requires : tie.Need-decide-requires
 decide-requires c κs =
     let start = c .before .before in
-    record { read = sym (start .before .before .read-tariff .ensures) ∙ start .counts .given .1; sound-book = fresh-sound _ }
+    record { read = sym (start .before .before .read-file .ensures) ∙ start .editions .given .1; sound-book = fresh-in _ }
 
 enum-known-fields : tie.Need-enum-known-fields
 enum-known-fields c = search needs
 
+tariff-in-requires : tie.Need-tariff-in-requires
+tariff-in-requires c κs =
+    let start = c .before .before .before .before .before .before in
+    sym (start .before .before .read-file .ensures) ∙ start .editions .given .1
+
+counts-in-requires : tie.Need-counts-in-requires
+counts-in-requires c κs = search needs
+
 show-rides-requires : tie.Need-show-rides-requires
 show-rides-requires c κs =
-    let start = c .before .before .before .before .before .before in
-    let read = sym (start .before .before .read-tariff .ensures) ∙ start .counts .given .1 in
-    let decision = sym (c .before .before .before .decide .ensures) ∙ c .before .fields .given .1 in
-    let (none, (trip-is, (window-is, breaking-is))) = clear-found _ _ _ _ _ decision in
-    let good = no-row _ _ _ _ _ none .good in
-    (rw trip-is (riding read good), (rw trip-is (in-order good), rw trip-is breaking-is))
+    let start = c .before .before .before .before .before .before .before .before in
+    let read = sym (start .before .before .read-file .ensures) ∙ start .editions .given .1 in
+    let decision = sym (c .before .before .before .before .before .decide .ensures) ∙ c .before .before .before .fields .given .1 in
+    let clear = all-clear _ _ _ _ _ _ _ _ (record { read = read; sound-book = fresh-in _ }) decision in
+    rw (c .before .tariff-in .ensures, c .counts-in .ensures)
+    (rw (clear .trip-is) (riding (clear .read) (clear .good)), (rw (clear .trip-is) (in-order (clear .good)), clear .breaking-is))
 
 enum-known-why : tie.Need-enum-known-why
 enum-known-why c = search needs
@@ -77,8 +85,8 @@ pub show-price-spec : {M : Type 1} → statement M
 show-price-spec =
     tie.close
     (tie.spec
-    read-tariff-requires
-    enum-known-counts
+    read-file-requires
+    enum-known-editions
     enum-told
     slice-aggregate-say
     say-requires
@@ -86,6 +94,8 @@ show-price-spec =
     slice-aggregate-decide
     decide-requires
     enum-known-fields
+    tariff-in-requires
+    counts-in-requires
     show-rides-requires
     enum-known-why
     slice-aggregate-say-number

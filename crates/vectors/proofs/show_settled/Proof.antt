@@ -20,7 +20,7 @@ slice-aggregate-show-records c = search needs
 show-records-requires : tie.Need-show-records-requires
 show-records-requires c κs =
     let entered = c .before .before .before .before .before .before .before .before .before .before .before .before .before .args in
-    settled-readable (entered .tariff .now) (entered .book .now) (entered .trip .now) _ (c .before .before .before .before .before .before .before .settle .ensures) (c .before .before .size .given .1)
+    settled-readable (entered .file .now) (entered .book .now) (entered .trip .now) _ (c .before .before .before .before .before .before .before .settle .ensures) (c .before .before .size .given .1)
 
 enum-known-number : tie.Need-enum-known-number
 enum-known-number c = search needs

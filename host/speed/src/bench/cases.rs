@@ -1,6 +1,6 @@
 //! The calls that are measured.
 
-use super::inputs::{grown, largest, longest, sample, three_areas, Network, Reach, SEED, SUMMER_TIME};
+use super::inputs::{grown, largest, longest, sample, three_areas, two_editions, Network, Reach, SEED, SUMMER_TIME};
 use milecopper_host::differential::books::{fresh, set_word, BICYCLES, TRIPS};
 use milecopper_host::differential::random::Random;
 use milecopper_host::differential::trips::Plan;
@@ -64,7 +64,7 @@ const FULL: [u64; 3] = [10, 10, 10];
 
 /// All cases, always in the same order.
 pub fn all() -> Vec<Case> {
-    let networks = [largest(), longest(), sample()];
+    let networks = [largest(), longest(), two_editions(), sample()];
     let mut cases: Vec<Case> = networks.iter().flat_map(settled).collect();
     cases.extend(networks.iter().flat_map(checked));
     cases.extend(networks.iter().chain([&three_areas()]).map(checked_alone));
@@ -123,7 +123,7 @@ fn case(group: Group, name: String, network: &Network, book: &[u8], plan: &Plan)
 }
 
 fn settled(network: &Network) -> Vec<Case> {
-    let near = if network.name == "longest" { "in a region" } else { "in a city" };
+    let near = if ["longest", "two editions"].contains(&network.name) { "in a region" } else { "in a city" };
     let ways = [
         ("fresh book", near, fresh(), LATER, Reach::City, 2),
         ("used book", near, used(network), LATER, Reach::City, 2),
@@ -171,18 +171,22 @@ type Spoil = fn(&mut Case);
 
 /// Each refusal, with its fault as late in the bytes as it can stand.
 fn refused(network: &Network) -> Vec<Case> {
-    let spoils: [(u64, &str, Spoil); 13] = [
+    let spoils: [(u64, &str, Spoil); 14] = [
         (1, "the last record cut", |case| case.tariff.truncate(case.tariff.len() - 1)),
         (2, "the last record of another kind", |case| set_from_end(&mut case.tariff, 11, 9)),
         (3, "the last stop in no area", |case| set_from_end(&mut case.tariff, 9, 32)),
         (4, "the last bicycle in no area", |case| set_word(&mut case.book, BICYCLES + 9, 33)),
         (5, "a byte behind the record", trip_too_long),
         (6, "11 bicycles", |case| case.trip[22] = 11),
-        (7, "the last stop unknown", |case| set_from_end(&mut case.trip, 1, 255)),
         (8, "check-out at minute 60", |case| case.trip[16] = 60),
         (9, "check-out before check-in", |case| case.trip[15] -= 1),
         (17, "tapped in and out at one stop", mistap),
         (10, "check-in before the last check-out", |case| case.trip[8] = 8),
+        (22, "the first edition a year later", |case| {
+            case.tariff[4..6].copy_from_slice(&[0xeb, 7]);
+            case.book = fresh();
+        }),
+        (7, "the last stop unknown", |case| set_from_end(&mut case.trip, 1, 255)),
         (11, "a window of 256 trips", |case| set_word(&mut case.book, TRIPS, 256)),
         (12, "a statement too short", no_room),
     ];
@@ -269,7 +273,7 @@ mod tests {
 
     #[test]
     fn a_used_book_has_sums_of_all() {
-        for network in [largest(), longest(), sample()] {
+        for network in [largest(), longest(), two_editions(), sample()] {
             let book = model::book::Book::read(&used(&network)).expect("a book");
             assert_eq!(book.trips(), 4);
             assert!((0..21).all(|rider| book.all_classes_sum(rider, 0) > 0));

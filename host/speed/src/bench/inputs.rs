@@ -27,14 +27,26 @@ pub struct Network {
 
 /// 32 areas of kind 1, 1,000 stops.
 pub fn largest() -> Network {
-    Network { name: "largest", tariff: made(&(areas(MOST_AREAS) + &spread_stops(MOST_STOPS))), stops: largest_stops }
+    Network {
+        name: "largest",
+        tariff: made_edition(&(areas(MOST_AREAS) + &spread_stops(MOST_STOPS))),
+        stops: largest_stops,
+    }
 }
 
 /// The longest in bytes: the state, 31 regions of kind 8, 1,000 stops. There is no city, and a trip that would lie in one
 /// lies in a region.
 pub fn longest() -> Network {
     let areas = area_line(0) + &(1..MOST_AREAS).map(aachen_line).collect::<String>() + &factors(MOST_AREAS);
-    Network { name: "longest", tariff: made(&(areas + &spread_stops(MOST_STOPS))), stops: longest_stops }
+    Network { name: "longest", tariff: made_edition(&(areas + &spread_stops(MOST_STOPS))), stops: longest_stops }
+}
+
+/// Two editions, each as the longest. Trips are of the second.
+pub fn two_editions() -> Network {
+    let longest = longest();
+    let second = made("edition 2001-01-01");
+    let tariff = [&longest.tariff[..], &second, &longest.tariff[second.len()..]].concat();
+    Network { name: "two editions", tariff, ..longest }
 }
 
 /// samples/tariff.bin: 10 areas of both kinds, 35 stops. Trips are those of its first areas.
@@ -46,24 +58,29 @@ pub fn sample() -> Network {
 pub fn three_areas() -> Network {
     let stops = "stop 2 300000 200000\nstop 2 308000 206000\nstop 1 350000 240000\nstop 0 600000 500000\n";
     let tariff = area_line(0) + &area_line(1) + &city_line(2, 1) + &factors(2) + stops;
-    Network { name: "three areas", tariff: made(&tariff), stops: three_areas_stops }
+    Network { name: "three areas", tariff: made_edition(&tariff), stops: three_areas_stops }
 }
 
 /// The state alone, with one stop.
 pub fn smallest() -> Network {
-    Network { name: "smallest", tariff: made(&(areas(1) + "stop 0 500000 500000\n")), stops: smallest_stops }
+    Network { name: "smallest", tariff: made_edition(&(areas(1) + "stop 0 500000 500000\n")), stops: smallest_stops }
 }
 
 /// A tariff of so many areas and stops whose first two stops are always the same: 5 km apart, in the state.
 pub fn grown(areas_due: usize, stops_due: usize) -> Vec<u8> {
     let first = "stop 0 500000 500000\nstop 0 503000 504000\n";
-    made(&(areas(areas_due) + first + &spread_stops(stops_due - 2)))
+    made_edition(&(areas(areas_due) + first + &spread_stops(stops_due - 2)))
 }
 
 const MOST_AREAS: usize = 32;
 const MOST_STOPS: usize = 1_000;
 /// Areas 1 to 4; the areas behind them are their cities.
 const REGIONS: usize = 4;
+
+/// One edition of these lines.
+fn made_edition(text: &str) -> Vec<u8> {
+    made(&format!("edition 2000-01-01\n{text}"))
+}
 
 fn made(text: &str) -> Vec<u8> {
     bytes_of(text).unwrap_or_else(|fault| panic!("{fault} in\n{text}"))
@@ -226,30 +243,36 @@ fn to_and_fro(ends: [usize; 2], many: usize) -> Vec<usize> {
 #[cfg(test)]
 mod tests {
     use super::*;
-    use milecopper_host::model::read_tariff;
-    use milecopper_host::model::tariff::{Level, TripCap};
+    use milecopper_host::model::read_file;
+    use milecopper_host::model::tariff::{Level, Tariff, TripCap};
+
+    /// That of the last edition.
+    fn read_tariff(bytes: &[u8]) -> Tariff {
+        read_file(bytes).expect("a faultless tariff").editions.pop().expect("an edition").tariff
+    }
 
     #[test]
     fn tariffs_are_faultless_and_as_large_as_they_are_called() {
         for (network, areas, stops) in [
             (largest(), 32, 1_000),
             (longest(), 32, 1_000),
+            (two_editions(), 32, 1_000),
             (sample(), 10, 35),
             (three_areas(), 3, 4),
             (smallest(), 1, 1),
         ] {
-            let tariff = read_tariff(&network.tariff).expect("a faultless tariff");
+            let tariff = read_tariff(&network.tariff);
             assert_eq!((tariff.areas.len(), tariff.stops.len()), (areas, stops), "{}", network.name);
         }
         for (areas, stops) in [(1, 2), (8, 2), (16, 2), (32, 2), (32, 250), (32, 1_000)] {
-            let tariff = read_tariff(&grown(areas, stops)).expect("a faultless tariff");
+            let tariff = read_tariff(&grown(areas, stops));
             assert_eq!((tariff.areas.len(), tariff.stops.len()), (areas, stops));
         }
     }
 
     #[test]
     fn the_largest_tariff_is_varied() {
-        let tariff = read_tariff(&largest().tariff).expect("a faultless tariff");
+        let tariff = read_tariff(&largest().tariff);
         assert_eq!(tariff.areas.iter().filter(|area| area.level == Level::City).count(), 27);
         assert!(tariff.areas.iter().any(|area| area.trip_cap == TripCap::None));
         assert!(tariff.areas.iter().any(|area| matches!(area.trip_cap, TripCap::Flat { .. })));
@@ -262,17 +285,18 @@ mod tests {
     #[test]
     fn the_longest_tariff_has_as_many_bytes_as_there_may_be() {
         let network = longest();
-        let tariff = read_tariff(&network.tariff).expect("a faultless tariff");
-        assert_eq!(network.tariff.len(), 14_523);
+        let tariff = read_tariff(&network.tariff);
+        assert_eq!(network.tariff.len(), 14_531);
+        assert_eq!(two_editions().tariff.len(), 29_062);
         assert!(tariff.areas[1..].iter().all(|area| area.is_aachen() && area.level == Level::Region));
     }
 
     #[test]
     fn trips_go_as_far_as_asked() {
         let random = &mut Random::of(SEED, 0);
-        for network in [largest(), longest(), sample(), three_areas()] {
-            let tariff = read_tariff(&network.tariff).expect("a faultless tariff");
-            let city = if network.name == "longest" { Level::Region } else { Level::City };
+        for network in [largest(), longest(), two_editions(), sample(), three_areas()] {
+            let tariff = read_tariff(&network.tariff);
+            let city = if ["longest", "two editions"].contains(&network.name) { Level::Region } else { Level::City };
             for (reach, level) in [(Reach::City, city), (Reach::Region, Level::Region), (Reach::State, Level::State)] {
                 for many in 2..50 {
                     let stops = (network.stops)(random, reach, many);

@@ -9,7 +9,7 @@ use std::os::fd::AsFd;
 use std::process::ExitCode;
 
 /// No tariff is decided by more than its first so many bytes: the longest tariff, and the longest record behind it.
-const TARIFF_BYTES: u64 = 14_523 + 1_026;
+const TARIFF_BYTES: u64 = 29_062 + 1_026;
 
 const USAGE: &str = "usage: tuned_roll <ROLL
 

@@ -1,12 +1,13 @@
-//! The book as it lies in its bytes, when it is sound, and its window. Refusals 4, 10 and 11.
+//! The book as it lies in its bytes, when it is sound, and its window. Refusals 4, 10, 22 and 11.
 
 use super::calendar::{LAST_MINUTE, MINUTES_IN_A_DAY};
+use super::editions::Editions;
 use super::numbers::{four, FOR_X86_64};
 use super::tariff::MOST_AREAS;
 use super::trip::Trip;
 use super::{Cents, Minutes, Refusal};
 
-pub const BOOK: usize = 5_468;
+pub const BOOK: usize = 5_472;
 const TRIPS_IN_A_WINDOW: u32 = 256;
 /// The largest price that a tariff can give.
 const LARGEST_PRICE: Cents = 3_790_000;
@@ -27,6 +28,8 @@ const WINDOW: usize = 12;
 const RIDERS: usize = 21 * 256;
 const BICYCLES: usize = 10 * 4;
 const PAIRS: usize = RIDERS / 8;
+/// Where the window's edition stands.
+const EDITION: usize = BOOK - 4;
 /// The holder and ten adults come first.
 const CHILDREN: usize = 11;
 
@@ -36,16 +39,30 @@ pub struct Book<'a>(&'a mut [u8; BOOK]);
 /// The window that a trip belongs to.
 pub struct Window {
     pub opening: Minutes,
-    /// With this one's parts.
+    /// Its number, 1 or 2.
+    pub edition: u32,
+    /// With this one's parts, once they are counted.
     trips: u32,
     /// Whether sums, bicycles and payments go back to none.
     clears: bool,
 }
 
-impl<'a> Book<'a> {
-    /// The book, refused where it is not sound under a tariff of so many areas.
+impl Window {
+    /// With the trip's parts, so many.
     #[inline(always)]
-    pub fn read(bytes: &'a mut [u8], areas: usize) -> Result<Book<'a>, Refusal> {
+    pub fn counting(self, parts: usize) -> Result<Window, Refusal> {
+        let trips = self.trips + parts as u32;
+        if trips > TRIPS_IN_A_WINDOW {
+            return Err(Refusal::new(11));
+        }
+        Ok(Window { trips, ..self })
+    }
+}
+
+impl<'a> Book<'a> {
+    /// The book, refused where it is not sound under editions of so many areas each.
+    #[inline(always)]
+    pub fn read(bytes: &'a mut [u8], areas: [usize; 2]) -> Result<Book<'a>, Refusal> {
         let bytes: Option<&mut [u8; BOOK]> = bytes.try_into().ok();
         bytes.filter(|bytes| is_sound(bytes, areas)).map(Book).ok_or_else(|| Refusal::new(4))
     }
@@ -64,26 +81,25 @@ impl<'a> Book<'a> {
 
     #[inline(always)]
     pub fn bicycles(&mut self) -> (&mut [Bicycle], &mut [Payments]) {
-        let (bicycles, payments) = self.0[WINDOW + RIDERS..].split_at_mut(BICYCLES);
+        let (bicycles, payments) = self.0[WINDOW + RIDERS..EDITION].split_at_mut(BICYCLES);
         (bicycles.as_chunks_mut().0, payments.as_chunks_mut().0)
     }
 
-    /// The window that the trip of so many parts belongs to: the open one, or the next.
+    /// The window that the trip belongs to, its parts not yet counted: the open one, or the next.
     #[inline(always)]
-    pub fn window_for(&self, trip: &Trip, parts: usize) -> Result<Window, Refusal> {
-        let parts = parts as u32;
+    pub fn window_for(&self, trip: &Trip, editions: &Editions) -> Result<Window, Refusal> {
         let (trips, opening, last) = (four(self.0, 0), four(self.0, 4), four(self.0, 8));
         // A book without trips has 0 for its last check-out.
         if trip.check_in < last {
             return Err(Refusal::new(10));
         }
         if trips == 0 || trip.check_out > opening + MINUTES_IN_A_DAY {
-            return Ok(Window { opening: trip.check_in, trips: parts, clears: trips != 0 });
+            return match editions.in_force(trip.check_in) {
+                0 => Err(Refusal::new(22)),
+                edition => Ok(Window { opening: trip.check_in, edition, trips: 0, clears: trips != 0 }),
+            };
         }
-        if trips + parts > TRIPS_IN_A_WINDOW {
-            return Err(Refusal::new(11));
-        }
-        Ok(Window { opening, trips: trips + parts, clears: false })
+        Ok(Window { opening, edition: four(self.0, EDITION), trips, clears: false })
     }
 
     /// Opens the window if it is new, and counts the trip's parts.
@@ -95,22 +111,29 @@ impl<'a> Book<'a> {
         self.0[0..4].copy_from_slice(&window.trips.to_le_bytes());
         self.0[4..8].copy_from_slice(&window.opening.to_le_bytes());
         self.0[8..12].copy_from_slice(&check_out.to_le_bytes());
+        self.0[EDITION..].copy_from_slice(&window.edition.to_le_bytes());
     }
 }
 
-/// Whether the book is sound under a tariff of so many areas. Without trips all else is 0 as well.
+/// Whether the book is sound under editions of so many areas each, 0 where there is none. Without trips all else is 0 as well.
 #[inline(never)]
-fn is_sound(bytes: &[u8; BOOK], areas: usize) -> bool {
+fn is_sound(bytes: &[u8; BOOK], areas: [usize; 2]) -> bool {
     let (trips, opening, last) = (four(bytes, 0), four(bytes, 4), four(bytes, 8));
-    let (riders, bicycles) = bytes[WINDOW..].split_at(RIDERS);
+    let (edition, (riders, bicycles)) = (four(bytes, EDITION), bytes[WINDOW..EDITION].split_at(RIDERS));
     if trips == 0 {
-        return opening | last == 0 && bits_of(bicycles) == 0 && no_sum_is_there(riders.as_chunks().0);
+        return opening | last | edition == 0 && bits_of(bicycles) == 0 && no_sum_is_there(riders.as_chunks().0);
     }
+    let areas = match edition {
+        1 => areas[0],
+        2 => areas[1],
+        _ => 0,
+    };
     let (bicycles, payments) = bicycles.split_at(BICYCLES);
     trips <= TRIPS_IN_A_WINDOW
         && last <= LAST_MINUTE
         && opening <= last
         && last - opening <= MINUTES_IN_A_DAY
+        && areas > 0
         && none_is_above(bicycles, areas as u32)
         && none_is_above(payments, MOST_PAYMENTS)
         && sums_are_sound(riders.as_chunks().0, trips * LARGEST_PRICE)

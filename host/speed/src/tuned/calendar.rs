@@ -21,6 +21,13 @@ pub fn minutes_of(check_in: u64, check_out: u64) -> Option<(Minutes, Minutes)> {
     Some((in_utc(first, check_in)?, in_utc(last, check_out)?))
 }
 
+/// The first minute in UTC of a date of 2000 to 2099, year, month and day as they stand in four bytes; or nothing where it is none.
+#[inline(always)]
+pub fn first_minute(date: u32) -> Option<Minutes> {
+    // As of midnight with some offset, which is not looked at.
+    start_of_day(STAMP.above_least(u64::from(date) | 1 << 48)? as u32)
+}
+
 /// The minute number of a stamp whose day starts at this minute by the local clock; nothing where it lies before minute 0.
 #[inline(always)]
 fn in_utc(day: Minutes, stamp: u64) -> Option<Minutes> {

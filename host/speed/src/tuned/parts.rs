@@ -23,7 +23,7 @@ pub struct Part {
     pub area: usize,
     /// dx² + dy² from its first stop to its last.
     pub square: i64,
-    /// 0 until the stamps are read; of a second part 0.
+    /// 0 until the duration is put there; of a second part 0.
     pub minutes: Minutes,
 }
 

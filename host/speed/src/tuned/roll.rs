@@ -3,11 +3,12 @@
 
 use super::book::{Book, BOOK};
 use super::charge::charge_party;
+use super::editions::{Editions, ROOM};
 use super::fare::Ride;
 use super::lines::{Charged, Lines, Tally};
 use super::numbers::two;
 use super::parts::{Part, Parts};
-use super::tariff::{Tariff, MOST_AREAS};
+use super::tariff::Tariff;
 use super::trip::Trip;
 use super::{Minutes, Refusal};
 use std::io::{self, ErrorKind, Read, Write};
@@ -22,19 +23,19 @@ const SLOTS: usize = 21 * 10 + 10 * 4;
 /// lines so far, and no tail.
 pub fn settle_roll(tariff: &[u8], roll: impl Read, out: impl Write) -> io::Result<()> {
     let mut lines = Lines::to(out);
-    let mut places = [0; MOST_AREAS];
-    let read = match Tariff::read(tariff, &mut places) {
+    let mut room = ROOM;
+    let read = match Editions::read(tariff, &mut room) {
         Err(fault) => lines.put_fault(fault),
-        Ok(tariff) => settle_records(&tariff, roll, &mut lines),
+        Ok(editions) => settle_records(&editions, roll, &mut lines),
     };
     lines.write().and(read)
 }
 
 /// Header, lines and tail.
-fn settle_records(tariff: &Tariff, mut roll: impl Read, lines: &mut Lines<impl Write>) -> io::Result<()> {
+fn settle_records(editions: &Editions, mut roll: impl Read, lines: &mut Lines<impl Write>) -> io::Result<()> {
     lines.put_header()?;
     let mut book = [0; BOOK];
-    let mut run = Run { tariff, book: Book::fresh(&mut book), slots: [0; SLOTS], tally: Tally::default() };
+    let mut run = Run { editions, book: Book::fresh(&mut book), slots: [0; SLOTS], tally: Tally::default() };
     let mut buffer = [0; BUFFER];
     let mut kept = 0;
     loop {
@@ -64,7 +65,7 @@ fn read(roll: &mut impl Read, buffer: &mut [u8]) -> io::Result<usize> {
 }
 
 struct Run<'a> {
-    tariff: &'a Tariff<'a>,
+    editions: &'a Editions<'a>,
     /// Sound from its start on, since settling leaves it sound.
     book: Book<'a>,
     slots: [u8; SLOTS],
@@ -72,13 +73,15 @@ struct Run<'a> {
 }
 
 /// A trip that is accepted, and stands in the book but for its charges.
-struct Entered {
+struct Entered<'a> {
     trip: Trip,
     parts: Parts,
     opening: Minutes,
+    /// That of the window's edition.
+    tariff: &'a Tariff<'a>,
 }
 
-impl Run<'_> {
+impl<'a> Run<'a> {
     /// Settles all records that are whole. The answer is the bytes behind them, or nothing where the run is over.
     fn settle_whole<'b>(&mut self, bytes: &'b [u8], lines: &mut Lines<impl Write>) -> io::Result<Option<&'b [u8]>> {
         let mut rest = bytes;
@@ -114,28 +117,32 @@ impl Run<'_> {
 
     /// Finds the refusals as `settle` does, but for that of the room: no record is written.
     #[inline(always)]
-    fn enter(&mut self, trip: &[u8]) -> Result<Entered, Refusal> {
-        let (trip, parts) = Trip::read(trip, self.tariff)?;
-        let window = self.book.window_for(&trip, parts.many())?;
+    fn enter(&mut self, trip: &[u8]) -> Result<Entered<'a>, Refusal> {
+        let (trip, numbers) = Trip::read(trip)?;
+        let window = self.book.window_for(&trip, self.editions)?;
+        let tariff = self.editions.tariff(window.edition);
+        let parts = trip.parts(numbers, tariff)?;
+        let window = window.counting(parts.many())?;
         self.book.enter(&window, trip.check_out);
-        Ok(Entered { trip, parts, opening: window.opening })
+        Ok(Entered { trip, parts, opening: window.opening, tariff })
     }
 
     #[inline(always)]
-    fn accept(&mut self, Entered { trip, parts, opening }: &Entered, lines: &mut Lines<impl Write>) -> io::Result<()> {
+    fn accept(&mut self, entered: &Entered, lines: &mut Lines<impl Write>) -> io::Result<()> {
         self.tally.accepted += 1;
         lines.next_record();
-        self.charge(trip, &parts.first, *opening, lines)?;
-        match parts.second {
+        self.charge(entered, &entered.parts.first, lines)?;
+        match entered.parts.second {
             None => Ok(()),
-            Some(part) => self.charge_second(trip, part, *opening, lines),
+            Some(part) => self.charge_second(entered, part, lines),
         }
     }
 
     /// Charges a part as `settle` does, and puts its line.
     #[inline(always)]
-    fn charge(&mut self, trip: &Trip, part: &Part, opening: Minutes, lines: &mut Lines<impl Write>) -> io::Result<()> {
-        let Run { tariff, book, slots, tally } = self;
+    fn charge(&mut self, entered: &Entered, part: &Part, lines: &mut Lines<impl Write>) -> io::Result<()> {
+        let &Entered { ref trip, opening, tariff, .. } = entered;
+        let Run { book, slots, tally, .. } = self;
         let ride = Ride::of(tariff, trip, part);
         let cents = charge_party(tariff, trip, &ride, book, slots);
         tally.cents += u64::from(cents);
@@ -144,14 +151,8 @@ impl Run<'_> {
 
     /// Few trips have a second part: it stands out of the way.
     #[inline(never)]
-    fn charge_second(
-        &mut self,
-        trip: &Trip,
-        part: Part,
-        opening: Minutes,
-        lines: &mut Lines<impl Write>,
-    ) -> io::Result<()> {
-        self.charge(trip, &part, opening, lines)
+    fn charge_second(&mut self, entered: &Entered, part: Part, lines: &mut Lines<impl Write>) -> io::Result<()> {
+        self.charge(entered, &part, lines)
     }
 
     fn refuse(&mut self, refusal: u32, lines: &mut Lines<impl Write>) -> io::Result<()> {

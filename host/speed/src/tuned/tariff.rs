@@ -1,7 +1,8 @@
-//! The tariff as it lies in its bytes: 1 to 32 areas of both kinds, then the factor records, then 0 to 1,000 stops. Refusals 1
-//! to 3.
+//! The tariff of an edition as it lies in its bytes: 1 to 32 areas of both kinds, then the factor records, then 0 to 1,000 stops.
+//! Refusals 1 to 3.
 
 use super::areas::{first_faulty_area, read_areas, Areas};
+use super::editions::opens;
 use super::factors::{are_faultless, faultless_factors};
 use super::numbers::{four, two};
 use super::stops::{all_are_faultless, faultless_stops};
@@ -47,9 +48,18 @@ pub struct Tariff<'a> {
 }
 
 impl<'a> Tariff<'a> {
-    /// The tariff, or the fault of its first faulty record and that record's place. The areas' places are put down.
+    /// The tariff that begins there in the file, and where it ends: where the file does, or a record of kind 9 begins; or the
+    /// fault of its first faulty record and that record's place. The areas' places are put down.
     #[inline(never)]
-    pub fn read(bytes: &'a [u8], places: &'a mut Places) -> Result<Tariff<'a>, Refusal> {
+    pub fn read(file: &'a [u8], from: usize, places: &'a mut Places) -> Result<(Tariff<'a>, usize), Refusal> {
+        let bytes = &file[from..];
+        Tariff::read_at_the_start(bytes, places)
+            .map(|(tariff, end)| (tariff, from + end))
+            .map_err(|refusal| Refusal(refusal.0 + from as u64))
+    }
+
+    #[inline(always)]
+    fn read_at_the_start(bytes: &'a [u8], places: &'a mut Places) -> Result<(Tariff<'a>, usize), Refusal> {
         let Areas { many, cities, end, are_faultless: well } = read_areas(bytes, places);
         if !well {
             return Err(fault_behind(&first_faulty_area(bytes), bytes));
@@ -60,10 +70,11 @@ impl<'a> Tariff<'a> {
             return Err(fault_among_factors(bytes, end, due));
         };
         let start = end + FACTOR * due;
-        match all_are_faultless(bytes, start, many) {
-            Ok(()) => Ok(Tariff { bytes, places, areas: many, factors, stops: bytes[start..].as_chunks().0 }),
-            Err(faultless) => Err(fault_among_stops(bytes, start, many, faultless)),
-        }
+        let end = match all_are_faultless(bytes, start, many) {
+            Ok(()) => bytes.len(),
+            Err(faultless) => end_of_stops(bytes, start, many, faultless)?,
+        };
+        Ok((Tariff { bytes, places, areas: many, factors, stops: bytes[start..end].as_chunks().0 }, end))
     }
 
     /// What areas of both kinds have.
@@ -154,12 +165,16 @@ fn fault_among_factors(bytes: &[u8], end: usize, due: usize) -> Refusal {
     fault_behind(&Faultless { factors, end: end + FACTOR * factors, ..areas }, bytes)
 }
 
-#[cold]
+/// Where the stops end, if another edition is opened there.
 #[inline(never)]
-fn fault_among_stops(bytes: &[u8], start: usize, areas: usize, faultless: usize) -> Refusal {
+fn end_of_stops(bytes: &[u8], start: usize, areas: usize, faultless: usize) -> Result<usize, Refusal> {
     let stops = faultless + faultless_stops(&bytes[start + STOP * faultless..], areas, MOST_STOPS - faultless);
+    let end = start + STOP * stops;
+    if opens(bytes, end) {
+        return Ok(end);
+    }
     // All factor records that are due stand before them, and one always is.
-    fault_behind(&Faultless { areas, due: 1, factors: 1, stops, end: start + STOP * stops }, bytes)
+    Err(fault_behind(&Faultless { areas, due: 1, factors: 1, stops, end }, bytes))
 }
 
 /// The fault of the record behind the faultless ones: 1 where its frame is broken, 3 where a record of its length and kind
@@ -182,7 +197,7 @@ fn fault_behind(&Faultless { areas, due, factors, stops, end }: &Faultless, byte
 }
 
 /// Whether a record with this head has a good length and ends within so many bytes.
-fn has_whole_frame(head: &[u8; 4], bytes: usize) -> bool {
+pub fn has_whole_frame(head: &[u8; 4], bytes: usize) -> bool {
     let length = two(head, 0) as usize;
     (2..=1_024).contains(&length) && 2 + length <= bytes
 }

@@ -28,9 +28,9 @@ pub struct Trip {
 }
 
 impl Trip {
-    /// The trip and its parts, or the first of the refusals 5 to 9 and 17.
+    /// The trip and the numbers of its stops, or the first of the refusals 5, 6, 8, 9 and 17.
     #[inline(always)]
-    pub fn read(bytes: &[u8], tariff: &Tariff) -> Result<(Trip, Parts), Refusal> {
+    pub fn read(bytes: &[u8]) -> Result<(Trip, &[[u8; 2]]), Refusal> {
         let Some((head, stops)) = bytes.split_first_chunk::<HEAD>() else {
             return Err(Refusal::new(5));
         };
@@ -42,33 +42,38 @@ impl Trip {
         if COUNTS.above_least(counts).is_none() {
             return Err(Refusal::new(6));
         }
-        let numbers = stops.as_chunks().0;
-        let Some(way) = Way::through(numbers, tariff.stops) else {
-            return Err(Refusal::new(7));
-        };
-        let class = counts >> 16 & 0xff;
-        let mut parts = way.parts(tariff);
-        if class == 1 && parts.lie_in_a_marked_town(tariff) {
-            return Err(Refusal::new(6));
-        }
         let Some((check_in, check_out)) = minutes_of(eight(head, 4), eight(head, 11)) else {
             return Err(Refusal::new(8));
         };
-        parts.first.minutes = check_out.wrapping_sub(check_in);
-        if parts.first.minutes > MINUTES_IN_A_DAY {
+        let (minutes, numbers) = (check_out.wrapping_sub(check_in), stops.as_chunks().0);
+        if minutes > MINUTES_IN_A_DAY {
             return Err(Refusal::new(9));
         }
-        if parts.first.minutes < NO_MISTAP && are_one(numbers) {
+        if minutes < NO_MISTAP && are_one(numbers) {
             return Err(Refusal::new(17));
         }
         let trip = Trip {
             check_in,
             check_out,
-            class,
+            class: counts >> 16 & 0xff,
             ticket_level: head[19].into(),
             party: (counts >> 32) as u32 & 0xff_ffff,
         };
-        Ok((trip, parts))
+        Ok((trip, numbers))
+    }
+
+    /// The parts of the trip through the stops of these numbers, or one of the refusals 7 and 6.
+    #[inline(always)]
+    pub fn parts(&self, numbers: &[[u8; 2]], tariff: &Tariff) -> Result<Parts, Refusal> {
+        let Some(way) = Way::through(numbers, tariff.stops) else {
+            return Err(Refusal::new(7));
+        };
+        let mut parts = way.parts(tariff);
+        if self.class == 1 && parts.lie_in_a_marked_town(tariff) {
+            return Err(Refusal::new(6));
+        }
+        parts.first.minutes = self.check_out - self.check_in;
+        Ok(parts)
     }
 
     #[inline(always)]

@@ -3,10 +3,10 @@
 use super::calls::{Call, PageCase};
 use super::pages::{book_of, is_sound, member_in, place_of, places_of};
 use crate::answer::Refusal as Named;
-use crate::differential::books::{word, TRIPS};
+use crate::differential::books::{word, EDITION, TRIPS};
 use crate::differential::counts::NUMBERS;
 use crate::model::page::{FREE, LARGEST_NUMBER, PAGE_BYTES, PLACES, PLACES_OF_EACH};
-use crate::model::{read_tariff, Refusal};
+use crate::model::{read_file, Refusal};
 use std::fmt;
 
 /// Each cause of 18, and whether it holds; those of what is stored only where the page has its length.
@@ -24,7 +24,7 @@ const CAUSES: [(&str, fn(&PageCase) -> bool); 7] = [
 /// several.
 type Way = (Call, usize, &'static str, fn(&PageCase) -> bool);
 
-const WAYS: [Way; 52] = [
+const WAYS: [Way; 54] = [
     (Call::Add, 0, "in its first place", |case| free_place(case) == Some(0)),
     (Call::Add, 0, "between two members", |case| {
         let free = free_place(case).expect("accepted, so there is one");
@@ -54,7 +54,7 @@ const WAYS: [Way; 52] = [
     (Call::Add, 21, "18 holds too", eighteen_holds),
     (Call::Add, 21, "18 does not hold", |case| !eighteen_holds(case)),
     (Call::Close, 0, "an open window", |case| word(own_book(case), TRIPS) != 0),
-    (Call::Close, 0, "a book that is not sound", |case| !is_sound(own_book(case), 32)),
+    (Call::Close, 0, "a book that is not sound", |case| !is_sound(own_book(case), &[32, 32])),
     (Call::Close, 0, "the last place", |case| own(case, PLACES_OF_EACH - 1) == case.member.into()),
     (Call::Close, 0, "association 0", |case| case.association == 0),
     (Call::Close, 0, "association 1", |case| case.association == 1),
@@ -81,6 +81,10 @@ const WAYS: [Way; 52] = [
     (Call::Settle, 0, "association 1", |case| case.association == 1),
     (Call::Settle, 0, "18 would hold in the other half", other_half_is_wrong),
     (Call::Settle, 0, "the number stands in the other half", is_in_the_other_half),
+    (Call::Settle, 0, "an open window of the second edition", |case| word(own_book(case), EDITION) == 2),
+    (Call::Settle, 0, "an open window of the first edition, of two", |case| {
+        word(own_book(case), EDITION) == 1 && read_file(&case.tariff).is_ok_and(|file| file.editions.len() == 2)
+    }),
     (Call::Settle, 1, "21 or 18 holds too", |case| case.association > 1 || eighteen_holds(case)),
     (Call::Settle, 2, "21 or 18 holds too", |case| case.association > 1 || eighteen_holds(case)),
     (Call::Settle, 3, "21 or 18 holds too", |case| case.association > 1 || eighteen_holds(case)),
@@ -149,10 +153,10 @@ fn own_book(case: &PageCase) -> &[u8] {
 
 /// Whether another member's book, in either half, is not sound under the tariff.
 fn is_beside_unsound(case: &PageCase) -> bool {
-    let areas = read_tariff(&case.tariff).map_or(0, |tariff| tariff.areas.len());
+    let areas = read_file(&case.tariff).map_or(Vec::new(), |file| file.areas());
     let own = place_of(&case.page, case.association, case.member);
     let is_anothers = |place: &usize| Some(*place) != own && u64::from(member_in(&case.page, *place)) != FREE;
-    (0..PLACES).filter(is_anothers).any(|place| !is_sound(&case.page[book_of(place)], areas))
+    (0..PLACES).filter(is_anothers).any(|place| !is_sound(&case.page[book_of(place)], &areas))
 }
 
 #[derive(Default)]

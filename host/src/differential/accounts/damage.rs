@@ -120,12 +120,12 @@ fn others_book(random: &mut Random, draft: &mut PageDraft) {
 
 fn own_book(random: &mut Random, draft: &mut PageDraft) {
     let Some(place) = place_of(&draft.page, draft.association, draft.member) else { return };
-    let areas = draft.draft.layout.areas;
+    let areas = draft.draft.areas();
     if random.chance(30) {
-        return put_some_book(random, &mut draft.page, place, areas, draft.draft.plan.check_in);
+        return put_some_book(random, &mut draft.page, place, &areas, draft.draft.plan.check_in);
     }
     let mut book = draft.draft.case.book.clone();
-    spoil(random, &mut book, areas);
+    spoil(random, &mut book, &areas);
     put_book(draft, place, book);
 }
 

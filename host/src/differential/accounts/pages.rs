@@ -43,7 +43,7 @@ pub fn half_of(association: u32) -> Range<usize> {
 
 /// A page with so many members of each association, in any of its places and the same ones of the pool as far as they go, each
 /// with some book. In the free places stands nothing, or anything.
-pub fn page_with(random: &mut Random, many: [usize; 2], pool: &[u32], areas: usize, now: u64) -> Vec<u8> {
+pub fn page_with(random: &mut Random, many: [usize; 2], pool: &[u32], areas: &[usize], now: u64) -> Vec<u8> {
     let mut page = vec![0; PAGE_BYTES];
     for (association, many) in (0..).zip(many) {
         let mut places: Vec<usize> = places_of(association).collect();
@@ -75,7 +75,7 @@ pub fn other_half(random: &mut Random, page: &[u8], association: u32) -> Vec<u8>
 }
 
 /// Fresh, sound at the edges, or unsound, and always of a book's length.
-pub fn some_book(random: &mut Random, areas: usize, now: u64) -> Vec<u8> {
+pub fn some_book(random: &mut Random, areas: &[usize], now: u64) -> Vec<u8> {
     let mut book = if random.chance(50) { fresh() } else { sound_at_the_edges(random, areas, now) };
     if random.chance(12) {
         spoil(random, &mut book, areas);
@@ -127,12 +127,12 @@ pub fn is_taken(page: &[u8], association: u32, member: u32) -> bool {
 }
 
 /// The member's book, where it is sound; else a fresh one.
-pub fn book_to_plan_on(page: &[u8], association: u32, member: u32, areas: usize) -> Vec<u8> {
+pub fn book_to_plan_on(page: &[u8], association: u32, member: u32, areas: &[usize]) -> Vec<u8> {
     let book = place_of(page, association, member).and_then(|place| page.get(book_of(place)));
     book.filter(|book| is_sound(book, areas)).map_or_else(fresh, <[u8]>::to_vec)
 }
 
-pub fn is_sound(book: &[u8], areas: usize) -> bool {
+pub fn is_sound(book: &[u8], areas: &[usize]) -> bool {
     Book::read(book).is_some_and(|book| book.is_sound(areas))
 }
 

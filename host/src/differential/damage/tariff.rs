@@ -1,9 +1,12 @@
 //! Damage to the tariff: refusals 1 to 3.
 
-use super::some_record;
+use super::{some_layout, some_record};
 use crate::differential::cases::Draft;
-use crate::differential::fields::{self, set, values, AACHEN_AREA, AREA, FACTOR, KINDS, LENGTHS, STOP};
+use crate::differential::fields::{
+    self, set, values, AACHEN_AREA, AREA, FACTOR, KINDS, LENGTHS, OPENING, OPENING_FIELDS, STOP,
+};
 use crate::differential::random::Random;
+use crate::differential::tariffs::opening;
 
 /// Cut anywhere, one to three bytes too many, or a length that is no length.
 pub fn frames(random: &mut Random, draft: &mut Draft) {
@@ -23,9 +26,10 @@ pub fn frames(random: &mut Random, draft: &mut Draft) {
 
 /// Another kind, a body that is too short or too long, another order, too many, or none.
 pub fn shape(random: &mut Random, draft: &mut Draft) {
-    let layout = draft.layout.clone();
+    let layout = some_layout(random, draft);
     let stops_start = layout.stop(0).min(draft.case.tariff.len());
     let areas_end = layout.factor(0).min(stops_start);
+    let areas_start = layout.area(0).min(areas_end);
     let tariff = &mut draft.case.tariff;
     match random.below(9) {
         0 => {
@@ -39,12 +43,13 @@ pub fn shape(random: &mut Random, draft: &mut Draft) {
             // A stop or a factor record first, or some areas less.
             let first = layout.area(random.index(layout.areas));
             let start = random.pick(&[stops_start, areas_end, first]);
-            tariff.drain(..start.min(stops_start));
+            tariff.drain(areas_start..start.clamp(areas_start, stops_start));
         }
         5 => {
             // An area, or part of one, after the stops.
-            let area = tariff[..AREA.min(tariff.len())].to_vec();
-            tariff.extend(area);
+            let area = tariff[areas_start..(areas_start + AREA).min(tariff.len())].to_vec();
+            let end = layout.end().min(tariff.len());
+            tariff.splice(end..end, area);
         }
         6 => {
             // A stop between the areas.
@@ -58,7 +63,7 @@ pub fn shape(random: &mut Random, draft: &mut Draft) {
             repeat(tariff, areas_end.saturating_sub(size), size, times);
         }
         _ => {
-            let last = tariff.len().saturating_sub(STOP).max(stops_start);
+            let last = layout.end().min(tariff.len()).saturating_sub(STOP).max(stops_start);
             repeat(tariff, last, STOP, random.within(1_000, 1_001) as usize - layout.stops.min(1_000));
         }
     }
@@ -66,9 +71,9 @@ pub fn shape(random: &mut Random, draft: &mut Draft) {
 
 /// A factor record less or more, or at another place; or an area behind one.
 pub fn factors(random: &mut Random, draft: &mut Draft) {
-    let layout = &draft.layout;
+    let layout = &some_layout(random, draft);
     let tariff = &mut draft.case.tariff;
-    if tariff.len() < layout.stop(layout.stops) {
+    if tariff.len() < layout.end() {
         return;
     }
     let some = layout.factor(random.index(layout.factors));
@@ -118,8 +123,9 @@ fn resized_record(random: &mut Random, draft: &mut Draft) {
 
 /// An area made one of the other kind, in a whole frame: the state, a city, or a region with its cities behind it.
 pub fn other_kind(random: &mut Random, draft: &mut Draft) {
-    let area = random.index(draft.layout.areas);
-    let (place, size) = (draft.layout.area(area), draft.layout.area_size(area));
+    let layout = some_layout(random, draft);
+    let area = random.index(layout.areas);
+    let (place, size) = (layout.area(area), layout.area_size(area));
     let tariff = &mut draft.case.tariff;
     if place + size > tariff.len() {
         return;
@@ -133,6 +139,87 @@ pub fn other_kind(random: &mut Random, draft: &mut Draft) {
     tariff.splice(place..place + size, record);
 }
 
+/// An opening less or more, or at another place; or with a body of another length.
+pub fn openings(random: &mut Random, draft: &mut Draft) {
+    let layout = some_layout(random, draft);
+    let tariff = &mut draft.case.tariff;
+    if tariff.len() < draft.layouts.last().map_or(0, |last| last.end()) {
+        return;
+    }
+    let late = opening(random.pick(&[36_000, 36_524]));
+    match random.below(8) {
+        // The first record is another one, or the second edition's records go on the first one's.
+        0 => drop(tariff.drain(layout.opening..layout.opening + OPENING)),
+        // A third one where the file ends; or a second one, and the file ends where an area is due.
+        1 => tariff.extend(late),
+        // A third edition.
+        2 => {
+            let more = [&late, &tariff[layout.area(0)..layout.end()]].concat();
+            tariff.extend(more);
+        }
+        // Where an area is due.
+        3 => drop(tariff.splice(layout.area(0)..layout.area(0), late)),
+        // Where a factor record is due.
+        4 => {
+            let place = layout.factor(random.index(layout.factors));
+            tariff.splice(place..place, late);
+        }
+        // Anywhere.
+        5 => {
+            let place = random.pick(&layout.places());
+            tariff.splice(place..place, late);
+        }
+        // Another body.
+        6 => {
+            let size = random.pick(&[0, 2, 3, 5, 6, 7]);
+            let mut body = tariff[layout.opening + 4..layout.opening + OPENING].to_vec();
+            body.resize(size, 0);
+            tariff.splice(layout.opening + 4..layout.opening + OPENING, body);
+            set(tariff, layout.opening, &LENGTHS, size as u64 + 2);
+        }
+        // The file ends behind an opening, or where a factor record is due.
+        _ => {
+            let factor = layout.factor(random.index(layout.factors));
+            tariff.truncate(random.pick(&[layout.area(0), factor]));
+        }
+    }
+}
+
+/// A date that is none, or not after the first edition's.
+pub fn dates(random: &mut Random, draft: &mut Draft) {
+    let layout = some_layout(random, draft);
+    let fields = &OPENING_FIELDS[2..];
+    match random.below(5) {
+        0..2 => {
+            let field = &fields[random.index(fields.len())];
+            let present = fields::value(&draft.case.tariff, layout.opening, field).unwrap_or(0);
+            set(&mut draft.case.tariff, layout.opening, field, random.pick(&values(field, present, &[])));
+        }
+        2 => {
+            let date =
+                [random.pick(&[2000, 2001, 2004, 2096, 2099, 2100]), random.within(1, 12), random.within(28, 31)];
+            for (field, value) in fields.iter().zip(date) {
+                set(&mut draft.case.tariff, layout.opening, field, value);
+            }
+        }
+        _ => {
+            // Both on one day, or the second before the first.
+            let first = random.within(1, 36_524);
+            put_date(draft, 0, first);
+            let before = random.within(0, first);
+            put_date(draft, 1, random.pick(&[first, first, first - 1, first + 1, before]));
+        }
+    }
+}
+
+/// Puts the date that is so many days after 2000-01-01 into the opening of the edition at this place, from 0, if there is one.
+pub fn put_date(draft: &mut Draft, edition: usize, days: u64) {
+    let Some(layout) = draft.layouts.get(edition) else { return };
+    if let Some(found) = draft.case.tariff.get_mut(layout.opening..layout.opening + OPENING) {
+        found.copy_from_slice(&opening(days));
+    }
+}
+
 /// Puts the `size` bytes at `place` in `times` more times.
 fn repeat(tariff: &mut Vec<u8>, place: usize, size: usize, times: usize) {
     let record = tariff[place..(place + size).min(tariff.len())].to_vec();
@@ -144,7 +231,8 @@ pub fn value(random: &mut Random, draft: &mut Draft) {
     let (record, _, all) = some_record(random, draft);
     let field = &all[2 + random.index(all.len() - 2)];
     let present = fields::value(&draft.case.tariff, record, field).unwrap_or(0);
-    let number = (0..draft.layout.areas).filter(|&area| draft.layout.area(area) < record).count();
-    let value = random.pick(&values(field, present, &[draft.layout.areas, number]));
+    let layout = draft.layouts.iter().rfind(|layout| layout.opening <= record).unwrap_or(draft.layout());
+    let number = (0..layout.areas).filter(|&area| layout.area(area) < record).count();
+    let value = random.pick(&values(field, present, &[layout.areas, number]));
     set(&mut draft.case.tariff, record, field, value);
 }

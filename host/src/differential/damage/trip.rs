@@ -7,7 +7,7 @@ use crate::differential::fields::{
 };
 use crate::differential::random::Random;
 use crate::differential::trips::{local_stamp, stamp, Plan, DAY, HOUR, LAST_MINUTE};
-use crate::model::read_tariff;
+use crate::model::read_file;
 
 /// Cut, too long, of another kind, without offsets, or with a length or a number of stops that do not fit.
 pub fn shape(random: &mut Random, draft: &mut Draft) {
@@ -58,7 +58,7 @@ pub fn counts(random: &mut Random, draft: &mut Draft) {
 /// A stop number at the end of the tariff's, or past it.
 pub fn stops(random: &mut Random, draft: &mut Draft) {
     let field = stop_field(random.index(draft.plan.stops.len()));
-    let stops = draft.layout.stops as u64;
+    let stops = draft.layout().stops as u64;
     let number = random.pick(&[stops.saturating_sub(1), stops, stops, stops, stops + 1, 1_000, 65_535]);
     set(&mut draft.case.trip, 0, &field, number);
 }
@@ -101,7 +101,8 @@ pub fn duration(random: &mut Random, draft: &mut Draft) {
 /// All stops are one stop, or but for one, and the duration is just under or just at 3 minutes. The other stop is mostly at
 /// the same point, where there is one.
 pub fn at_one_point(random: &mut Random, draft: &mut Draft) {
-    let Ok(tariff) = read_tariff(&draft.case.tariff) else { return };
+    let Ok(file) = read_file(&draft.case.tariff) else { return };
+    let Some(tariff) = file.editions.get(draft.edition - 1).map(|edition| &edition.tariff) else { return };
     let point = |stop: usize| tariff.stops.get(stop).map(|stop| (stop.x, stop.y));
     let (stop, many) = (draft.plan.stops[0], random.pick(&[2, 2, 2, 3, 3, 4, 32]));
     let there: Vec<usize> = (0..tariff.stops.len()).filter(|&other| point(other) == point(stop)).collect();

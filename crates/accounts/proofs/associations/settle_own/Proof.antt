@@ -17,7 +17,7 @@ returns c =
     let a = c .before .before .before .before .before .before .args in
     let none = lt-leb (a .association) 1 (c .before .if1 .taken) in
     rw (c .refuse .ensures)
-    (refusal-told _ _ _ _ 0 (settled-none-under (a .association) (a .page .now) (a .member) none (a .tariff .now) (a .counts) (a .trip .now) (length (a .statement .now))) (omega arith))
+    (refusal-told _ _ _ _ 0 (settled-none-under (a .association) (a .page .now) (a .member) none (a .file .now) (a .editions) (a .trip .now) (length (a .statement .now))) (omega arith))
 
 mul-first : tie.Need-mul-first
 mul-first c = search needs
@@ -35,7 +35,7 @@ returns-2 : tie.Need-returns-2
 returns-2 c =
     let a = c .before .before .before .before .before .before .before .before .before .before .before .before .args in
     let one = le-leb (a .association) 1 (c .before .before .before .before .before .before .before .if1 .left) in
-    rw (settled-for-under (a .association) (a .page .now) (a .member) one (a .tariff .now) (a .counts) (a .trip .now) (length (a .statement .now))) (c .before .before .before .before .settle-found .ensures)
+    rw (settled-for-under (a .association) (a .page .now) (a .member) one (a .file .now) (a .editions) (a .trip .now) (length (a .statement .now))) (c .before .before .before .before .settle-found .ensures)
 
 pub settle-own-spec : {M : Type 1} → statement M
 settle-own-spec =

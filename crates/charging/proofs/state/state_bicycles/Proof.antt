@@ -8,12 +8,11 @@ use Rattle.areas.proofs.Faultless.{faultless}
 use Rattle.statement.proofs.Wrote.{nobody-wrote, length-wrote}
 use Rattle.ledger.specs.Words.{coverWord, paidWord}
 use Rattle.ledger.specs.Windows.{inWindow}
-use Rattle.ledger.proofs.SoundLaws.{sound-has}
-use Rattle.ledger.proofs.Counting.{cover-known, paid-known}
 use Rattle.cycles.specs.Bicycles.{bicycleCharge}
 use Rattle.cycles.specs.Contracts.{FoundRight}
 use Rattle.charging.specs.Charging.{inTurn}
 use Rattle.charging.specs.After.{wordsAfter}
+use Rattle.charging.proofs.ChargeLaws.{ride-book, ride-words}
 use Rattle.charging.proofs.EarlierLaws.{earlier-there, cover-after, paid-after}
 use Rattle.charging.proofs.Stating.{BicyclesWrote, bicycles-none, bicycles-more, bicycle-room}
 use Rattle.charging.proofs.state.state_bicycles.Statement.{statement}
@@ -51,7 +50,7 @@ cover-requires : tie.Need-cover-requires Inv-loop μ-loop
 cover-requires c κs = omega (arith, c .before .before .before .before .before .before .before .before .before .pre .0 .rideable .bicycles)
 
 get-in-requires : tie.Need-get-in-requires Inv-loop μ-loop
-get-in-requires c κs = (sound-has _ _ (c .before .before .before .before .before .before .before .before .before .before .pre .0 .rideable .sound-book) .size, c .cover .ensures .1)
+get-in-requires c κs = (ride-book (c .before .before .before .before .before .before .before .before .before .before .pre .0 .rideable) .size, c .cover .ensures .1)
 
 cast-found : tie.Need-cast-found Inv-loop μ-loop
 cast-found c = omega arith
@@ -60,14 +59,14 @@ payments-requires : tie.Need-payments-requires Inv-loop μ-loop
 payments-requires c κs = omega (arith, c .before .before .before .before .before .before .before .before .before .before .before .pre .0 .rideable .bicycles)
 
 get-in-requires-2 : tie.Need-get-in-requires-2 Inv-loop μ-loop
-get-in-requires-2 c κs = (sound-has _ _ (c .before .before .before .before .before .before .before .before .before .before .before .before .pre .0 .rideable .sound-book) .size, c .payments .ensures .1)
+get-in-requires-2 c κs = (ride-book (c .before .before .before .before .before .before .before .before .before .before .before .before .pre .0 .rideable) .size, c .payments .ensures .1)
 
 charge-found-requires : tie.Need-charge-found-requires Inv-loop μ-loop
 charge-found-requires c κs =
     let s = c .before .before .before .before in
     let first = s .before .before .before .before .before .before .before .before .before in
     let r = first .pre .0 in
-    let book = sound-has _ _ (r .rideable .sound-book) in
+    let words = ride-words (r .rideable) in
     let few : s .before .loop .i < 10 = omega (arith, r .rideable .bicycles) in (
       r .rideable .read,
       (
@@ -77,8 +76,8 @@ charge-found-requires c κs =
           (
             earlier-there r,
             (
-              rw (c .before .before .get-in .ensures .value, c .before .before .before .cover .ensures .0) (cover-known (first .args .current) book _ few),
-              (rw (c .get-in2 .ensures .value, c .before .payments .ensures .0) (paid-known (first .args .current) book _ few), s .before .loop .inv .2),
+              rw (c .before .before .get-in .ensures .value, c .before .before .before .cover .ensures .0) (words .covers _ few),
+              (rw (c .get-in2 .ensures .value, c .before .payments .ensures .0) (words .payments _ few), s .before .loop .inv .2),
             ),
           ),
         ),

@@ -6,11 +6,10 @@ use native.Mathlib.Omega.{arith}
 use mathlib.Core.Path.{_≡_, ap}
 use Rattle.statement.proofs.Wrote.{nobody-wrote, length-wrote}
 use Rattle.ledger.specs.Windows.{inWindow}
-use Rattle.ledger.proofs.SoundLaws.{sound-has}
 use Rattle.charging.specs.declared.Person.{Person}
 use Rattle.charging.specs.Charging.{inTurn}
 use Rattle.charging.specs.Alike.{LastRight}
-use Rattle.charging.proofs.ChargeLaws.{priceable}
+use Rattle.charging.proofs.ChargeLaws.{ride-book, priceable}
 use Rattle.charging.proofs.AlikeLaws.{held-next}
 use Rattle.charging.proofs.EarlierLaws.{earlier-there}
 use Rattle.charging.proofs.Stating.{TurnsWrote, turnBy, turns-none, turns-more, next-room, paid-there, turn-fits, turn-charged, turns-all}
@@ -63,7 +62,7 @@ charge-alike-requires c κs =
     let l = c .before .before .before in
     let p = c .before .before .before .before .before .before .before .before .before .before .before .before .before .pre in
     let fits = turn-fits p (c .before .before .before .before .before .before .before .record-size .ensures) (l .loop .inv .1) (c .before .before .loop-test .taken) (c .paid-before .ensures) (c .before .before .before .before .chain-of .ensures) in
-    (sound-has _ _ (p .ridden .rideable .sound-book) .size, (omega (arith, p .of-party .known), (fits, l .loop .inv .2)))
+    (ride-book (p .ridden .rideable) .size, (omega (arith, p .of-party .known), (fits, l .loop .inv .2)))
 
 add-t34 : tie.Need-add-t34 Inv-loop μ-loop
 add-t34 c = omega (arith, c .before .before .before .before .before .before .before .before .before .before .before .before .before .before .pre .of-party .known)

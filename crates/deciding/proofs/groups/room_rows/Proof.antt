@@ -6,16 +6,12 @@ use borrow.Author.Needs.{needs}
 use borrow.Author.Tests.{lt-ltb, le-ltb}
 use lib.ListN.{drop}
 use lib.Dec.{ltb}
-use Rattle.ledger.specs.Windows.{windowOf}
 use Rattle.deciding.specs.declared.groups.Roomed.the-variants.{Refused}
 use Rattle.deciding.specs.Refusals.{firstOf}
 use Rattle.deciding.specs.Deciding.{roomedBy, ridesIn, roomRowsBy}
 use Rattle.deciding.proofs.Rows.{comes-refused, comes-clear, skip, stop, end}
 use Rattle.deciding.proofs.groups.room_rows.Statement.{statement}
 use Rattle.deciding.proofs.groups.room_rows.Tie as tie
-
-window-of-requires : tie.Need-window-of-requires
-window-of-requires c κs = search needs
 
 rides-in-requires : tie.Need-rides-in-requires
 rides-in-requires c κs = search needs
@@ -26,10 +22,8 @@ add-if1 c = search needs
 -- the row of 11 is what was asked
 trips :
     (c : tie.After-rides-in)
-    → let s = c .before .before .before .before .before in
-    windowOf (s .args .book .now) (s .args .span .checkin .0) (s .args .span .checkout .0) .trips + ridesIn (s .args .breaking)
-    ≡ c .before .window-of .result .trips + c .rides-in .result
-trips c = rw (← c .before .window-of .ensures .0, c .rides-in .ensures .0)
+    → c .before .args .window .trips + ridesIn (c .before .args .breaking) ≡ c .before .args .window .trips + c .rides-in .result
+trips c = rw (c .rides-in .ensures .0)
 
 returns : tie.Need-returns
 unfolding roomedBy
@@ -37,9 +31,8 @@ returns c = sym (comes-refused Refused _ (stop _ _ (ap (ltb 256) (trips (c .befo
 
 past-11 :
     (c : tie.Else1)
-    → let s = c .before .before .before .before .before .before .before in
-    let table = roomRowsBy (s .args .book .now) (s .args .span) (s .args .breaking) (s .args .party) (s .args .room) in
-    firstOf table ≡ firstOf (drop 1 table)
+    → let s = c .before .before .before in
+    let table = roomRowsBy (s .args .window) (s .args .breaking) (s .args .party) (s .args .room) in firstOf table ≡ firstOf (drop 1 table)
 past-11 c = skip _ _ (ap (ltb 256) (trips (c .before .before)) ∙ le-ltb _ _ (c .if1 .left))
 
 records-size-requires : tie.Need-records-size-requires
@@ -58,16 +51,9 @@ returns-3 c =
     let clear =
     past-11 (c .before .before) ∙ skip _ _ (ap (ltb _) (sym (c .before .records-size .ensures)) ∙ le-ltb _ _ (c .if2 .left)) ∙ end
     in
-    rw (comes-clear Refused _ clear, ← c .before .before .before .before .before .window-of .ensures .0)
+    sym (comes-clear Refused _ clear)
 
 pub room-rows-spec : {M : Type 1} → statement M
 room-rows-spec =
     tie.close
-    (tie.spec
-    window-of-requires
-    rides-in-requires
-    add-if1
-    returns
-    records-size-requires
-    returns-2
-    returns-3)
+    (tie.spec rides-in-requires add-if1 returns records-size-requires returns-2 returns-3)

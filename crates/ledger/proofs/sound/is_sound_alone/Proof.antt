@@ -68,10 +68,13 @@ pairs-sound-requires c κs = search needs
 payments-sound-requires : tie.Need-payments-sound-requires
 payments-sound-requires c κs = search needs
 
+get-requires-4 : tie.Need-get-requires-4
+get-requires-4 c κs = search needs
+
 returns-4 : tie.Need-returns-4
 returns-4 c =
-    rw (c .before .pairs-sound .ensures, c .payments-sound .ensures)
-    (sym (told-right _ (used (c .before .before .before .before)) (right (c .before .before))))
+    rw (c .before .before .pairs-sound .ensures, c .before .payments-sound .ensures, c .get4 .ensures .value)
+    (sym (told-right _ (used (c .before .before .before .before .before)) (right (c .before .before .before))))
 
 pub is-sound-alone-spec : {M : Type 1} → statement M
 is-sound-alone-spec =
@@ -88,4 +91,5 @@ is-sound-alone-spec =
     mul-pairs-sound
     pairs-sound-requires
     payments-sound-requires
+    get-requires-4
     returns-4)

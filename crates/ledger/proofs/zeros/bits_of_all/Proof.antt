@@ -1,10 +1,10 @@
--- After i turns the bits are those of the first 96 i words; the last ones come on top, with ten that have come before.
+-- After i turns the bits are those of the first 96 i words; the last 24 come on top, with eight that have come before.
 -- Assumes nothing.
 use Prim.Native.Nat.{_-_, _*_, _≤_}
 use native.Mathlib.Omega.{arith}
 use borrow.Author.Needs.{needs}
 use Rattle.ledger.specs.Contracts.{BitsOf}
-use Rattle.ledger.proofs.ZeroLaws.{bits-none, bits-one, bits-join, bits-more}
+use Rattle.ledger.proofs.ZeroLaws.{bits-none, bits-join, bits-more}
 use Rattle.ledger.proofs.zeros.bits_of_all.Statement.{statement}
 use Rattle.ledger.proofs.zeros.bits_of_all.Tie as tie
 
@@ -55,20 +55,9 @@ loop-again c = (
 bits-of-32-requires-4 : tie.Need-bits-of-32-requires-4 Inv-loop μ-loop
 bits-of-32-requires-4 c κs = search needs
 
-get-requires : tie.Need-get-requires Inv-loop μ-loop
-get-requires c κs = search needs
-
-cast-result : tie.Need-cast-result Inv-loop μ-loop
-cast-result c = search needs
-
 returns : tie.Need-returns Inv-loop μ-loop
 returns c =
-    bits-join
-    (bits-join (c .before .before .before .loop .inv .1) (c .before .bits-of-324 .ensures) (omega arith) (omega arith) (omega arith))
-    (bits-one _ 1366 _ (c .get .ensures .value))
-    (omega arith)
-    (omega arith)
-    (omega arith)
+    bits-join (c .before .before .loop .inv .1) (c .bits-of-324 .ensures) (omega arith) (omega arith) (omega arith)
 
 pub bits-of-all-spec : {M : Type 1} → statement M
 bits-of-all-spec =
@@ -87,6 +76,4 @@ bits-of-all-spec =
     loop-less
     loop-again
     bits-of-32-requires-4
-    get-requires
-    cast-result
     returns)

@@ -14,11 +14,11 @@ use Rattle.settle_roll.proofs.run.settle_all.Statement.{statement}
 use Rattle.settle_roll.proofs.run.settle_all.Tie as tie
 
 abbrev Inv-loop : tie.InvT-loop
-Inv-loop tariff counts book₀ input₀ out₀ statement₀ run₀ book input out statement run =
-    Running tariff counts book input out run × (length book ≡ length book₀) × StatementRoom statement
+Inv-loop file editions book₀ input₀ out₀ statement₀ run₀ book input out statement run =
+    Running file editions book input out run × (length book ≡ length book₀) × StatementRoom statement
 
 abbrev μ-loop : tie.MeasureT-loop
-μ-loop tariff counts book₀ input₀ out₀ statement₀ run₀ book input out statement run = left recordsLeft (run .flow) (record { book = book; tally = run .tally })
+μ-loop file editions book₀ input₀ out₀ statement₀ run₀ book input out statement run = left recordsLeft (run .flow) (record { book = book; tally = run .tally })
 
 loop-holds : tie.Need-loop-holds Inv-loop μ-loop
 loop-holds c = (c .before .before .before .before .before .pre .0 .running, refl, c .before .before .before .before .before .pre .1)

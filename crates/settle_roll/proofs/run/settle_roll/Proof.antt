@@ -1,4 +1,4 @@
--- `run::settle_roll` is safe: a fresh book is sound under every tariff, and a run that begins is in range.
+-- `run::settle_roll` is safe: a fresh book is sound under every file, and a run that begins is in range.
 -- Assumes nothing.
 use native.Mathlib.Omega.{arith}
 use borrow.Author.Needs.{needs}

@@ -1,9 +1,9 @@
--- `scan::blocks::stops_standing` meets its contract: where the words of all are clear, all stand; else it looks for threes.
+-- `scan::blocks::stops_found` meets its contract: where the words of all are clear, all stand; else it looks for threes.
 -- Assumes nothing.
 use native.Mathlib.Omega.{arith}
 use borrow.Author.Needs.{needs}
-use Rattle.scan.proofs.blocks.stops_standing.Statement.{statement}
-use Rattle.scan.proofs.blocks.stops_standing.Tie as tie
+use Rattle.scan.proofs.blocks.stops_found.Statement.{statement}
+use Rattle.scan.proofs.blocks.stops_found.Tie as tie
 
 all-sums-requires : tie.Need-all-sums-requires
 all-sums-requires c κs = search needs
@@ -20,7 +20,7 @@ threes-standing-requires c κs = search needs
 returns-2 : tie.Need-returns-2
 returns-2 c = search needs
 
-pub stops-standing-spec : {M : Type 1} → statement M
-stops-standing-spec =
+pub stops-found-spec : {M : Type 1} → statement M
+stops-found-spec =
     tie.close
     (tie.spec all-sums-requires is-clear-requires returns threes-standing-requires returns-2)

@@ -1,0 +1,4 @@
+pub mod Openings
+pub mod Editions
+pub mod Reading
+pub mod InWords
