@@ -5,7 +5,7 @@ import { fileURLToPath } from 'node:url';
 import { parseArgs } from 'node:util';
 import { Disagreement } from './account.mjs';
 import { booksName, booksText } from './books.mjs';
-import { builtWasm } from './building.mjs';
+import { builtSalvager, builtWasm } from './building.mjs';
 import { dayOf, todayIn } from './clock.mjs';
 import { loadEngine } from './engine.mjs';
 import { mistakeLine, mistakeText } from './mistakes.mjs';
@@ -13,6 +13,7 @@ import { isPeriod } from './months.mjs';
 import { fileSafe } from './names.mjs';
 import { writeFiles } from './output.mjs';
 import { OPEN, runDesk } from './run.mjs';
+import { KEPT, salvaged } from './salvage.mjs';
 import { agreeStatements, membersOf, statementText } from './statement.mjs';
 import { HELP, USAGE, WORDS, reasonText } from './usage.mjs';
 import { chargesText, wagesText } from './wages.mjs';
@@ -24,6 +25,8 @@ const FORMATS = ['csv', 'json'];
 
 const ALL_PRICED = 0;
 const TRIP_REFUSED = 1;
+const NOTHING_LOST = 0;
+const BYTES_LOST = 1;
 const MISTAKEN = 2; // in the input, the words of the call or the files: nothing is written then
 
 /** What ends the run with status 2: a sentence, and whether the usage is told with it. */
@@ -46,7 +49,7 @@ export async function main(words) {
             process.stdout.write(call.said);
             return ALL_PRICED;
         }
-        return await perform(call);
+        return call.action === SALVAGE ? await salvage(call) : await perform(call);
     } catch (error) {
         if (!(error instanceof Mistaken)) throw error;
         tell(error.message);
@@ -85,6 +88,7 @@ const OPTIONS = {
 };
 
 const OF_ONE = ['settle', 'statement', 'wages']; // what can be had of one member
+const SALVAGE = 'salvage'; // of a roll, without tariff, books or months
 const ACTIONS = { check: checked, settle: settled, statement: stated, wages: waged, close: closed };
 
 async function callOf(args) {
@@ -96,6 +100,7 @@ async function callOf(args) {
     if (values.version) return { said: await orMistaken(language, versionLine, words.versionless) };
     const [action, folder = '.', more] = positionals;
     if (action === undefined) throw new Mistaken(words.none, true);
+    if (action === SALVAGE) return salvageCall(values, positionals, language);
     if (!Object.hasOwn(ACTIONS, action)) throw new Mistaken(words.action(action), true);
     if (more !== undefined) throw new Mistaken(words.many, true);
     const format = values.format ?? 'csv';
@@ -103,6 +108,14 @@ async function callOf(args) {
     if (action === 'close' && values.period === undefined) throw new Mistaken(words.due, true);
     if (values.member !== undefined && !OF_ONE.includes(action)) throw new Mistaken(words.one(OF_ONE), true);
     return { ...values, ...datesOf(values, words), action, folder, format, language, words };
+}
+
+/** A roll that is to be salvaged, and what is to be said of it: sentences, or a table. */
+function salvageCall({ out = '.', format }, [, roll, more], language) {
+    const words = WORDS[language];
+    if (roll === undefined || more !== undefined) throw new Mistaken(words.roll, true);
+    if (format !== undefined && format !== 'csv') throw new Mistaken(words.allowed('format', ['csv']), true);
+    return { action: SALVAGE, roll, out, table: format !== undefined, language, words };
 }
 
 /** The month that is asked for, and today's date. */
@@ -208,6 +221,39 @@ function progressLine(words) {
         last = Date.now();
         process.stderr.write(done < all ? `\r${words.progress(done, all)}` : '\r\u001b[K');
     };
+}
+
+// ---- A torn roll
+
+async function salvage(call) {
+    const { roll, out, language, words } = call;
+    const told = { ...words, building: words.salvager };
+    const program = await orMistaken(language, () => builtSalvager(ROOT, told, tell), words.salvagerless);
+    if (program === null) throw new Mistaken(words.salvagerless(words.unmade));
+    const file = path.join(out, KEPT);
+    if (isSame(roll, file)) throw new Mistaken(words.itself(file));
+    await orMistaken(language, () => fs.rmSync(file, { force: true }), (why) => words.unwritten(out, why));
+    const found = await orMistaken(language, () => salvaged(program, roll), (why) => words.unsalvaged(roll, why));
+    if (found === null) throw new Mistaken(words.tooLong(roll));
+    await orMistaken(language, () => writeFiles(out, [[KEPT, found.kept]]), (why) => words.unwritten(out, why));
+    process.stdout.write(lostLines(call, found, file).map((line) => `${line}\n`).join(''));
+    return found.lost.length > 0 ? BYTES_LOST : NOTHING_LOST;
+}
+
+/** What is kept may not take the place of the roll that it is kept of. */
+function isSame(place, other) {
+    try {
+        return fs.realpathSync(place) === fs.realpathSync(other);
+    } catch {
+        return false;
+    }
+}
+
+function lostLines({ table, words }, { trips, lost }, file) {
+    if (table) return ['offset;length', ...lost.map(({ offset, length }) => `${offset};${length}`)];
+    const bytes = lost.reduce((sum, { length }) => sum + length, 0);
+    const runs = lost.map(({ offset, length }) => words.lost(offset, length));
+    return [words.salvaged(trips, bytes), ...runs, words.wrote(file)];
 }
 
 // ---- What is put out

@@ -4,6 +4,7 @@ export const USAGE = `usage: ./milecopper check|settle|statement|wages|close [FO
                     [--format csv|json] [--out FOLDER] [--member NAME] [--language de|en]
                     [--areas FILE]... [--stops FILE]... [--trips FILE]... [--books FILE]...
                     [--members FILE] [--strict] [--new-tariff] [--force] [--today 2026-11-03]
+       ./milecopper salvage ROLL [--out FOLDER] [--format csv] [--language de|en]
 `;
 
 export const HELP = {
@@ -14,6 +15,8 @@ statement  eine Abrechnung je Mitglied, als Text
 wages      für das Lohnbüro: eine Zeile je Mitglied und Monat
            settle, statement und wages mit --member NAME: nur von diesem Mitglied
 close      schließt den Monat ab und schreibt die Bücher, books-2026-10.json; einmal je Monat
+salvage    rettet aus einer zerrissenen Rolle die ganzen Fahrten nach kept.bin, im Ordner --out oder hier, und nennt die
+           verlorenen Bytes; --format csv: als Tabelle offset;length
 
 Im Ordner (ohne Angabe: hier) liegen areas.csv, stops.csv und trips.csv, dazu gegebenenfalls die Bücher; die des
 letzten Abschlusses vor dem Monat gelten. Einzelne Dateien lassen sich stattdessen nennen. Die Fahrten können in
@@ -28,7 +31,8 @@ auch einen Monat ab, der in der Zukunft liegt oder frühere offen lässt. --toda
 Der Rechenkern wird beim ersten Mal gebaut, was ihn beweist und einige Minuten dauert.
 
 Status 0: alle Fahrten sind berechnet. 1: eine Fahrt wurde abgelehnt. 2: Fehler in Dateien oder Aufruf; dann wird
-nichts geschrieben.
+nichts geschrieben. Bei salvage: 0: nichts ist verloren. 1: es fehlt etwas. 2: die Rolle ist zu lang, oder eine Datei
+lässt sich nicht lesen oder schreiben; dann gibt es keine kept.bin.
 `,
     en: `
 check      tells every mistake in the files, with its line
@@ -37,6 +41,8 @@ statement  a statement for each member, as text
 wages      for the wage office: a row for each member and month
            settle, statement and wages with --member NAME: of this member only
 close      closes the month and writes the books, books-2026-10.json; once a month
+salvage    keeps the whole trips of a torn roll in kept.bin, in the folder --out or here, and says which bytes are lost;
+           --format csv: as a table offset;length
 
 The folder (none: the present one) holds areas.csv, stops.csv and trips.csv and, if there are, the books; those of the
 last closing before the month count. Single files can be named instead. The trips may stand in several files: every
@@ -50,7 +56,8 @@ is the month that is open: the first with trips behind the last books. --out wri
 clock's.
 The engine is built the first time, which proves it and takes some minutes.
 
-Status 0: all trips are priced. 1: a trip is refused. 2: mistakes in files or call; nothing is written then.
+Status 0: all trips are priced. 1: a trip is refused. 2: mistakes in files or call; nothing is written then. Of salvage:
+0: nothing is lost. 1: something is. 2: the roll is too long, or a file cannot be read or written; there is no kept.bin.
 `,
 };
 
@@ -84,6 +91,15 @@ export const WORDS = {
         progress: (done, all) => `${done} von ${all} Fahrten`,
         found: ({ errors, warnings }) => `Fehler: ${errors}, Warnungen: ${warnings}`,
         priced: (trips, members) => `berechnete Fahrten: ${trips}, Mitglieder: ${members}`,
+        roll: 'zum Retten gehört genau eine Rolle',
+        salvager: 'das Programm, das Rollen rettet, wird gebaut und dabei bewiesen; das dauert einige Minuten',
+        salvagerless: (why) => `das Programm, das Rollen rettet, fehlt: ${why}`,
+        unmade: 'es wurde nicht gebaut',
+        itself: (file) => `${file} ist die Rolle selbst; bitte anders nennen oder mit --out woandershin schreiben`,
+        unsalvaged: (roll, why) => `${roll} lässt sich nicht retten: ${why}`,
+        tooLong: (roll) => `${roll} ist zu lang: eine Rolle hat höchstens 60000 Bytes`,
+        salvaged: (trips, bytes) => `behaltene Fahrten: ${trips}, verlorene Bytes: ${bytes}`,
+        lost: (offset, length) => `verloren: ab Byte ${offset}, Länge ${length}`,
     },
     en: {
         action: (word) => `'${word}' is not a task`,
@@ -112,6 +128,15 @@ export const WORDS = {
         progress: (done, all) => `${done} of ${all} trips`,
         found: ({ errors, warnings }) => `errors: ${errors}, warnings: ${warnings}`,
         priced: (trips, members) => `trips priced: ${trips}, members: ${members}`,
+        roll: 'salvaging needs exactly one roll',
+        salvager: 'the program that salvages rolls is being built, which proves it; that takes some minutes',
+        salvagerless: (why) => `the program that salvages rolls is missing: ${why}`,
+        unmade: 'it was not built',
+        itself: (file) => `${file} is the roll itself; please rename it, or write elsewhere with --out`,
+        unsalvaged: (roll, why) => `${roll} cannot be salvaged: ${why}`,
+        tooLong: (roll) => `${roll} is too long: a roll has 60000 bytes at most`,
+        salvaged: (trips, bytes) => `trips kept: ${trips}, bytes lost: ${bytes}`,
+        lost: (offset, length) => `lost: from byte ${offset}, length ${length}`,
     },
 };
 

@@ -163,7 +163,7 @@
 /* The version. The number stands here alone: the library's file names, its pkg-config file, its constant
  * milecopper_version and what the scripts say all come from these lines. */
 #define MILECOPPER_VERSION_MAJOR 0
-#define MILECOPPER_VERSION_MINOR 15
+#define MILECOPPER_VERSION_MINOR 16
 #define MILECOPPER_VERSION_PATCH 0
 #define MILECOPPER_VERSION_AS_TEXT(major, minor, patch) #major "." #minor "." #patch
 #define MILECOPPER_VERSION_AS_WRITTEN(major, minor, patch) MILECOPPER_VERSION_AS_TEXT(major, minor, patch)

@@ -35,6 +35,9 @@ export function sortOf({ name, bytes }) {
     return Object.keys(MARKS).find((sort) => has(MARKS[sort])) ?? null;
 }
 
+/** Whether a file is likely a roll of trips in bytes, by its name. */
+export const isRoll = ({ name }) => /\.bin$/i.test(name);
+
 /** The lines of a file, as the mistakes count them. */
 export function linesOf({ bytes }) {
     return shownText(bytes).split(/\r\n|\n|\r/);

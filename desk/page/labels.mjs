@@ -25,6 +25,8 @@ export const LABELS = {
         replaced: (name) => `${name} war schon da und wurde ersetzt.`,
         inPlaceOf: (name, other) => `${name} steht jetzt an der Stelle von ${other}.`,
         unknown: (names) => `Nicht erkannt: ${names}`,
+        rolls: (names) =>
+            `Nicht genommen: ${names}. Rollen (.bin) nimmt die Seite nicht; eine zerrissene rettet ./milecopper salvage.`,
         workbooks: (names) => `So nicht lesbar: ${names}. Bitte mit „Speichern unter“ als „CSV UTF-8“ speichern.`,
         unread: (names) => `Nicht lesbar: ${names}`,
         helpSummary: 'Wie die Dateien aussehen',
@@ -119,6 +121,8 @@ export const LABELS = {
         replaced: (name) => `${name} was there already and was replaced.`,
         inPlaceOf: (name, other) => `${name} now stands in the place of ${other}.`,
         unknown: (names) => `Not recognised: ${names}`,
+        rolls: (names) =>
+            `Not taken: ${names}. The page takes no rolls (.bin); a torn one is for ./milecopper salvage.`,
         workbooks: (names) => `Not readable as it is: ${names}. Please save it with “Save as” as “CSV UTF-8”.`,
         unread: (names) => `Not readable: ${names}`,
         helpSummary: 'What the files look like',

@@ -5,7 +5,7 @@ import { isWorkbook } from '../encoding.mjs';
 import { monthText } from '../words.mjs';
 import { preparedFile } from '../workbook.mjs';
 import { clerkWith, serve } from './clerk.mjs';
-import { DUE, deskFiles, ofDrop, ofFolder, rowsIn, sortOf, withFile } from './files.mjs';
+import { DUE, deskFiles, isRoll, ofDrop, ofFolder, rowsIn, sortOf, withFile } from './files.mjs';
 import { LABELS } from './labels.mjs';
 import { columnsHtml, doubtsHtml, mistakesCount, mistakesHtml, monthsHtml, slotsHtml } from './layout.mjs';
 
@@ -22,16 +22,18 @@ let clerk;
 // ---- Files in
 
 async function take(files) {
-    const [unknown, workbooks, unread, told] = [[], [], [], []];
+    const [unknown, rolls, workbooks, unread, told] = [[], [], [], [], []];
     for (const file of files) {
         const taken = await bytesOf(file);
         if (taken === null) unread.push(file.name);
-        else if (taken.sort === null) (isWorkbook(taken.bytes) ? workbooks : unknown).push(file.name);
-        else told.push(...keep(taken));
+        else if (taken.sort !== null) told.push(...keep(taken));
+        else if (isRoll(file)) rolls.push(file.name);
+        else (isWorkbook(taken.bytes) ? workbooks : unknown).push(file.name);
     }
     state.notices = [
         ...told,
         ...(unknown.length > 0 ? [labels().unknown(unknown.join(', '))] : []),
+        ...(rolls.length > 0 ? [labels().rolls(rolls.join(', '))] : []),
         ...(workbooks.length > 0 ? [labels().workbooks(workbooks.join(', '))] : []),
         ...(unread.length > 0 ? [labels().unread(unread.join(', '))] : []),
     ];

@@ -155,6 +155,10 @@ test('a file that is none of ours is named', async () => {
     writeFileSync(other, 'a;b\n');
     await page.choose('#choose-files', [other]);
     await page.until('document.querySelector("#status").textContent === "Nicht erkannt: other.csv"');
+    const roll = path.join(desk.folder, 'roll.bin');
+    writeFileSync(roll, Uint8Array.of(26, 0, 7, 0));
+    await page.choose('#choose-files', [roll]);
+    await page.until('document.querySelector("#status").textContent.startsWith("Nicht genommen: roll.bin. Rollen (.bin)")');
     desk.quiet(page);
 });
 

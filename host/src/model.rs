@@ -14,6 +14,7 @@
 //! - [`reading`]: charge records read off a statement that was kept;
 //! - [`page`]: twelve members' books on one page, six of each of two associations;
 //! - [`roll`]: what the program that settles a roll prints;
+//! - [`salvage`]: what is kept of a torn roll, and what the program that salvages rolls prints;
 //! - [`table`]: what the program that prints statements prints.
 //!
 //! This file holds settling itself: the refusals in the order of their table, then the writing; and a quote and a posting,
@@ -30,6 +31,7 @@ pub mod parts;
 pub mod reading;
 pub mod record;
 pub mod roll;
+pub mod salvage;
 pub mod statement;
 pub mod table;
 pub mod tariff;

@@ -9,6 +9,7 @@ pub mod MovedRecords
 pub mod Offsets
 pub mod Table
 pub mod Refusing
+pub mod Formed
 pub mod Shifts
 pub mod Alike
 pub mod RunLaws
