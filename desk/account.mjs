@@ -1,5 +1,6 @@
 // A member's account: trips settled one after another on the member's book, and what they come to, window by window.
 // Every amount is the library's. What is added up here is compared with the book's own words after each trip.
+import { keptOf } from './ceiling.mjs';
 import { clockOf } from './clock.mjs';
 import { WINDOW, inForce } from './editions.mjs';
 import { hasStops, momentIn, putTrip, takeStops } from './trips.mjs';
@@ -118,14 +119,16 @@ export class Disagreement extends Error {
 /**
  * Settles a member's trips, which come in order, on the book, and makes entries of them. `inPeriod` says which of them
  * count; the others came before. Each is priced once, on the book that its window began in. One whose stops are not all
- * in the edition that settles it is told to `note(trip, key, values)`, and is none of the entries.
+ * in the edition that settles it is told to `note(trip, key, values)`, and is none of the entries. `month`, {ceiling,
+ * kept}, is there under a monthly ceiling: each entry then has what it collects.
  */
-export function settleMember({ engine, tariff, zone, name, book, trips, inPeriod, note }) {
-    const open = engine.open(tariff.bytes, book, putTrip);
+export function settleMember({ engine, tariff, zone, name, book, month, trips, inPeriod, note }) {
+    const open = engine.open(tariff.bytes, book, putTrip, month);
     const account = { name, view: open.view(), windows: [], clock: clockOf(zone), editions: tariff.editions };
     const areas = areasOf(account.view, tariff.editions);
     account.opening = tripsIn(account.view) === 0 ? null : openingIn(account.view);
     account.paid = PARTY.map((_, slot) => paidByBook(account.view, areas, slot));
+    account.month = month ? { ceiling: month.ceiling, name: null, charged: 0, collected: 0 } : null;
     const entries = [];
     for (const entry of trips) {
         const edition = editionFor(account, entry);
@@ -136,7 +139,7 @@ export function settleMember({ engine, tariff, zone, name, book, trips, inPeriod
         entries.push(entry);
     }
     closeWindow(account, sumsOf(account.view, areasOf(account.view, account.editions)));
-    return { name, entries, windows: account.windows, book: open.book() };
+    return { name, entries, windows: account.windows, book: open.book(), kept: open.kept() };
 }
 
 /** The number of the edition that settles a trip: the book's while its window is open, else by the check-in. */
@@ -151,6 +154,7 @@ function settleEntry(account, open, entry) {
     entry.accepted = answer.accepted;
     if (answer.accepted) accept(account, entry, answer.records.map(partOf), sums);
     else entry.refusal = { number: answer.refusal.number, place: answer.refusal.place };
+    if (answer.accepted && account.month) collect(account, entry, answer.due, keptOf(open.kept()));
     putInWindow(account, entry);
 }
 
@@ -193,6 +197,21 @@ function agree({ name, view, paid, editions }, entry) {
         const { sort, number } = PARTY[slot];
         throw new Disagreement(name, `${sort} ${number}, ${placeOf(entry)}: ${paid[slot]} and ${due} cents`);
     }
+}
+
+/**
+ * What a trip collects. The pair that the library keeps has to be the trip's month and what was collected in it, and
+ * that has to be the smaller of the ceiling and the month's charges, as they are added up here.
+ */
+function collect({ name, month }, entry, due, kept) {
+    if (month.name !== entry.month) Object.assign(month, { name: entry.month, charged: 0, collected: 0 });
+    entry.collected = due;
+    month.charged += entry.cents;
+    month.collected += due;
+    const most = Math.min(month.ceiling, month.charged);
+    if (kept.month === month.name && kept.cents === month.collected && kept.cents === most) return;
+    const sums = [month.collected, kept.cents, most].join(', ');
+    throw new Disagreement(name, `collected in ${month.name} and ${kept.month}, ${placeOf(entry)}: ${sums} cents`);
 }
 
 // ---- Windows

@@ -1,6 +1,7 @@
 // The books file: the members' books at the end of a period, what in each edition of the tariff they depend on, and the
 // trips that they are of. Closing writes it, once a period; everything else reads it. A book's words that are 0 are
 // left out.
+import { CEILING_ZONE, isCeiling, isKeptBy, keptBytes, keptOf } from './ceiling.mjs';
 import { FIRST_DAY, isLaterDay } from './editions.mjs';
 import { textIn } from './encoding.mjs';
 import { BOOK_BYTES } from './engine.mjs';
@@ -8,10 +9,12 @@ import { areKept, keptLines, stopWords } from './kept.mjs';
 import { isPeriod } from './months.mjs';
 import { structureOf } from './tariff.mjs';
 
-const MARK = 'milecopper books 3';
+const CEILING = 'milecopper books 4'; // under a monthly ceiling: months are UTC's, and what is collected is kept
+const MARK = 'milecopper books 3'; // without one: months are those of the clock on the wall
 const ONE_EDITION = 'milecopper books 2'; // knows one edition, and its books have no word for it
 const NO_TRIPS = 'milecopper books 1'; // neither; and of the tariff the hash alone, and no trips
-const FORMS = [MARK, ONE_EDITION, NO_TRIPS];
+const FORMS = [CEILING, MARK, ONE_EDITION, NO_TRIPS];
+const OLDER = [ONE_EDITION, NO_TRIPS]; // their books have no word for the edition
 const WORDS = BOOK_BYTES / 4;
 const EDITION_WORD = WORDS - 1; // the last: the number of the window's edition
 
@@ -23,7 +26,8 @@ const EDITION_WORD = WORDS - 1; // the last: the number of the window's edition
  * `structure` and `values`, the hashes of what they mean and of what stands in them; and `stopIds`, the ids of the
  * words of its stops. Of the whole they say `before`, the month of the books that these went on from, or null; `trips`,
  * member → all trips that were settled from there on (`keptLines`); `association`, {name, contact} of whoever closed
- * the month, or null. Of the oldest form these are undefined. Null, and a mistake, for any other file.
+ * the month, or null. Of the oldest form these are undefined. Of books that were kept under a monthly ceiling there are
+ * besides `ceiling` and `collected`, member → what is kept of the month. Null, and a mistake, for any other file.
  */
 export function readBooks(file, mistakes) {
     const text = textIn(file, mistakes);
@@ -42,7 +46,8 @@ export function parsedBooks(text) {
         if (!whole || !right) return null;
         if (form === NO_TRIPS) return { period, books, editions };
         const more = keptIn(said, editions);
-        return more && { period, books, editions, ...more };
+        const under = form === CEILING ? underCeiling(said) : {};
+        return more && under && { period, books, editions, ...more, ...under };
     } catch {
         return null;
     }
@@ -69,6 +74,13 @@ function keptIn({ before, members, period, association }, editions) {
     return inOrder && whole ? { before, trips, association: senderIn(association) } : null;
 }
 
+/** The ceiling, and what is kept of each member's month under it; null where that cannot be. */
+function underCeiling({ ceiling, months, members, period }) {
+    const whole = members.every(({ collected }) => isKeptBy(period, collected));
+    const collected = () => new Map(members.map(({ member, collected: own }) => [member, keptBytes(own)]));
+    return whole && isCeiling(ceiling) && months === CEILING_ZONE ? { ceiling, collected: collected() } : null;
+}
+
 /** Who the statements are from, where the file says so. */
 function senderIn(association) {
     const { name, contact } = association ?? {};
@@ -77,18 +89,25 @@ function senderIn(association) {
 
 const isHash = (text) => typeof text === 'string' && /^[0-9a-f]{64}$/.test(text);
 
+const beginningOf = ({ bytes }) => new TextDecoder('utf-8').decode(bytes.subarray(0, 4000));
+
 /** The month that a file says near its start that it closes; null where it says none. */
-export function closedIn({ bytes }) {
-    const start = new TextDecoder('utf-8').decode(bytes.subarray(0, 4000));
-    const found = /"period":\s*"([^"]*)"/.exec(start)?.[1];
+export function closedIn(file) {
+    const found = /"period":\s*"([^"]*)"/.exec(beginningOf(file))?.[1];
     return isPeriod(found) ? found : null;
+}
+
+/** Whether a file says near its start that it was kept under a monthly ceiling. */
+export function isUnderCeiling(file) {
+    return new RegExp(`"form":\\s*"${CEILING}"`).test(beginningOf(file));
 }
 
 /** A book from its words. Those of older forms have none for the edition: in a window there was only one, the first. */
 function bookOf(words, form) {
     const book = new Uint8Array(BOOK_BYTES);
     const view = new DataView(book.buffer);
-    const end = form === MARK ? WORDS : EDITION_WORD;
+    const older = OLDER.includes(form);
+    const end = older ? EDITION_WORD : WORDS;
     let last = -1;
     for (const [at, value] of words) {
         const inside = Number.isInteger(at) && at > last && at < end;
@@ -96,7 +115,7 @@ function bookOf(words, form) {
         view.setUint32(4 * at, value, true);
         last = at;
     }
-    if (form !== MARK && view.getUint32(0, true) !== 0) view.setUint32(4 * EDITION_WORD, 1, true);
+    if (older && view.getUint32(0, true) !== 0) view.setUint32(4 * EDITION_WORD, 1, true);
     return book;
 }
 
@@ -109,16 +128,19 @@ function wordsIn(book) {
 }
 
 /** The file's text at the end of the result's period: a member a line, and behind it the trips, a line each. */
-export function booksText({ tariff: { editions }, period, booksPeriod, books, members, association }) {
+export function booksText({ tariff: { editions }, period, booksPeriod, books, members, association, ...result }) {
+    const { ceiling = null, collected, monthZone } = result;
+    const keptFor = (member) => (ceiling === null ? {} : { collected: keptOf(collected.get(member)) });
     const words = editions.map(({ stops }) => stopWords(stops));
     const entries = new Map(members.map((member) => [member.name, member.entries]));
     const lines = [...books].map(([member, book]) => {
-        const head = JSON.stringify({ member, words: wordsIn(book) }).slice(0, -1);
+        const head = JSON.stringify({ member, ...keptFor(member), words: wordsIn(book) }).slice(0, -1);
         return `${head},"trips":[${keptLines(entries.get(member) ?? [], words).map((trip) => `\n${trip}`).join(',')}]}`;
     });
     const known = editions.map((edition, i) => JSON.stringify(editionHead(edition, words[i])));
     const sender = association && (association.name || association.contact) ? { association } : {};
-    const said = Object.entries({ form: MARK, period, before: booksPeriod, ...sender });
+    const form = ceiling === null ? { form: MARK } : { form: CEILING, months: monthZone, ceiling };
+    const said = Object.entries({ ...form, period, before: booksPeriod, ...sender });
     const top = said.map(([key, value]) => `"${key}": ${JSON.stringify(value)}`).join(',\n ');
     const list = (name, own) => ` "${name}": [\n${own.join(',\n')}\n]`;
     return `{${top},\n${list('editions', known)},\n${list('members', lines)}}\n`;

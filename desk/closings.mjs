@@ -1,7 +1,7 @@
 // Closed months: which books there are, from which of them the trips go on, whether those fit the tariff, which trips
 // of a closed month the books lack, and what speaks against closing a month now.
 import { bookEdition, openUntil } from './account.mjs';
-import { closedIn, parsedBooks, readBooks } from './books.mjs';
+import { closedIn, isUnderCeiling, parsedBooks, readBooks } from './books.mjs';
 import { WINDOW } from './editions.mjs';
 import { decoded } from './encoding.mjs';
 import { notKept } from './kept.mjs';
@@ -35,8 +35,17 @@ export function booksIn(desk, tariff, closings) {
     if (period !== null && books.period >= period) {
         mistakes.error(file.name, 1, 'booksClosed', { closed: books.period, period });
     }
+    for (const month of due) fitMonths(desk, closings.get(month), closings.get(month) === file ? books : null);
     if (tariff.hash) fitEditions(desk, tariff.editions, books, file);
     return { ...books, file };
+}
+
+// ---- Books and months
+
+/** Months are all counted alike, by UTC or by the clock on the wall: else a trip could fall between two of them. */
+function fitMonths({ ceiling, mistakes }, file, books) {
+    const under = books === null ? isUnderCeiling(file) : books.ceiling !== undefined;
+    if (under !== (ceiling !== null)) mistakes.error(file.name, 1, 'booksMonths', { under });
 }
 
 // ---- Books and tariff
@@ -49,7 +58,7 @@ function fitEditions(desk, editions, books, { name }) {
     const { newTariff, mistakes } = desk;
     const known = books.editions.length;
     if (known > editions.length) return mistakes.error(name, 1, 'booksEdition', { from: books.editions.at(-1).from });
-    const end = startOf(desk.zone, monthBehind(books.period));
+    const end = startOf(desk.monthZone, monthBehind(books.period));
     const late = editions.slice(known).find(({ since }) => since < end);
     if (late) mistakes.warning(name, 1, 'editionLate', { from: late.from, closed: books.period });
     const changed = editions.filter((edition, i) => i < known && !isSame(mistakes, edition, books.editions[i], name));
@@ -129,11 +138,11 @@ function keepersOf(month, books, closings) {
  * Where nothing is known of the month before, neither trips nor books, a window that was opened there is begun anew by
  * the first trips of the month. Told once, with those whom it may concern and what these trips cost.
  */
-export function warnOfLostWindows({ period, months, zone, mistakes }, members) {
+export function warnOfLostWindows({ period, months, monthZone, mistakes }, members) {
     const entries = members.flatMap((member) => member.entries);
     const first = period ?? firstOf(entries.map(({ month }) => month));
     if (first === null || months.some(({ month }) => month === monthBefore(first))) return;
-    const end = startOf(zone, first) + WINDOW; // no window from before is open then
+    const end = startOf(monthZone, first) + WINDOW; // no window from before is open then
     const early = entries.filter((entry) => entry.accepted && entry.month === first && entry.checkOut.minute < end);
     if (early.length === 0) return;
     const names = [...new Set(early.map(({ member }) => member))];

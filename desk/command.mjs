@@ -6,6 +6,7 @@ import { parseArgs } from 'node:util';
 import { Disagreement } from './account.mjs';
 import { booksName, booksText } from './books.mjs';
 import { builtSalvager, builtWasm } from './building.mjs';
+import { ceilingOf, monthZoneOf, noCeiling } from './ceiling.mjs';
 import { dayOf, todayIn } from './clock.mjs';
 import { loadEngine } from './engine.mjs';
 import { mistakeLine, mistakeText } from './mistakes.mjs';
@@ -76,7 +77,7 @@ async function orMistaken(language, make, say) {
 
 // ---- The call
 
-const TEXTS = ['members', 'period', 'format', 'out', 'language', 'member', 'today'];
+const TEXTS = ['members', 'period', 'format', 'out', 'language', 'member', 'today', 'ceiling'];
 const LISTS = ['areas', 'stops', 'trips', 'books'];
 const MARKS = ['force', 'new-tariff', 'strict'];
 const OPTIONS = {
@@ -107,7 +108,8 @@ async function callOf(args) {
     if (!FORMATS.includes(format)) throw new Mistaken(words.allowed('format', FORMATS), true);
     if (action === 'close' && values.period === undefined) throw new Mistaken(words.due, true);
     if (values.member !== undefined && !OF_ONE.includes(action)) throw new Mistaken(words.one(OF_ONE), true);
-    return { ...values, ...datesOf(values, words), action, folder, format, language, words };
+    const ceiling = ceilingIn(values, language);
+    return { ...values, ...datesOf({ ...values, ceiling }, words), ceiling, action, folder, format, language, words };
 }
 
 /** A roll that is to be salvaged, and what is to be said of it: sentences, or a table. */
@@ -118,8 +120,17 @@ function salvageCall({ out = '.', format }, [, roll, more], language) {
     return { action: SALVAGE, roll, out, table: format !== undefined, language, words };
 }
 
-/** The month that is asked for, and today's date. */
-function datesOf({ period = null, today = todayIn('Europe/Berlin') }, words) {
+/** The monthly ceiling in cents; null where none is asked for. */
+function ceilingIn({ ceiling: text }, language) {
+    if (text === undefined) return null;
+    const cents = ceilingOf(text);
+    if (cents === null) throw new Mistaken(mistakeText(noCeiling('--ceiling', text), language), true);
+    return cents;
+}
+
+/** The month that is asked for, and today's date by the clock that months go by. */
+function datesOf({ period = null, ceiling, ...given }, words) {
+    const { today = todayIn(monthZoneOf(ceiling)) } = given;
     if (period !== null && period !== OPEN && !isPeriod(period)) throw new Mistaken(words.month(period), true);
     if (!/^\d{4}-/.test(today) || dayOf(today) === null) throw new Mistaken(words.date(today), true);
     return { period, today };
@@ -127,10 +138,16 @@ function datesOf({ period = null, today = todayIn('Europe/Berlin') }, words) {
 
 function parsed(args) {
     try {
-        return parseArgs({ args, options: OPTIONS, allowPositionals: true });
+        return parseArgs({ args: withCeiling(args), options: OPTIONS, allowPositionals: true });
     } catch (error) {
         throw new Mistaken(error.message.split(/\.\s/)[0], true);
     }
+}
+
+/** The words with a negative ceiling as one of them: by itself it would be taken for an option. */
+function withCeiling(args) {
+    const at = args.findIndex((word, i) => word === '--ceiling' && /^-\d/.test(args[i + 1] ?? ''));
+    return at < 0 ? args : args.toSpliced(at, 2, `--ceiling=${args[at + 1]}`);
 }
 
 /** The version's number, which stands in the C header alone. */
@@ -143,12 +160,12 @@ function versionLine() {
 // ---- What is done
 
 async function perform(call) {
-    const { folder, period, language, words, today, strict, 'new-tariff': newTariff } = call;
+    const { folder, period, language, words, today, strict, ceiling, 'new-tariff': newTariff } = call;
     const found = await orMistaken(language, () => fs.readdirSync(folder), (why) => words.folder(folder, why));
     const files = await prepared(filesOf(call, found));
     const engine = await orMistaken(language, () => engineOf(words), words.engineless);
     const progress = progressLine(words);
-    const result = runDesk({ engine, files, period, language, today, strict, newTariff, progress });
+    const result = runDesk({ engine, files, period, language, today, strict, ceiling, newTariff, progress });
     const books = [files.books].flat().find(({ name }) => name === result.booksFile);
     if (books) tell(words.books(books.place));
     agreed(call, () => agreeStatements(result));
@@ -289,10 +306,11 @@ async function waged(call, result) {
 /** What the tables are made of: all of it, or of the member who is asked for. */
 function asked({ member, words }, result) {
     if (member === undefined) return result;
-    const { tariff, tripFiles, roster } = result;
+    const { tariff, tripFiles, roster, ceiling } = result;
     const members = membersOf(result).filter(({ name }) => name === member);
     if (members.length === 0) throw new Mistaken(words.member(member));
-    return { tariff, tripFiles, roster, members, wages: result.wages.filter((row) => row.member === member) };
+    const wages = result.wages.filter((row) => row.member === member);
+    return { tariff, tripFiles, roster, ceiling, members, wages };
 }
 
 async function stated(call, result) {

@@ -9,6 +9,10 @@ export const LARGEST_TARIFF_BYTES = 29062;
 export const LARGEST_STATEMENT_BYTES = 532;
 export const LARGEST_FIELDS_BYTES = 324;
 
+// What is kept of a month under a ceiling, and what a trip then collects.
+export const KEPT_BYTES = 8;
+export const DUE_BYTES = 4;
+
 // A record's length stands in its first two bytes and counts up to 1,024 bytes behind them; one that claims more is
 // broken.
 export const LONGEST_RECORD_BYTES = 1026;
@@ -30,12 +34,18 @@ const DECIDING_BYTES = {
     records: LONGEST_RECORD_BYTES,
     // What is written is never longer, and further bytes are left alone.
     fields: LARGEST_FIELDS_BYTES,
+    // What is kept in another length is refused whatever it holds.
+    kept: KEPT_BYTES + 1,
+    // What is written is never longer, and further bytes are left alone.
+    due: DUE_BYTES,
 };
 
-// The slices that each exported function takes, in order; `at` is the offset among them, 0 here.
+// The slices that each exported function takes, in order; `at` is the offset among them, 0 here, and `ceiling` is a
+// number.
 export const FUNCTIONS = {
     milecopper_check_tariff: ['tariff'],
     milecopper_settle: ['tariff', 'book', 'trip', 'statement'],
+    milecopper_settle_month: ['ceiling', 'kept', 'tariff', 'book', 'trip', 'statement', 'due'],
     milecopper_quote: ['tariff', 'book', 'trip', 'statement'],
     milecopper_post: ['tariff', 'book', 'trip', 'record'],
     milecopper_read: ['records', 'at', 'fields'],
@@ -52,6 +62,7 @@ export async function loadLibrary(wasmBytes) {
     const call = (name, slices) => {
         room.hold(null);
         const words = FUNCTIONS[name].flatMap((slice) => {
+            if (slice === 'ceiling') return [slices.ceiling];
             return slice === 'at' ? [0n] : [places[slice], room.lend(slice, slices[slice])];
         });
         const answer = BigInt.asUintN(64, functions[name](...words));
@@ -87,23 +98,37 @@ function roomIn(bytes, places) {
 /**
  * A book under a tariff, for trips one after another, of which `put` writes the record and answers its length. `settle`
  * gives the answer's number, `read` that for the charge record at an offset of what was written, and `fields` what it
- * read. `view` shows the book as it is now, until another call; `book` copies it.
+ * read. `view` shows the book as it is now, until another call; `book` copies it. Under a monthly ceiling, `kept` is
+ * the month and the amount to begin with; `due` is what the trip collects that was settled last, and `kept` copies what
+ * is kept now.
  */
-function openIn(room, places, functions, tariff, book, put) {
-    let own = deciding('book', book).slice();
+function openIn(room, places, functions, tariff, book, put, { ceiling = null, kept = new Uint8Array(0) } = {}) {
+    let own = { book: deciding('book', book).slice(), kept: deciding('kept', kept).slice() };
     let lengths;
+    const copied = (slice) => room.copied(slice, own[slice].length);
     const holder = {
-        enter: () => (lengths = { tariff: room.lend('tariff', tariff), book: room.lend('book', own) }),
-        leave: () => (own = room.copied('book', own.length)),
+        enter: () => {
+            const [lentBook, lentKept] = ['book', 'kept'].map((slice) => room.lend(slice, own[slice]));
+            lengths = { tariff: room.lend('tariff', tariff), book: lentBook, kept: lentKept };
+        },
+        leave: () => (own = { book: copied('book'), kept: copied('kept') }),
     };
     const [statementLength, fieldsLength] = [LARGEST_STATEMENT_BYTES, LARGEST_FIELDS_BYTES].map(BigInt);
     return {
         settle: (trip) => {
             room.hold(holder);
-            return functions.milecopper_settle(
+            const words = [
                 ...[places.tariff, lengths.tariff, places.book, lengths.book],
                 ...[places.trip, BigInt(put(room.trip, trip)), places.statement, statementLength],
-            );
+            ];
+            if (ceiling === null) return functions.milecopper_settle(...words);
+            const due = [places.due, BigInt(DUE_BYTES)];
+            return functions.milecopper_settle_month(ceiling, places.kept, lengths.kept, ...words, ...due);
+        },
+        due: () => room.view.getUint32(places.due, true),
+        kept: () => {
+            room.hold(holder);
+            return copied('kept');
         },
         read: (at, length) => {
             const records = BigInt(length - at);
@@ -112,11 +137,11 @@ function openIn(room, places, functions, tariff, book, put) {
         fields: () => fieldsOf(room.view, places.fields),
         view: () => {
             room.hold(holder);
-            return new DataView(room.view.buffer, places.book, own.length);
+            return new DataView(room.view.buffer, places.book, own.book.length);
         },
         book: () => {
             room.hold(holder);
-            return room.copied('book', own.length);
+            return copied('book');
         },
     };
 }
@@ -166,6 +191,17 @@ export async function loadEngine(wasmBytes) {
         return { accepted: true, statement: after('statement').slice(0, told.bytes), book: after('book') };
     };
 
+    // The same under a monthly ceiling; besides, what the trip collects, in cents, and what is kept behind it.
+    const settleMonth = (ceiling, kept, tariff, book, trip) => {
+        const slices = { ceiling, kept, tariff, book, trip, statement, due: new Uint8Array(DUE_BYTES) };
+        const { answer, after } = library.call('milecopper_settle_month', slices);
+        const told = answerOf(answer);
+        if (!told.accepted) return told;
+        const due = new DataView(after('due').buffer).getUint32(0, true);
+        const records = after('statement').slice(0, told.bytes);
+        return { accepted: true, statement: records, book: after('book'), kept: after('kept'), due };
+    };
+
     const quote = (tariff, book, trip) => {
         const { answer, after } = library.call('milecopper_quote', { tariff, book, trip, statement });
         const told = answerOf(answer);
@@ -191,9 +227,10 @@ export async function loadEngine(wasmBytes) {
 
     // A book under a tariff, on which trips are settled one after another without a copy of either for each; `put`
     // writes the record of a trip into the library's memory and answers its length. A trip that is accepted gives the
-    // fields of its charge records. The tariff that is lent must stay as it is meanwhile.
-    const open = (tariff, book, put) => {
-        const account = library.open(tariff, book, put);
+    // fields of its charge records. The tariff that is lent must stay as it is meanwhile. Under a monthly ceiling,
+    // {ceiling, kept}, it gives what it collects, `due`, too.
+    const open = (tariff, book, put, month = undefined) => {
+        const account = library.open(tariff, book, put, month);
         const recordsOf = (length) => {
             const records = [];
             for (let at = 0; at < length; ) {
@@ -206,12 +243,14 @@ export async function loadEngine(wasmBytes) {
         };
         const settled = (trip) => {
             const told = answerOf(account.settle(trip));
-            return told.accepted ? { accepted: true, records: recordsOf(told.bytes) } : told;
+            if (!told.accepted) return told;
+            const records = recordsOf(told.bytes);
+            return month ? { accepted: true, records, due: account.due() } : { accepted: true, records };
         };
-        return { settle: settled, view: account.view, book: account.book };
+        return { settle: settled, view: account.view, book: account.book, kept: account.kept };
     };
 
-    return { version: library.version, checkTariff, settle, quote, post, read, open, refusalText };
+    return { version: library.version, checkTariff, settle, settleMonth, quote, post, read, open, refusalText };
 }
 
 // What milecopper_read writes at a place, in names: a head of 14 bytes, and ten for each charge.

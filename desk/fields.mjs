@@ -8,12 +8,17 @@ export function wholeIn(row, column, least, most, note, empty) {
     return number >= least && number <= most ? number : note('notNumber', { column, value: text, least, most });
 }
 
-/** An amount in euros with a decimal point or comma, as cents from 0 to `most`. */
+/** An amount in euros with a decimal point or comma, as cents; NaN for any other text. */
+export function amountOf(text) {
+    const found = /^(\d{1,7})(?:[.,](\d{1,2}))?$/.exec(text);
+    return found ? Number(found[1]) * 100 + Number((found[2] ?? '').padEnd(2, '0')) : NaN;
+}
+
+/** Such an amount, from 0 to `most` cents. */
 export function centsIn(row, column, most, note, empty) {
     const text = row[column];
     if (text === '') return empty === undefined ? note('blank', { column }) : empty;
-    const found = /^(\d{1,7})(?:[.,](\d{1,2}))?$/.exec(text);
-    const cents = found ? Number(found[1]) * 100 + Number((found[2] ?? '').padEnd(2, '0')) : NaN;
+    const cents = amountOf(text);
     return cents <= most ? cents : note('notAmount', { column, value: text, most: (most / 100).toFixed(2) });
 }
 

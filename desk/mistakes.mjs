@@ -291,6 +291,27 @@ const TEXTS = {
         en: ({ period, name, other }) =>
             `books of ${monthText(period, 'en')} twice: ${other} and ${name}; only one file can count`,
     },
+    booksMonths: {
+        de: ({ under }) =>
+            under
+                ? 'diese Bücher sind mit einem Monatsdeckel geschrieben und zählen Monate nach Weltzeit (UTC), hier ' +
+                  'fehlt er, und Monate zählen nach der Uhr an der Wand: eine Fahrt kurz nach Mitternacht am Ersten ' +
+                  'stünde in beiden Monaten und würde zweimal berechnet. Bitte den Monatsdeckel angeben (--ceiling) ' +
+                  'oder ohne diese Bücher rechnen, mit allen Fahrten'
+                : 'diese Bücher zählen Monate nach der Uhr an der Wand, mit einem Monatsdeckel aber zählen sie nach ' +
+                  'Weltzeit (UTC): eine Fahrt kurz nach Mitternacht am Ersten fiele zwischen beide Monate und würde ' +
+                  'nie berechnet. Bitte ohne Monatsdeckel (--ceiling) weiterrechnen oder ohne diese Bücher, mit ' +
+                  'allen Fahrten',
+        en: ({ under }) =>
+            under
+                ? 'these books were written under a monthly ceiling and count months by UTC; here there is none, and ' +
+                  'months go by the clock on the wall: a trip just after midnight on the first would stand in both ' +
+                  'months and be priced twice. Please give the ceiling (--ceiling), or go without these books, with ' +
+                  'all trips'
+                : 'these books count months by the clock on the wall, but under a monthly ceiling months are those ' +
+                  'of UTC: a trip just after midnight on the first would fall between both months and never be priced. ' +
+                  'Please go on without a ceiling (--ceiling), or without these books, with all trips',
+    },
     booksTariff: {
         de: ({ areas }) =>
             'die Bücher gehören zu einem anderen Tarif: seit dem Abschließen sind Zahl, Reihenfolge, id, level, ' +

@@ -1,6 +1,7 @@
 // The desk's work in one function, which page and command both call: files in, everything out.
 import { Disagreement, lastCheckOut, settleMember } from './account.mjs';
 import { capsOf } from './caps.mjs';
+import { freshKept, isCeiling, monthZoneOf } from './ceiling.mjs';
 import { clockOf } from './clock.mjs';
 import { booksIn, closingDoubts, closingsIn, dueTrips, warnOfLostWindows } from './closings.mjs';
 import { placeOf, warnOfNearBooks, warnOfNearMembers, warnOfSlips } from './doubts.mjs';
@@ -28,19 +29,24 @@ const NAMES = { areas: 'areas.csv', stops: 'stops.csv', trips: 'trips.csv', memb
  * are meant. `today`, '2026-11-03': the date, where it is known. `strict`: warnings are errors. `progress(done, all)`
  * is told of settled trips.
  *
+ * `ceiling`: the cents to which a member's month is limited, or null. With one, months are those of UTC (`monthZone`).
+ *
  * `files.members` may be there: it says who is who.
  *
  * Of the result, `roster` has the members of that file by name (`readMembers`) or is null; `booksFile` is the name of
- * the books that were gone on from, `months` are those that there are (`monthsOf`), `open` the one to choose
+ * the books that were gone on from, `booksCeiling` the ceiling that they know or null, `collected` what is kept of each
+ * member's month (`keptOf`), `months` are those that there are (`monthsOf`), `open` the one to choose
  * (`openMonth`), and `closing` what is to be said before the period is closed (`closingDoubts`).
  */
 export function runDesk({ files, period: asked = null, zone = 'Europe/Berlin', language = 'de', ...options }) {
     if (asked !== null && asked !== OPEN && !isPeriod(asked)) throw new RangeError(`${asked} is no month`);
-    const { engine, today = null } = options;
-    const desk = deskOf({ ...options, zone }, files, language);
+    const { engine, today = null, ceiling = null } = options;
+    if (ceiling !== null && !isCeiling(ceiling)) throw new RangeError(`${ceiling} is no ceiling`);
+    const monthZone = monthZoneOf(ceiling, zone);
+    const desk = deskOf({ ...options, zone, monthZone, ceiling }, files, language);
     const tariff = tariffIn(desk);
     const roster = readMembers(desk.files.members, desk.mistakes);
-    const trips = readTrips(desk.files.trips, tariff.editions, zone, desk.mistakes);
+    const trips = readTrips(desk.files.trips, tariff.editions, desk, desk.mistakes);
     if (roster) checkMembers(trips, roster, desk.files.members, desk.mistakes);
     else warnOfNearMembers(desk, trips); // where it is said who is who, near names are two
     warnOfSlips(desk, trips, tripsByMember(trips));
@@ -52,7 +58,7 @@ export function runDesk({ files, period: asked = null, zone = 'Europe/Berlin', l
     const books = booksIn(desk, tariff, closings);
     const settled = desk.mistakes.count('error') === 0 ? settledOrNot(desk, tariff, books, closings, trips) : null;
     const errors = desk.mistakes.count('error'); // where warnings are errors, settling may have found some, too
-    const { members, wages, refused, books: kept } = errors === 0 ? settled : NOTHING;
+    const { members, wages, refused, books: kept, collected } = errors === 0 ? settled : NOTHING;
     let charges = null;
     return {
         mistakes: desk.mistakes.sorted(),
@@ -60,10 +66,11 @@ export function runDesk({ files, period: asked = null, zone = 'Europe/Berlin', l
         warnings: desk.mistakes.count('warning'),
         tariff: tariffOf(desk, tariff),
         ...{ period, zone, language, version: engine.version, tripFiles: desk.files.trips.map(({ name }) => name) },
+        ...{ ceiling, monthZone, booksCeiling: books?.ceiling ?? null },
         ...{ booksPeriod: books?.period ?? null, booksFile: books?.file.name ?? null },
         association: books?.association ?? null,
         ...{ roster, months, open, closing: closingDoubts({ period, today, months, closings, language }) },
-        ...{ members, wages, refused, books: kept },
+        ...{ members, wages, refused, books: kept, collected },
         /** The largest table, made when it is asked for. */
         get charges() {
             return (charges ??= chargesOf(this));
@@ -83,7 +90,7 @@ function tariffOf({ engine, mistakes }, { bytes, hash, editions }) {
     return { bytes, hash, editions: own };
 }
 
-const NOTHING = { members: [], wages: [], refused: 0, books: new Map() };
+const NOTHING = { members: [], wages: [], refused: 0, books: new Map(), collected: new Map() };
 
 function deskOf(rest, given, language) {
     const files = filesOf(given);
@@ -151,8 +158,9 @@ function settledOrNot(desk, tariff, books, closings, trips) {
 }
 
 function settleAll(desk, tariff, books, due) {
-    const { engine, zone, period, mistakes } = desk;
+    const { engine, zone, period, ceiling, mistakes } = desk;
     const kept = new Map(books?.books ?? []);
+    const collected = new Map(books?.collected ?? []);
     warnOfNearBooks(desk, [...kept.keys()], due);
     const inPeriod = ({ month }) => period === null || month === period;
     const note = ({ file, line }, key, values) => mistakes.error(file, line, key, values);
@@ -160,19 +168,21 @@ function settleAll(desk, tariff, books, due) {
     let done = 0;
     for (const [name, own] of byName(tripsByMember(due), mistakes.language)) {
         const book = kept.get(name) ?? new Uint8Array(BOOK_BYTES);
-        const member = settleMember({ engine, tariff, zone, name, book, trips: own, inPeriod, note });
+        const month = ceiling === null ? undefined : { ceiling, kept: collected.get(name) ?? freshKept() };
+        const member = settleMember({ engine, tariff, zone, name, book, month, trips: own, inPeriod, note });
         if (member.entries.some(({ refusal }) => refusal?.number === 4)) {
             return mistakes.error(books.file.name, 1, 'bookUnsound', { member: name });
         }
         warnOfRefused(desk, tariff, member, book);
         members.push(member);
         kept.set(name, member.book);
+        collected.set(name, member.kept);
         done += own.length;
         desk.progress?.(done, due.length);
     }
-    const wages = wagesOf(members, desk.roster);
-    agreeWages(wages, members);
-    return { members, wages, books: kept, refused: wages.reduce((sum, row) => sum + row.refused, 0) };
+    const wages = wagesOf(members, desk.roster, ceiling);
+    agreeWages(wages, members, ceiling);
+    return { members, wages, books: kept, collected, refused: wages.reduce((sum, row) => sum + row.refused, 0) };
 }
 
 /** The members as the language sorts them, numbers in names by their size. */

@@ -10,13 +10,13 @@ import { STATEMENT, dateText, monthText } from './words.mjs';
  * `letter` says from whom it comes and when: {name, contact, date}, each a text that may be empty; null: nothing.
  */
 export function statementHtml(member, result, language, letter = null) {
-    const { title, counts, total, words, windows, foot } = statementOf(member, result, language);
+    const { title, counts, totalName, total, words, windows, ending, foot } = statementOf(member, result, language);
     return `<article class="statement" lang="${language}">${letterHtml(letter, language)}
 <header><h2>${escaped(member.name)}</h2><p>${escaped(title)}</p></header>
 <div class="sheet">
-<p class="sum"><span>${escaped(counts)}</span> <strong>${escaped(words.total)} ${escaped(total)}</strong></p>
+<p class="sum"><span>${escaped(counts)}</span> <strong>${escaped(totalName)} ${escaped(total)}</strong></p>
 ${windows.slice(0, -1).map((window) => windowHtml(window, words)).join('\n')}
-<div class="end">${windowHtml(windows.at(-1), words)}
+<div class="end">${windowHtml(windows.at(-1), words)}${endingHtml(ending, words)}
 <footer>${legendHtml(windows, words)}
 <p>${[...foot.tariff, foot.version].map((line) => `${escaped(line)}.`).join(' ')}</p>
 <p class="hash">${escaped(foot.hash)}</p></footer></div>
@@ -79,6 +79,15 @@ function capsHtml(caps, words) {
         return `<div><dt>${mark ? `<sup>${mark}</sup> ` : ''}${escaped(name)}</dt>${fills.map(level).join('')}</div>`;
     };
     return `<h4>${escaped(words.caps)}</h4><dl class="caps">${caps.map(cap).join('\n')}</dl>`;
+}
+
+/** What was charged and collected under a ceiling, month by month. */
+function endingHtml(ending, words) {
+    if (ending === null) return '';
+    const row = ([name, amount]) => `<tr><th scope="row">${escaped(name)}</th><td>${escaped(amount)}</td></tr>`;
+    return `
+<section class="ending"><h3>${escaped(words.ceiling)}</h3><p class="note">${escaped(ending.note)}</p>
+<table aria-label="${escaped(words.ceiling)}"><tbody>${ending.rows.map(row).join('\n')}</tbody></table></section>`;
 }
 
 /** What the bars mean, where not all are of the plainest sort: once a statement. */

@@ -1,9 +1,10 @@
 // A member's statement, to hand over: as words and figures (`statementOf`), which all forms share, and as text. Amounts
 // are those of the entries; what is added up here are totals, and they have to be the wages'.
 import { Disagreement, centsOf } from './account.mjs';
-import { clockOf, dayOf, momentsOf } from './clock.mjs';
+import { clockOf, dayOf, momentsOf, monthOf } from './clock.mjs';
 import { WINDOW } from './editions.mjs';
 import { momentIn } from './trips.mjs';
+import { chargedOf } from './wages.mjs';
 import { STATEMENT, capClassText, capText, classText, dayText, editionText, moneyText, monthText } from './words.mjs';
 import { reasonText, riderText, seasonText } from './words.mjs';
 
@@ -25,25 +26,34 @@ export function statementOf(member, result, language) {
         member: member.name,
         title: words.title(result.period && monthText(result.period, language)),
         counts: [words.trips(own.length - refused), ...(refused > 0 ? [words.refusals(refused)] : [])].join(', '),
+        totalName: result.ceiling === null ? words.total : words.collected,
         total: moneyText(agreedTotal(member, own, result), language),
         windows: windows.map((window) => windowOf(window, saying)),
+        ending: result.ceiling === null ? null : endingOf(member, saying),
         foot: footOf(saying),
     };
 }
 
 /** Looks whether the wages have the totals of all statements, for whoever puts wages out without them. */
 export function agreeStatements(result) {
-    const due = new Map();
-    for (const { member, cents } of result.wages) due.set(member, (due.get(member) ?? 0) + cents);
+    const rows = new Map(membersOf(result).map(({ name }) => [name, []]));
+    for (const row of result.wages) rows.get(row.member)?.push(row);
     for (const { name, entries } of membersOf(result)) {
-        agree(name, totalOf(entries.filter(({ inPeriod }) => inPeriod)), due.get(name));
+        agreeTotals(name, entries.filter(({ inPeriod }) => inPeriod), rows.get(name));
     }
 }
 
-/** The total of the charges that the statement shows. Where the wages have another, there is no statement. */
+/** What the member pays. Where the wages have other sums than the statement shows, there is no statement. */
 function agreedTotal({ name }, entries, { wages }) {
-    const due = wages.filter(({ member }) => member === name).reduce((sum, { cents }) => sum + cents, 0);
-    return agree(name, totalOf(entries), due);
+    return agreeTotals(name, entries, wages.filter(({ member }) => member === name));
+}
+
+/** The charges, and what is paid of them: all, or what is collected under a ceiling. */
+function agreeTotals(name, entries, wages) {
+    const due = (of) => wages.reduce((sum, row) => sum + of(row), 0);
+    const paid = ({ collected, parts }) => collected ?? centsOf(parts ?? []);
+    agree(name, totalOf(entries), due(chargedOf));
+    return agree(name, entries.reduce((sum, entry) => sum + paid(entry), 0), due(({ cents }) => cents));
 }
 
 function agree(name, shown, due) {
@@ -58,6 +68,17 @@ function totalOf(entries) {
 /** All that was charged to anyone in the entries. */
 function ridersOf(entries) {
     return entries.flatMap(({ parts }) => (parts ?? []).flatMap((part) => part.riders));
+}
+
+/** How a statement ends under a ceiling: charges, ceiling and what is collected, by month; and whose months these are. */
+function endingOf({ name }, { language, words, result: { wages, ceiling } }) {
+    const own = wages.filter(({ member }) => member === name);
+    const rows = own.flatMap(({ period, cents, charged }) => [
+        [words.charged(monthText(period, language)), moneyText(charged, language)],
+        [words.ceiling, moneyText(ceiling, language)],
+        [words.collected, moneyText(cents, language)],
+    ]);
+    return { note: words.utc, rows };
 }
 
 /** `tariff` has a line for each edition. */
@@ -106,11 +127,11 @@ function windowOf(window, saying) {
 
 /** Its edition; why a window's caps may be fuller than its trips make them; and where its further trips are. */
 function notesOf({ opening, entries }, edition, to, saying) {
-    const { language, words, result: { period, tariff } } = saying;
+    const { language, words, result: { period, tariff, monthZone } } = saying;
     const several = tariff.editions.length > 1 ? [editionName(edition, saying)] : [];
     const first = entries.find(({ accepted }) => accepted);
     const earlier = !first || first.checkIn.minute > opening;
-    const month = to.local.slice(0, 7);
+    const month = monthOf(monthZone, to.minute);
     const later = period !== null && month > period;
     const further = later ? [words.later(monthText(month, language))] : [];
     return [...several, ...(earlier ? [words.earlier] : []), ...further];
@@ -163,7 +184,7 @@ function tripOf(entry, number, saying) {
     const stop = (index) => edition.stops[index].name;
     const via = entry.via.length > 0 ? [words.via(entry.via.map(stop).join(', '))] : [];
     const level = entry.level === null ? [] : [words.level(entry.level)];
-    const elsewhere = entry.inPeriod ? [] : [words.elsewhere(monthText(entry.checkIn.local.slice(0, 7), language))];
+    const elsewhere = entry.inPeriod ? [] : [words.elsewhere(monthText(entry.month, language))];
     return {
         ...{ number, from: entry.checkIn.minute, to: entry.checkOut.minute, counts: entry.inPeriod },
         state: stateOf(entry),
@@ -244,11 +265,17 @@ const WIDTH = 80;
 
 /** A member's statement as text. */
 export function statementText(member, result, language) {
-    const { title, counts, total, words, windows, foot } = statementOf(member, result, language);
-    const head = [title, member.name, '='.repeat(WIDTH), amountLine(counts, `${words.total} ${total}`)];
+    const { title, counts, totalName, total, words, windows, ending, foot } = statementOf(member, result, language);
+    const head = [title, member.name, '='.repeat(WIDTH), amountLine(counts, `${totalName} ${total}`)];
+    const end = ending ? [...endingLines(ending), ''] : [];
     const tail = ['-'.repeat(WIDTH), ...foot.tariff, foot.hash, foot.version];
-    const lines = [...head, '', ...windows.flatMap((window) => [...windowLines(window, words), '']), ...tail];
+    const own = windows.flatMap((window) => [...windowLines(window, words), '']);
+    const lines = [...head, '', ...own, ...end, ...tail];
     return `${lines.join('\n')}\n`.replaceAll('\u00a0', ' ');
+}
+
+function endingLines({ note, rows }) {
+    return ['='.repeat(WIDTH), ...wrapped(note, 0), ...rows.map(([words, amount]) => amountLine(words, amount))];
 }
 
 /** A text at the left, an amount at the right. */

@@ -18,10 +18,11 @@ export const TRIP_COLUMNS = {
 
 /**
  * The trips of all files, in the files' order and by line. Where the stops of an edition could not be read, `stops` is
- * null there: names are then not looked for. A row with a mistake is none of the trips.
+ * null there: names are then not looked for. A row with a mistake is none of the trips. Clock times are those of
+ * `zone`, and months those of `monthZone`.
  */
-export function readTrips(files, editions, zone, mistakes) {
-    const sheet = { clock: clockOf(zone), editions, stopIn: stopFinder(editions) };
+export function readTrips(files, editions, { zone, monthZone }, mistakes) {
+    const sheet = { clock: clockOf(zone), monthZone, editions, stopIn: stopFinder(editions) };
     return files.flatMap((file) => tripsIn(file, sheet, mistakes));
 }
 
@@ -40,17 +41,17 @@ function tripsIn(file, sheet, mistakes) {
 
 const tidied = remembered(tidy);
 
-function readTrip(file, row, { clock, editions, stopIn }, note) {
+function readTrip(file, row, { clock, monthZone, editions, stopIn }, note) {
     const member = tidied(row.member);
     if (member === '') note('blank', { column: 'member' });
-    const { checkIn, checkOut, month } = timesIn(row, clock, note);
+    const { checkIn, checkOut, month } = timesIn(row, clock, monthZone, note);
     const names = namesIn(row, stopIn, editionsAt(editions, checkIn), note);
     const [travelClass, level, party] = [classIn(row, note), levelIn(row, note), partyIn(row, note)];
     const none = undefined; // what is put into a trip later has its place from the start: each is of one form and size
     const trip = {
         file, line: row.line, member, checkIn, checkOut, month, names, edition: none, from: none, to: none, via: none,
         class: travelClass, level, party,
-        inPeriod: none, accepted: none, refusal: none, window: none, cents: none, parts: none,
+        inPeriod: none, accepted: none, refusal: none, window: none, cents: none, collected: none, parts: none,
     };
     if (checkIn) takeStops(trip, inForce(editions, checkIn.minute).number);
     return trip;
@@ -158,7 +159,7 @@ const NO_TIMES = {};
 const daysBy = remembered(dayOf);
 const timesBy = remembered(timeOf);
 
-function timesIn(row, clock, note) {
+function timesIn(row, clock, monthZone, note) {
     const day = dateIn(row, note);
     const depart = timeIn(row, 'depart', '23:59', note);
     const arrive = timeIn(row, 'arrive', '47:59', note);
@@ -166,7 +167,7 @@ function timesIn(row, clock, note) {
     const { faults, checkIn, checkOut } = tripTimes(clock, day, depart, arrive);
     for (const fault of faults ?? []) noteFault(fault, row, note);
     if (faults) return NO_TIMES;
-    const month = monthOf(clock.zone, checkIn.minute); // to whose wages it goes
+    const month = monthOf(monthZone, Math.max(0, checkIn.minute)); // to whose wages it goes; there is none before 2000
     return { checkIn: momentOf(checkIn), checkOut: momentOf(checkOut), month };
 }
 

@@ -3,7 +3,8 @@
 export const USAGE = `usage: ./milecopper check|settle|statement|wages|close [FOLDER] [--period 2026-10|open]
                     [--format csv|json] [--out FOLDER] [--member NAME] [--language de|en]
                     [--areas FILE]... [--stops FILE]... [--trips FILE]... [--books FILE]...
-                    [--members FILE] [--strict] [--new-tariff] [--force] [--today 2026-11-03]
+                    [--members FILE] [--ceiling 150,00] [--strict] [--new-tariff] [--force]
+                    [--today 2026-11-03]
        ./milecopper salvage ROLL [--out FOLDER] [--format csv] [--language de|en]
 `;
 
@@ -28,6 +29,8 @@ Tag im Namen. --period open ist der Monat, der offen ist: der erste mit Fahrten 
 --out schreibt Dateien, statt zu drucken. --strict: auch was nur zweifelhaft ist, eine Warnung also, gilt als Fehler.
 --new-tariff: Gebiete haben seit dem Abschließen andere Preise oder Deckel, und das ist so gewollt. --force schließt
 auch einen Monat ab, der in der Zukunft liegt oder frühere offen lässt. --today: ein anderes Datum als das der Uhr.
+--ceiling 150,00: ein Monatsdeckel von 0,00 bis 10000,00 Euro; von keinem Mitglied wird im Monat mehr eingezogen. Monate
+sind dann die der Weltzeit (UTC), auch in den Büchern, und von diesen geht es nur mit einem Monatsdeckel weiter.
 Der Rechenkern wird beim ersten Mal gebaut, was ihn beweist und einige Minuten dauert.
 
 Status 0: alle Fahrten sind berechnet. 1: eine Fahrt wurde abgelehnt. 2: Fehler in Dateien oder Aufruf; dann wird
@@ -54,6 +57,8 @@ is the month that is open: the first with trips behind the last books. --out wri
 --strict: warnings are errors. --new-tariff: areas have other prices or caps since the closing, and that is meant.
 --force closes a month, too, that lies in the future or leaves earlier ones open. --today: another date than the
 clock's.
+--ceiling 150.00: a monthly ceiling of 0.00 to 10000.00 euros; of no member more is collected in a month. Months are
+those of UTC then, in the books, too, from which one goes on under a ceiling only.
 The engine is built the first time, which proves it and takes some minutes.
 
 Status 0: all trips are priced. 1: a trip is refused. 2: mistakes in files or call; nothing is written then. Of salvage:

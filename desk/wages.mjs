@@ -5,23 +5,31 @@ import { isoOf } from './trips.mjs';
 
 /**
  * Rows {member, period, trips, refused, cents} of the entries in the period: trips are those accepted. Where there is a
- * roster, each has the member's `number`, too.
+ * roster, each has the member's `number`, too. Under a ceiling `cents` is what is collected, and `charged` the charges.
  */
-export function wagesOf(members, roster) {
+export function wagesOf(members, roster, ceiling = null) {
+    const charged = ceiling === null ? {} : { charged: 0 };
     return members.flatMap((member) => {
         const number = roster ? { number: roster.get(member.name).number } : {};
         const rows = new Map();
         for (const entry of member.entries.filter(({ inPeriod }) => inPeriod)) {
             const period = entry.month;
-            const empty = { member: member.name, period, trips: 0, refused: 0, cents: 0, ...number };
+            const empty = { member: member.name, period, trips: 0, refused: 0, cents: 0, ...number, ...charged };
             if (!rows.has(period)) rows.set(period, empty);
             const row = rows.get(period);
             if (!entry.accepted) row.refused += 1;
-            else [row.trips, row.cents] = [row.trips + 1, row.cents + entry.cents];
+            else [row.trips, row.cents] = [row.trips + 1, row.cents + paidOf(entry)];
+            if (entry.accepted && ceiling !== null) row.charged += entry.cents;
         }
         return [...rows.values()];
     });
 }
+
+/** What an accepted trip costs the member: under a ceiling what is collected, else its charges. */
+const paidOf = ({ cents, collected = cents }) => collected;
+
+/** The charges of a row; without a ceiling they are what is paid. */
+export const chargedOf = ({ cents, charged = cents }) => charged;
 
 const TRIP = ['member', 'line', 'check_in', 'check_out', 'from', 'to', 'via', 'class', 'level'];
 const RIDE = ['part', 'area', 'km', 'minutes', 'window'];
@@ -29,8 +37,13 @@ const RIDER = ['rider', 'price', 'charge', 'taken_off', 'cap_area', 'cap_class']
 
 const CHARGES = [...TRIP, ...RIDE, ...RIDER, 'refusal'];
 
-/** The columns of a result's charges: where there are several files of trips, the first says which a trip is from. */
-const chargeColumns = ({ tripFiles }) => (tripFiles.length > 1 ? ['file', ...CHARGES] : CHARGES);
+/**
+ * The columns of a result's charges: where there are several files of trips, the first says which a trip is from, and
+ * under a ceiling the last has in a trip's first row what it collects.
+ */
+function chargeColumns({ tripFiles, ceiling = null }) {
+    return [...(tripFiles.length > 1 ? ['file'] : []), ...CHARGES, ...(ceiling === null ? [] : ['collected'])];
+}
 
 /** Rows by column of the entries in the period: one for each charge, and one for each refused trip. */
 export function chargesOf(result) {
@@ -41,12 +54,22 @@ export function chargesOf(result) {
 const rowByColumn = (columns, row) => Object.fromEntries(columns.map((column, i) => [column, row[i]]));
 
 /** The same rows one after another, as values in the columns' order. */
-function* chargeRows({ members, tariff, tripFiles }) {
+function* chargeRows({ members, tariff, tripFiles, ceiling = null }) {
     const fileOf = (entry) => (tripFiles.length > 1 ? [entry.file] : []);
     for (const { entries, openingLocal } of members.flatMap(({ windows }) => windows)) {
         for (const entry of entries.filter(({ inPeriod }) => inPeriod)) {
-            yield* entryRows(fileOf(entry), entry, openingLocal, tariff.editions[entry.edition - 1]);
+            const rows = entryRows(fileOf(entry), entry, openingLocal, tariff.editions[entry.edition - 1]);
+            yield* ceiling === null ? rows : collectedRows(entry, rows);
         }
+    }
+}
+
+/** The rows with what the trip collects behind the first; of a refused one that is nothing, and not 0. */
+function* collectedRows({ collected = null }, rows) {
+    let first = true;
+    for (const row of rows) {
+        yield [...row, first ? collected : null];
+        first = false;
     }
 }
 
@@ -69,10 +92,18 @@ function riderValues({ sort, number, price, charge, off, cap }, areas) {
     return [rider, price, charge, off, cap ? areas[cap.area].name : null, cap ? cap.class : null];
 }
 
-/** Wages come from the trips' sums, and the single charges add up to them, of every member. */
-export function agreeWages(wages, members) {
+/**
+ * Wages come from the trips' sums, and the single charges add up to them, of every member. Under a ceiling each month's
+ * amount is the smaller of the ceiling and the charges.
+ */
+export function agreeWages(wages, members, ceiling = null) {
     const due = new Map(members.map(({ name }) => [name, 0]));
-    for (const { member, cents } of wages) due.set(member, due.get(member) + cents);
+    for (const row of wages) {
+        due.set(row.member, due.get(row.member) + chargedOf(row));
+        const most = Math.min(ceiling ?? Infinity, chargedOf(row));
+        if (row.cents === most) continue;
+        throw new Disagreement(row.member, `wages of ${row.period}: ${row.cents} and ${most} cents`);
+    }
     for (const { name, windows } of members) {
         const charged = windows.reduce((sum, { entries }) => sum + chargedIn(entries), 0);
         const paid = due.get(name);
@@ -89,12 +120,16 @@ function chargedIn(entries) {
 
 const WAGES = ['member', 'period', 'trips', 'refused', 'cents'];
 const TITLES = { cents: 'amount' };
-const AMOUNTS = new Set(['cents', 'price', 'charge', 'taken_off']);
+const AMOUNTS = new Set(['cents', 'charged', 'price', 'charge', 'taken_off', 'collected']);
 
-/** The wages as CSV, with amounts in euros, or as JSON, with amounts in cents. */
-export function wagesText({ wages, roster }, format, language) {
-    const columns = roster ? [...WAGES, 'number'] : WAGES;
-    return tableText(columns, wages.map((row) => columns.map((column) => row[column])), format, language);
+/**
+ * The wages as CSV, with amounts in euros, or as JSON, with amounts in cents. Under a ceiling the months are those of
+ * UTC, and their column says so.
+ */
+export function wagesText({ wages, roster, ceiling = null }, format, language) {
+    const columns = [...WAGES, ...(roster ? ['number'] : []), ...(ceiling === null ? [] : ['charged'])];
+    const names = columns.map((column) => (column === 'period' && ceiling !== null ? 'period_utc' : column));
+    return tableText(names, wages.map((row) => columns.map((column) => row[column])), format, language);
 }
 
 /** The charges likewise. */

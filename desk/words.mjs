@@ -78,6 +78,10 @@ const REFUSALS = {
         de: 'Die Fahrt öffnet ein 24-Stunden-Fenster, bevor der Tarif gilt.',
         en: 'The trip opens a 24-hour window before the tariff is valid.',
     },
+    24: {
+        de: 'Monatsdeckel oder schon eingezogener Betrag sind zu groß, oder was davon aufgehoben ist, ist beschädigt.',
+        en: 'The monthly ceiling or the amount collected already is too large, or what is kept of it is damaged.',
+    },
 };
 
 export function refusalText(number, language) {
@@ -230,6 +234,10 @@ export const STATEMENT = {
         refused: (reason, place) => `Abgelehnt: ${reason} (${place})`,
         place: (line, file) => `Zeile ${line} ${file === null ? 'der Fahrten' : `von ${file}`}`,
         sum: (month) => (month ? `Summe im ${month}` : 'Summe'),
+        charged: (month) => `Berechnet im ${month} (UTC)`,
+        ceiling: 'Monatsdeckel',
+        collected: 'Eingezogen',
+        utc: 'Monate sind hier die der Weltzeit (UTC): eine Fahrt zählt zu dem Monat, in dem dort ihr Check-in liegt.',
         caps: 'Wie voll die Deckel am Ende sind',
         of: (sum, cap) => `${sum} von ${cap}`,
         full: 'voll',
@@ -263,6 +271,10 @@ export const STATEMENT = {
         refused: (reason, place) => `Refused: ${reason} (${place})`,
         place: (line, file) => `line ${line} of ${file === null ? 'the trips' : file}`,
         sum: (month) => (month ? `Sum in ${month}` : 'Sum'),
+        charged: (month) => `Charged in ${month} (UTC)`,
+        ceiling: 'Monthly ceiling',
+        collected: 'Collected',
+        utc: 'Months are those of UTC here: a trip counts in the month of its check-in there.',
         caps: 'How full the caps are at the end',
         of: (sum, cap) => `${sum} of ${cap}`,
         full: 'full',

@@ -88,6 +88,7 @@ fn plant(package: &Path, out: &Path) {
         add: |page, association, member| {},
         close: |page, association, member| {},
         settle_member: |tariff, page, association, member, trip, statement| {},
+        settle_month: |ceiling, kept, tariff, book, trip, statement, due| {},
     }}),\n",
             told("check_tariff(tariff)"),
             told("settle(tariff, book, trip, statement)"),
@@ -97,6 +98,7 @@ fn plant(package: &Path, out: &Path) {
             told("add(page, association, member)"),
             told("close(page, association, member)"),
             told("settle_member(tariff, page, association, member, trip, statement)"),
+            told("settle_month(ceiling, kept, tariff, book, trip, statement, due)"),
         );
     }
     let many = edits::PLANTED.len();

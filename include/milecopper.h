@@ -4,7 +4,8 @@
  * milecopper_quote writes the charge records and leaves the book, milecopper_post writes the book. milecopper_read reads charge
  * records that were kept, of this kind and of the kind before it, wherever they come from. An app with several members may keep
  * twelve of their books on one page, six for each of two associations: milecopper_add, milecopper_close and
- * milecopper_settle_member.
+ * milecopper_settle_member. Where a member pays no more than a ceiling in a month, milecopper_settle_month settles and tells what
+ * is still due.
  *
  * For C99 and later and C++11 and later. `host/install PREFIX` in the source's folder builds and installs this file, a
  * static and a shared library and a file for pkg-config below the folder PREFIX. Then:
@@ -57,6 +58,16 @@
  *                                       trip, trip_len, statement, sizeof statement);
  *     answer = milecopper_close(page, sizeof page, 0, 4711); // the book is gone, and the place is free again
  *
+ * Under a ceiling of 150 euro in each calendar month:
+ *
+ *     static uint8_t collected[MILECOPPER_KEPT_BYTES];       // all zero: nothing was collected yet; one beside each book
+ *     uint8_t due[MILECOPPER_DUE_BYTES];
+ *     answer = milecopper_settle_month(15000, collected, sizeof collected, tariff, tariff_len, book, sizeof book,
+ *                                      trip, trip_len, statement, sizeof statement, due, sizeof due);
+ *     if (milecopper_accepted(answer))
+ *         printf("%lu of %lu cents\n", (unsigned long)milecopper_number(due, MILECOPPER_DUE_BYTES),
+ *                (unsigned long)milecopper_statement_total(statement, answer));
+ *
  * A tariff is a file of one or two editions, each a date and then its areas, factor records and stops, with numbers of its own. An
  * edition is valid from the first minute of its date in UTC. The one in force when a 24-hour window opens settles the whole window:
  * the book keeps its number, 1 or 2, and decides while the window is open, whatever the dates say.
@@ -73,20 +84,24 @@
  * Duties of the caller
  *
  *   - Each pointer points to at least as many bytes as the length beside it says. `tariff` and `trip` are only read, and
- *     so are a quote's `book`, a posting's `record` and a reading's `statement`. Else `book`, `page`, `statement` and `fields` may
- *     be written within their lengths, and only there.
+ *     so are a quote's `book`, a posting's `record` and a reading's `statement`. Else `book`, `page`, `statement`, `fields`, `kept`
+ *     and `due` may be written within their lengths, and only there.
  *   - The slices of a call do not overlap, not even in part.
  *   - A pointer beside a length of 0 is not looked at. It may be null, as that of an empty std::vector is.
  *   - A tariff has at most MILECOPPER_LARGEST_TARIFF_BYTES bytes, a trip MILECOPPER_LARGEST_TRIP_BYTES, a book exactly
  *     MILECOPPER_BOOK_BYTES and a page MILECOPPER_PAGE_BYTES; others may be offered, and are refused. A statement of
  *     MILECOPPER_LARGEST_STATEMENT_BYTES has room for every trip, and fields of MILECOPPER_LARGEST_FIELDS_BYTES for every
- *     record. Any length that a size_t holds may be given, any offset, and any number of an association or of a member.
+ *     record. What is kept under a ceiling has exactly MILECOPPER_KEPT_BYTES, and MILECOPPER_DUE_BYTES have room for what is due. Any
+ *     length that a size_t holds may be given, any offset, any ceiling, and any number of an association or of a member.
  *   - A fresh book is MILECOPPER_BOOK_BYTES bytes, all zero. From then on only this library writes into it. Each
  *     account has a book of its own, and the caller keeps it from one trip to the next. An account's trips are
  *     settled or posted in the order in which they were ridden.
  *   - A new page is MILECOPPER_PAGE_BYTES bytes, all zero, and from then on only this library writes into it. Each association
  *     gives its members numbers, 1 to MILECOPPER_LARGEST_MEMBER, whatever the other's are, and keeps one while that member has an
  *     account on the page. Who is closed loses the book with its open window: a member who is added again begins with a fresh one.
+ *   - What is kept under a ceiling belongs to its book: fresh it is MILECOPPER_KEPT_BYTES bytes, all zero, and from then on only this
+ *     library writes into it. The caller keeps both from one trip to the next, and settles all trips of the book that count with
+ *     milecopper_settle_month.
  *   - During a call no other thread writes any of its slices, and none reads its book or its statement, unless the call
  *     only reads them. Calls on different books may run at the same time, on any threads, and so may quotes on one book and
  *     readings of one statement. They may share one tariff. A page is one slice, so calls on one page do not run at the same
@@ -99,6 +114,7 @@
  *   - Where milecopper_add is called, at least 256 bytes of stack are free.
  *   - Where milecopper_close is called, at least 256 bytes of stack are free.
  *   - Where milecopper_settle_member is called, at least 1,280 bytes of stack are free.
+ *   - Where milecopper_settle_month is called, at least 1,536 bytes of stack are free.
  *
  * What the library does not do
  *
@@ -110,7 +126,8 @@
  *     not in a quote, and writes its charge records one after another at the start of the statement, but not in a
  *     posting; the statement's further bytes stay as they were. The parts of a broken trip are accepted together or
  *     refused together. A record that is refused changes no byte of the fields; of one that is read the fields stand at their
- *     start, and the further bytes stay as they were.
+ *     start, and the further bytes stay as they were. Under a ceiling a refusal changes no byte of what is kept and of what is due
+ *     either; an accepted trip writes all of the first, and the first MILECOPPER_DUE_BYTES bytes of the second.
  *   - A call on a page that is refused changes no byte of the page. One that is accepted changes the bytes of that member's place
  *     alone: all of them in adding and closing, its book in settling. What stands in other places, in free ones too, stays as it is.
  *   - It tells an association nothing of the other. For the same call, pages that agree in the association's own places give the
@@ -119,7 +136,8 @@
  *   - It does not find every damage. A book is refused (4) where its words cannot stand together; one with another sum in
  *     it mostly can. A charge record is refused (16) where a number is none that settling writes; one with another charge in
  *     it mostly has none such. A page is refused (18) by its length and the numbers in the association's places; of its books only
- *     the one that is settled on is looked at. Keep a checksum of your own beside a book, a page or a statement that is stored or sent.
+ *     the one that is settled on is looked at. What is kept under a ceiling is refused (24) by its length and by an amount above the
+ *     most; any month may stand in it. Keep a checksum of your own beside a book, a page or a statement that is stored or sent.
  *
  * Another tariff
  *
@@ -152,7 +170,8 @@
  *
  *   After a power cut ACCOUNT is the old file or the new one. Where its number is below that of the first trip on the
  *   list, begin at 1: from the same bytes come the same bytes. Where it is that number, go on at 4. Where members share a page,
- *   the page is kept so in the place of the book, with one list of trips; adding and closing are entries of that list.
+ *   the page is kept so in the place of the book, with one list of trips; adding and closing are entries of that list. Under a
+ *   ceiling what is kept goes into the same file, and what is due is told at 4.
  */
 #ifndef MILECOPPER_H
 #define MILECOPPER_H
@@ -163,7 +182,7 @@
 /* The version. The number stands here alone: the library's file names, its pkg-config file, its constant
  * milecopper_version and what the scripts say all come from these lines. */
 #define MILECOPPER_VERSION_MAJOR 0
-#define MILECOPPER_VERSION_MINOR 16
+#define MILECOPPER_VERSION_MINOR 17
 #define MILECOPPER_VERSION_PATCH 0
 #define MILECOPPER_VERSION_AS_TEXT(major, minor, patch) #major "." #minor "." #patch
 #define MILECOPPER_VERSION_AS_WRITTEN(major, minor, patch) MILECOPPER_VERSION_AS_TEXT(major, minor, patch)
@@ -192,6 +211,14 @@
 #define MILECOPPER_PLACE_BOOK_AT 4
 #define MILECOPPER_FREE_PLACE 0
 #define MILECOPPER_LARGEST_MEMBER 999999999
+
+/* A monthly ceiling, at most so many cents. What is kept beside a book for it: the month 4 bytes, in months since January 2000, and
+ * the amount collected in it 4, at most as many cents. What is due: 4 bytes. */
+#define MILECOPPER_LARGEST_CEILING 1000000
+#define MILECOPPER_KEPT_BYTES 8
+#define MILECOPPER_KEPT_MONTH_AT 0
+#define MILECOPPER_KEPT_AMOUNT_AT 4
+#define MILECOPPER_DUE_BYTES 4
 
 /* Charge records: the smallest has one person, the largest MILECOPPER_MOST_PERSONS and MILECOPPER_MOST_BICYCLES. Each of
  * them has a charge. */
@@ -375,9 +402,12 @@
 
 /* Why a trip, a record or a page was refused. Where several apply, the answer is the first of them in this order. Settling and a
  * quote give 1 to 12, 17 and 22, a posting 1 to 11, 17, 22 and 13, a reading 14 to 16 and then 12; adding gives 21 and 18 to 20, closing
- * 21, 18 and 19, and settling a member 1 to 3, 21, 18, 19, and then what settling gives. */
+ * 21, 18 and 19, and settling a member 1 to 3, 21, 18, 19, and then what settling gives. Settling under a ceiling gives 24, and then
+ * what settling gives. */
 enum milecopper_refusal {
     MILECOPPER_NOT_REFUSED = 0,
+    MILECOPPER_WRONG_CEILING = 24,    /* ceiling: it or the amount that is kept is above 1,000,000; or what is kept has
+                                       * another length */
     MILECOPPER_TARIFF_BROKEN = 1,     /* tariff: a record's frame is broken */
     MILECOPPER_TARIFF_MISSHAPEN = 2,  /* tariff: kind, length, order or number of records wrong, or one is missing */
     MILECOPPER_TARIFF_VALUE = 3,      /* tariff: a value outside its range, or an edition not after the one before */
@@ -397,7 +427,8 @@ enum milecopper_refusal {
     MILECOPPER_NO_EDITION = 22,       /* trip: it opens a window before the tariff's first edition is valid */
     MILECOPPER_UNKNOWN_STOP = 7,      /* trip: a stop number that its edition of the tariff lacks */
     MILECOPPER_WINDOW_FULL = 11,      /* trip: it, or its second part, would be the 257th of its window */
-    MILECOPPER_NO_ROOM = 12,          /* statement shorter than the charge records, or fields shorter than what is told */
+    MILECOPPER_NO_ROOM = 12,          /* statement shorter than the charge records, fields shorter than what is told, or under
+                                       * a ceiling fewer than 4 bytes for what is due */
     MILECOPPER_OTHER_RECORD = 13,     /* record: not exactly the bytes that a quote would write now */
     MILECOPPER_RECORD_BROKEN = 14,    /* charge record: its frame is broken, or no byte is left */
     MILECOPPER_RECORD_MISSHAPEN = 15, /* charge record: another kind, or a length that fits no party */
@@ -514,6 +545,34 @@ uint64_t milecopper_settle_member(const uint8_t *tariff, size_t tariff_len,
                                   const uint8_t *trip, size_t trip_len,
                                   uint8_t *statement, size_t statement_len);
 
+/*
+ * Settles one trip under a monthly ceiling, in cents. Answer, charge records and book are milecopper_settle's: a ceiling cuts no charge
+ * and no record, and the caps of a window count what is charged. What is cut is what is collected: `due` is the sum of all charges of
+ * the trip, of both records, with carried persons and bicycles, as far as the ceiling leaves room for it over the amount that was
+ * collected in the month before; 0 where the ceiling is reached, or passed since it was lowered.
+ *
+ * The month is that of the check-in, also of a broken trip, and months are those of UTC: a trip that is checked in on the first of a
+ * month at 00:30 winter time belongs to the month before. `kept` is MILECOPPER_KEPT_BYTES bytes, all zero at first: a month, in months
+ * since January 2000, and the amount collected in it (milecopper_kept_month, milecopper_kept_amount). Where the trip's month is not the
+ * one that is kept, be it an earlier one, the month's amount starts at 0. Afterwards `kept` is the trip's month and its amount with
+ * what is due, also where nothing is due.
+ *
+ * Accepted: the number of bytes written to the statement, as by milecopper_settle; what is due stands in the first MILECOPPER_DUE_BYTES
+ * bytes of `due` (milecopper_number), and further ones stay as they were. Refused: first by 24, MILECOPPER_WRONG_CEILING, where the ceiling
+ * or the amount in `kept` is above MILECOPPER_LARGEST_CEILING or `kept` has not MILECOPPER_KEPT_BYTES bytes; then as by milecopper_settle,
+ * in the same order, and by 12 also where `due` has fewer than MILECOPPER_DUE_BYTES bytes. A refusal changes no byte of `kept`, book,
+ * statement and `due`.
+ *
+ * There is no quote, no posting and no page under a ceiling. What would be due is told by a call on copies of book and `kept`. A
+ * member's book on a page is lent where it stands (milecopper_book_in), with what is kept for that member.
+ */
+uint64_t milecopper_settle_month(uint32_t ceiling, uint8_t *kept, size_t kept_len,
+                                 const uint8_t *tariff, size_t tariff_len,
+                                 uint8_t *book, size_t book_len,
+                                 const uint8_t *trip, size_t trip_len,
+                                 uint8_t *statement, size_t statement_len,
+                                 uint8_t *due, size_t due_len);
+
 #ifdef __cplusplus
 }
 #define MILECOPPER_AS(type, value) static_cast<type>(value)
@@ -523,8 +582,8 @@ uint64_t milecopper_settle_member(const uint8_t *tariff, size_t tariff_len,
 
 /* ---- The answer ----
  *
- * `answer` is one that milecopper_settle, milecopper_quote, milecopper_post, milecopper_read, milecopper_add, milecopper_close or
- * milecopper_settle_member gave.
+ * `answer` is one that milecopper_settle, milecopper_quote, milecopper_post, milecopper_read, milecopper_add, milecopper_close,
+ * milecopper_settle_member or milecopper_settle_month gave.
  */
 
 /* 1 if the trip was accepted, the record read, or the member added or closed, else 0. */
@@ -546,7 +605,7 @@ static inline size_t milecopper_record_read(uint64_t answer)
     return milecopper_bytes_written(answer);
 }
 
-/* Why the trip, the record or the page was refused; MILECOPPER_NOT_REFUSED if it was accepted. */
+/* Why the trip, the record, the page or the ceiling was refused; MILECOPPER_NOT_REFUSED if it was accepted. */
 static inline enum milecopper_refusal milecopper_refusal_of(uint64_t answer)
 {
     return MILECOPPER_AS(enum milecopper_refusal, answer >> 32);
@@ -567,6 +626,8 @@ static inline const char *milecopper_refusal_text(enum milecopper_refusal refusa
     switch (refusal) {
     case MILECOPPER_NOT_REFUSED:
         return "The trip was accepted.";
+    case MILECOPPER_WRONG_CEILING:
+        return "The monthly ceiling is above 10,000 euro, or what was kept of the amount collected in the month is damaged.";
     case MILECOPPER_TARIFF_BROKEN:
         return "The price file is damaged: one of its records is cut short or has an impossible length.";
     case MILECOPPER_TARIFF_MISSHAPEN:
@@ -646,6 +707,20 @@ static inline void milecopper_put_number(uint8_t *bytes, size_t width, uint32_t 
 static inline uint32_t milecopper_book_edition(const uint8_t *book)
 {
     return milecopper_number(book + MILECOPPER_BOOK_EDITION_AT, 4);
+}
+
+/* ---- The monthly ceiling ---- */
+
+/* The month that is kept, in months since January 2000: of 2026 those are 312 to 323. */
+static inline uint32_t milecopper_kept_month(const uint8_t *kept)
+{
+    return milecopper_number(kept + MILECOPPER_KEPT_MONTH_AT, 4);
+}
+
+/* What was collected in it, in cents. */
+static inline uint32_t milecopper_kept_amount(const uint8_t *kept)
+{
+    return milecopper_number(kept + MILECOPPER_KEPT_AMOUNT_AT, 4);
 }
 
 /* ---- The page ----

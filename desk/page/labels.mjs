@@ -20,6 +20,10 @@ export const LABELS = {
             members: 'nicht nötig; mit members.csv stehen Personalnummern in der Lohnliste',
             books: 'keine; sie sind nötig, wenn die Fahrten nicht von Anfang an da sind',
         },
+        ceiling: 'Monatsdeckel',
+        ceilingHint:
+            'Leer: keiner. Sonst wird je Mitglied im Monat höchstens so viel eingezogen; Monate sind dann die der ' +
+            'Weltzeit (UTC).',
         lines: (number) => many(number, 'Zeile', 'Zeilen'),
         remove: (name) => `${name} entfernen`,
         replaced: (name) => `${name} war schon da und wurde ersetzt.`,
@@ -66,8 +70,11 @@ export const LABELS = {
         wages: 'Beträge der Mitglieder',
         wageColumns: {
             ...{ member: 'Mitglied', period: 'Monat', trips: 'Fahrten', refused: 'Abgelehnt' },
-            ...{ bars: 'Fenster im Monat', off: 'Abgezogen', amount: 'Betrag' },
+            ...{ bars: 'Fenster im Monat', off: 'Abgezogen', amount: 'Betrag', charged: 'Berechnet' },
         },
+        periodUtc: 'Monat (UTC)',
+        collected: (ceiling) =>
+            `Betrag ist, was eingezogen wird: im Monat höchstens ${ceiling}. Monate sind die der Weltzeit (UTC).`,
         barsTitle: (charged, off) => `Fenster: ${charged} berechnet ${off} abgezogen`,
         total: 'Zusammen',
         office: 'Für das Lohnbüro',
@@ -116,6 +123,9 @@ export const LABELS = {
             members: 'not needed; with members.csv the wages have personnel numbers',
             books: 'none; needed where the trips are not there from the start',
         },
+        ceiling: 'Monthly ceiling',
+        ceilingHint:
+            'Empty: none. Else no more than this is collected of a member in a month, and months are those of UTC.',
         lines: (number) => many(number, 'line', 'lines'),
         remove: (name) => `Remove ${name}`,
         replaced: (name) => `${name} was there already and was replaced.`,
@@ -159,8 +169,11 @@ export const LABELS = {
         wages: 'The members’ amounts',
         wageColumns: {
             ...{ member: 'Member', period: 'Month', trips: 'Trips', refused: 'Refused' },
-            ...{ bars: 'Windows of the month', off: 'Taken off', amount: 'Amount' },
+            ...{ bars: 'Windows of the month', off: 'Taken off', amount: 'Amount', charged: 'Charged' },
         },
+        periodUtc: 'Month (UTC)',
+        collected: (ceiling) =>
+            `The amount is what is collected: ${ceiling} a month at the most. Months are those of UTC.`,
         barsTitle: (charged, off) => `Windows: ${charged} charged ${off} taken off`,
         total: 'Total',
         office: 'For the wage office',

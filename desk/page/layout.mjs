@@ -1,6 +1,7 @@
 // The page's lists and tables as HTML, from its state.
 import { escaped } from '../html.mjs';
 import { monthPicture, sampleBar } from '../picture.mjs';
+import { chargedOf } from '../wages.mjs';
 import { moneyText, monthText } from '../words.mjs';
 import { SORTS, linesOf } from './files.mjs';
 import { LABELS } from './labels.mjs';
@@ -86,12 +87,20 @@ export function monthsHtml({ language, result: { months, period } }) {
     return [...own, option('', allMonths)].join('');
 }
 
+/** The columns of the wages' table by name; without a ceiling nothing says what was charged besides. */
+function wageColumnsOf({ period, ceiling }, language) {
+    const { wageColumns, periodUtc } = LABELS[language];
+    const shown = { period: period === null, charged: ceiling !== null };
+    const words = ceiling === null ? wageColumns : { ...wageColumns, period: periodUtc };
+    return Object.entries(words).filter(([name]) => shown[name] ?? true);
+}
+
 /** The wages' table, with the month at a glance; a member's name is the button that shows the statement. */
-export function wagesHtml({ wages, period }, glance, language) {
+export function wagesHtml({ wages, period, ceiling }, glance, language) {
     if (wages.length === 0) return '';
-    const { wages: caption, wageColumns, total, barsTitle } = LABELS[language];
+    const { wages: caption, total, barsTitle, collected } = LABELS[language];
     const highest = Math.max(1, ...glance.flatMap(({ bars }) => bars.map(({ charged, off }) => charged + off)));
-    const columns = Object.entries(wageColumns).filter(([name]) => name !== 'period' || period === null);
+    const columns = wageColumnsOf({ period, ceiling }, language);
     const head = columns.map(([name, word]) => {
         const text = name === 'bars' ? barsTitle(sampleBar('priced'), sampleBar('cut')) : escaped(word);
         return `<th scope="col" class="${name}">${text}</th>`;
@@ -99,7 +108,9 @@ export function wagesHtml({ wages, period }, glance, language) {
     const rows = wages.map((row, i) => rowHtml(columns, cellsOf(row, glance[i], highest, language)));
     const sums = { ...sumsOf(wages, glance, language), member: escaped(total) };
     return `<table class="wages"><caption>${escaped(caption)}</caption><thead><tr>${head.join('')}</tr></thead>
-<tbody>${rows.join('')}</tbody><tfoot>${rowHtml(columns, sums)}</tfoot></table>`;
+<tbody>${rows.join('')}</tbody><tfoot>${rowHtml(columns, sums)}</tfoot></table>${
+        ceiling === null ? '' : `<p><small>${escaped(collected(moneyText(ceiling, language)))}</small></p>`
+    }`;
 }
 
 /** A row's cells by column, as HTML. */
@@ -107,7 +118,7 @@ function cellsOf({ member, period, number, ...numbers }, glance, highest, langua
     const name = escaped(member);
     const told = number === undefined ? '' : ` <small>${escaped(number)}</small>`;
     return {
-        ...numberCells({ ...numbers, off: glance.off }, language),
+        ...numberCells({ ...numbers, charged: chargedOf(numbers), off: glance.off }, language),
         member: `<button type="button" data-member="${name}">${name}</button>${told}`,
         period: escaped(monthText(period, language)),
         bars: monthPicture(glance, highest),
@@ -117,15 +128,18 @@ function cellsOf({ member, period, number, ...numbers }, glance, highest, langua
 function sumsOf(wages, glance, language) {
     const sum = (rows, key) => rows.reduce((all, row) => all + row[key], 0);
     const [trips, refused, cents] = ['trips', 'refused', 'cents'].map((key) => sum(wages, key));
-    return { ...numberCells({ trips, refused, cents, off: sum(glance, 'off') }, language), period: '', bars: '' };
+    const charged = wages.reduce((all, row) => all + chargedOf(row), 0);
+    const cells = numberCells({ trips, refused, cents, charged, off: sum(glance, 'off') }, language);
+    return { ...cells, period: '', bars: '' };
 }
 
-function numberCells({ trips, refused, off, cents }, language) {
+function numberCells({ trips, refused, off, cents, charged }, language) {
     return {
         trips: String(trips),
         refused: refused === 0 ? '–' : String(refused),
         off: off === 0 ? '–' : escaped(`−${moneyText(off, language)}`),
         amount: escaped(moneyText(cents, language)),
+        charged: escaped(moneyText(charged, language)),
     };
 }
 

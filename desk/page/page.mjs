@@ -1,7 +1,10 @@
 // The page: files in by choosing or dropping, the desk's work on them, and its outcome laid out, saved and printed.
 // Everything is in `state`, and nothing is kept anywhere else.
+import { ceilingOf, monthZoneOf, noCeiling } from '../ceiling.mjs';
 import { todayIn } from '../clock.mjs';
 import { isWorkbook } from '../encoding.mjs';
+import { euros } from '../fields.mjs';
+import { mistakeText } from '../mistakes.mjs';
 import { monthText } from '../words.mjs';
 import { preparedFile } from '../workbook.mjs';
 import { clerkWith, serve } from './clerk.mjs';
@@ -10,7 +13,7 @@ import { LABELS } from './labels.mjs';
 import { columnsHtml, doubtsHtml, mistakesCount, mistakesHtml, monthsHtml, slotsHtml } from './layout.mjs';
 
 const NOTHING = {
-    ...{ files: [], notices: [], newTariff: false },
+    ...{ files: [], notices: [], newTariff: false, ceiling: null }, // the ceiling as she wrote it, or null: not yet
     ...{ chosen: undefined, result: null, member: null }, // the month that she chose, what came of it, who is shown
 };
 const state = { language: 'de', turn: 0, ...NOTHING, letter: {} }; // `letter`: who the statements are from, and when
@@ -78,6 +81,7 @@ async function trySample() {
 
 function forget() {
     Object.assign(state, NOTHING);
+    element('ceiling').value = '';
     write({ name: '', contact: '', date: today() });
 }
 
@@ -90,18 +94,39 @@ async function work() {
     const turn = (state.turn += 1);
     state.result = null;
     show();
+    const ceiling = ceilingWritten();
+    if (ceiling === undefined) return tellCeiling();
     if (!DUE.every((sort) => state.files.some((file) => file.sort === sort))) return;
     tell(labels().working);
     showProgress({});
     const { chosen, language, newTariff } = state;
     await clerk.ask('files', deskFiles(state.files));
-    const values = { chosen, language, newTariff, today: today() };
+    const values = { chosen, language, newTariff, ceiling, today: todayIn(monthZoneOf(ceiling)) };
     const result = await clerk.ask('run', values, (told) => turn === state.turn && showProgress(told));
     if (turn !== state.turn) return;
+    if (state.ceiling === null && result.booksCeiling !== null) return rememberCeiling(result.booksCeiling);
     state.result = result;
     rememberSender(result.association);
     show();
     await showStatement();
+}
+
+/** The ceiling that she wrote, in cents: null for none, and undefined for what is no amount. */
+function ceilingWritten() {
+    const text = state.ceiling?.trim() ?? '';
+    return text === '' ? null : (ceilingOf(text) ?? undefined);
+}
+
+/** Without a right ceiling nothing is priced. */
+function tellCeiling() {
+    tell(mistakeText(noCeiling(labels().ceiling, state.ceiling.trim()), state.language));
+}
+
+/** The ceiling that the books were kept under, as long as she has written none. */
+function rememberCeiling(cents) {
+    state.ceiling = state.language === 'de' ? euros(cents).replace('.', ',') : euros(cents);
+    element('ceiling').value = state.ceiling;
+    return work();
 }
 
 /** The sender that the books name, unless she has written one. */
@@ -141,6 +166,7 @@ function show() {
     element('slots').innerHTML = slotsHtml(state);
     element('columns').innerHTML = columnsHtml(state);
     element('forget').hidden = state.files.length === 0;
+    element('ceiling').setAttribute('aria-invalid', String(ceilingWritten() === undefined));
     document.body.classList.toggle('have', DUE.every((sort) => state.files.some((file) => file.sort === sort)));
     showResult();
 }
@@ -279,6 +305,7 @@ function listen() {
     on('choose-folder', 'change', ({ target }) => takeFrom(target, ofFolder(target.files)));
     on('sample', 'click', trySample);
     on('forget', 'click', () => (forget(), work(), element('choose-files').focus()));
+    on('ceiling', 'change', ({ target }) => ((state.ceiling = target.value), work()));
     on('period', 'change', ({ target }) => ((state.chosen = target.value || null), work()));
     on('new-tariff', 'click', () => ((state.newTariff = true), work()));
     on('force', 'change', showClosing);

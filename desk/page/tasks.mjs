@@ -37,9 +37,9 @@ function outcomeOf(engine, files, { chosen = OPEN, ...options }, progress) {
 
 /** What the page shows of a result. The table of the wages is made here, too, since it can be long. */
 function summaryOf(result) {
-    const { errors, warnings, months, period, closing, wages, refused, language, association } = result;
+    const { errors, warnings, months, period, closing, wages, refused, language, association, booksCeiling } = result;
     return {
-        ...{ errors, warnings, months, period, closing, refused, association },
+        ...{ errors, warnings, months, period, closing, refused, association, booksCeiling },
         trips: wages.reduce((sum, row) => sum + row.trips, 0),
         mistakes: result.mistakes.map(({ file, line, kind, key, text }) => ({ file, line, kind, key, text })),
         members: membersOf(result).map(({ name }) => name),

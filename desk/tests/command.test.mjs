@@ -4,7 +4,10 @@ import fs from 'node:fs';
 import os from 'node:os';
 import path from 'node:path';
 import { after, test } from 'node:test';
-import { ROOT, SAMPLE, TRIPS, sample } from './support.mjs';
+import { booksText } from '../books.mjs';
+import { statementText } from '../statement.mjs';
+import { chargesText, wagesText } from '../wages.mjs';
+import { ROOT, SAMPLE, TRIPS, run, sample } from './support.mjs';
 
 const room = fs.mkdtempSync(path.join(os.tmpdir(), 'desk-'));
 after(() => fs.rmSync(room, { recursive: true }));
@@ -196,6 +199,40 @@ test('two books of one month in a folder are an error that names both, and one t
     assert.equal(called('wages', place, '--period', '2026-11', '--books', books, '--books', books).status, 2);
     const closed = called('wages', place, '--period', '2026-10', '--language', 'en', '--books', books);
     assert.match(closed.told, /the books are closed to 2026-10 already, and 2026-10 is asked for/);
+});
+
+test('--ceiling: wages, charges, statement and books are those of the core', () => {
+    const trips = NIGHT + NIGHT.replace(TRIPS, '').replaceAll('Anna', 'Cem');
+    const place = folder('ceiling', trips);
+    const result = run(trips, { period: '2026-10', ceiling: 1000 });
+    const words = ['--period', '2026-10', '--ceiling', '10,00', '--language', 'en'];
+    const out = (word, ...more) => called(word, place, ...words, ...more).out;
+    assert.equal(out('wages'), wagesText(result, 'csv', 'en'));
+    assert.equal(out('settle'), chargesText(result, 'csv', 'en'));
+    assert.equal(out('wages', '--member', 'Cem').split('\n')[1], 'Cem,2026-10,1,0,10.00,18.41');
+    assert.match(out('settle', '--member', 'Cem').split('\n')[0], /,collected$/);
+    assert.equal(out('statement', '--member', 'Anna'), statementText(result.members[0], result, 'en'));
+    assert.equal(called('close', place, ...words, '--today', '2026-11-03').status, 0);
+    const books = fs.readFileSync(path.join(place, 'books-2026-10.json'), 'utf8');
+    assert.equal(books, booksText(result));
+    const next = called('wages', place, '--period', 'open', '--ceiling=5', '--language', 'en');
+    assert.deepEqual([next.status, next.out.split('\n')[1]], [0, 'Anna,2026-11,1,0,5.00,6.59']);
+    const without = called('wages', place, '--period', 'open', '--language', 'en');
+    assert.deepEqual([without.status, without.out], [2, '']);
+    assert.match(without.told, /^books-2026-10\.json:1: these books were written under a monthly ceiling/m);
+});
+
+test('--ceiling with what is no such amount is told in words, and nothing is put out', () => {
+    for (const value of ['abc', '10000,01', '-5,00', '', '150,001']) {
+        const de = called('wages', SAMPLE, '--ceiling', value);
+        assert.deepEqual([de.status, de.out], [2, ''], value);
+        const due = `./milecopper: --ceiling '${value}': kein Betrag in Euro von 0,00 bis 10000,00\nusage: `;
+        assert.equal(de.told.slice(0, due.length), due);
+    }
+    const en = called('check', SAMPLE, '--ceiling=1.000,00', '--language', 'en');
+    assert.match(en.told, /^\.\/milecopper: --ceiling '1\.000,00': not an amount in euros from 0\.00 to 10000\.00\n/);
+    assert.match(called('--help').out, /--ceiling 150,00: ein Monatsdeckel[^]*Weltzeit \(UTC\)/);
+    assert.match(called('--help', '--language', 'en').out, /--ceiling 150\.00: a monthly ceiling[^]*those of UTC/);
 });
 
 test("README's commands run as they stand, and print the table that it shows", () => {

@@ -22,13 +22,14 @@ function damaged(bytes, below) {
 }
 
 /** Runs the desk on files of which one after another is damaged, and answers how many runs found an error. */
-function errorsAmong(good, times) {
+function errorsAmong(good, times, options = {}) {
     const below = numbers(7);
     let wrong = 0;
     for (let i = 0; i < times; i += 1) {
         const files = good.map((file, at) => (at === i % good.length ? damagedFile(file, below) : file));
         const of = (sort) => files.filter((file) => file.sort === sort);
-        const result = run(of('trips'), { areas: of('areas'), stops: of('stops'), books: of('books')[0] });
+        const tariff = { areas: of('areas'), stops: of('stops') };
+        const result = run(of('trips'), { ...tariff, books: of('books')[0], ...options });
         for (const { file, line, text: words } of result.mistakes) {
             assert.ok(file.length > 0 && Number.isInteger(line) && line >= 1, file);
             assert.ok(words.length > 0 && !words.includes('undefined'), words);
@@ -42,12 +43,21 @@ function errorsAmong(good, times) {
 
 const damagedFile = (file, below) => ({ ...file, bytes: damaged(file.bytes, below) });
 
+const TABLES = ['areas', 'stops', 'trips'].map((sort) => ({ sort, name: `${sort}.csv`, bytes: text(`${sort}.csv`) }));
+
+const booksOf = (options) => {
+    const bytes = new TextEncoder().encode(booksText(run(sample('trips.csv'), { period: '2026-10', ...options })));
+    return { sort: 'books', name: 'books.json', bytes };
+};
+
 test('damaged files', () => {
-    const table = (sort) => ({ sort, name: `${sort}.csv`, bytes: text(`${sort}.csv`) });
-    const tables = ['areas', 'stops', 'trips'].map(table);
-    const books = new TextEncoder().encode(booksText(run(sample('trips.csv'), { period: '2026-10' })));
-    const wrong = errorsAmong([...tables, { sort: 'books', name: 'books.json', bytes: books }], 400);
+    const wrong = errorsAmong([...TABLES, booksOf({})], 400);
     assert.ok(wrong > 200, `${wrong}`);
+});
+
+test('damaged files under a monthly ceiling', () => {
+    const wrong = errorsAmong([...TABLES, booksOf({ ceiling: 3000 })], 240, { ceiling: 3000 });
+    assert.ok(wrong > 120, `${wrong}`);
 });
 
 test('damaged files of two editions', () => {

@@ -247,6 +247,64 @@ test('what is lent stays, and what is given back belongs to the caller', () => {
     assert.deepEqual({ statement: first.statement, book: first.book }, kept);
 });
 
+// ---- Under a monthly ceiling
+
+const fresh = () => new Uint8Array(binding.KEPT_BYTES);
+const pair = (month, cents) => Uint8Array.from(new Uint8Array(Uint32Array.of(month, cents).buffer));
+const monthly = (ceiling, kept, trip) => engine.settleMonth(ceiling, kept, tariff, freshBook(), trip);
+
+test('under a monthly ceiling a trip collects what the month has left, and statement and book are uncut', () => {
+    const trip = tripOf({}); // of October 2026, month 321
+    const { statement, book } = engine.settle(tariff, freshBook(), trip);
+    const cents = engine.read(statement, 0).fields.charges.reduce((sum, charge) => sum + charge.cents, 0);
+    assert.ok(cents > 2);
+    const cases = [
+        ...[[1000000, fresh(), cents, cents], [0, fresh(), 0, 0], [cents - 1, fresh(), cents - 1, cents - 1]],
+        ...[[cents + 1, pair(321, 2), cents - 1, cents + 1], [5, pair(321, 7), 0, 7]], // what is left; one that is passed
+        ...[[1000000, pair(320, 999999), cents, cents], [1, pair(322, 1), 1, 1]], // other months, an earlier one too
+    ];
+    for (const [ceiling, kept, due, amount] of cases) {
+        const lent = kept.slice();
+        const answer = monthly(ceiling, kept, trip);
+        assert.deepEqual(answer, { accepted: true, statement, book, kept: pair(321, amount), due }, `${ceiling}`);
+        assert.deepEqual(kept, lent);
+    }
+});
+
+test('refusal 24 comes before all others: a ceiling or an amount that is too large, and what is not of 8 bytes', () => {
+    const trip = tripOf({});
+    assert.equal(monthly(1000000, pair(321, 1000000), trip).due, 0);
+    for (const ceiling of [1000001, 2 ** 31, 2 ** 32 - 1]) refused(monthly(ceiling, fresh(), trip), 24);
+    for (const kept of [pair(321, 1000001), new Uint8Array(7), new Uint8Array(9), new Uint8Array(0)]) {
+        refused(monthly(0, kept, trip), 24);
+        refused(engine.settleMonth(0, kept, new Uint8Array(0), new Uint8Array(3), new Uint8Array(0)), 24);
+    }
+    refused(engine.settleMonth(0, fresh(), new Uint8Array(0), freshBook(), trip), 2);
+    refused(engine.settleMonth(0, fresh(), tariff, freshBook().subarray(1), trip), 4);
+});
+
+test('accounts under ceilings beside each other collect as single calls do, each what is its own', async () => {
+    const trips = [...recordsOf(await bytesOf('samples/roll.bin'))];
+    const ceilings = [0, 1500, 1000000];
+    const accounts = ceilings.map((ceiling) => engine.open(tariff, freshBook(), put, { ceiling, kept: fresh() }));
+    const singles = ceilings.map(() => ({ book: freshBook(), kept: fresh() }));
+    let accepted = 0;
+    for (const trip of trips) {
+        ceilings.forEach((ceiling, i) => {
+            const { book, kept } = singles[i];
+            const due = engine.settleMonth(ceiling, kept, tariff, book, trip);
+            const answer = accounts[i].settle(trip);
+            assert.deepEqual([answer.accepted, answer.due, answer.refusal], [due.accepted, due.due, due.refusal]);
+            if (due.accepted) singles[i] = due;
+            accepted += due.accepted ? 1 : 0;
+            assert.deepEqual(accounts[i].kept(), singles[i].kept);
+        });
+    }
+    assert.ok(accepted > 0 && accepted < 3 * trips.length);
+    assert.deepEqual(accounts.map((account) => account.book()), singles.map(({ book }) => book));
+    assert.deepEqual(accounts[0].book(), accounts[2].book());
+});
+
 // Accounts settle what single calls settle, and nobody's tariff or book gets into another's.
 const put = (room, trip) => (room.set(trip), trip.length);
 

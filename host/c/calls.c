@@ -1,7 +1,7 @@
 /*
  * Calls the library and the header's functions as an app might, rightly and wrongly: empty slices with a null pointer, a
- * tariff checked alone, bytes that are no record, records read back, members on a page, and records written by the header's
- * writers.
+ * tariff checked alone, bytes that are no record, records read back, members on a page, a monthly ceiling, and records written by
+ * the header's writers.
  *
  *     calls TARIFF ROLL
  *
@@ -320,6 +320,66 @@ static void members(const uint8_t *tariff, size_t tariff_len, const uint8_t *tri
     check(milecopper_close(page, all, 0, 2) == MILECOPPER_PLACE_BYTES, "which is nothing to the other association");
 }
 
+/* A trip under a ceiling: first within it, then cut by it, then over it; and what is refused, which changes nothing. */
+static void ceilings(const uint8_t *tariff, size_t tariff_len, const uint8_t *trip, size_t trip_len)
+{
+    uint8_t *kept = guarded(MILECOPPER_KEPT_BYTES);
+    uint8_t *due = guarded(MILECOPPER_DUE_BYTES + 1);
+    uint8_t *book = guarded(MILECOPPER_BOOK_BYTES);
+    uint8_t *statement = guarded(MILECOPPER_LARGEST_STATEMENT_BYTES);
+    uint8_t alone[MILECOPPER_BOOK_BYTES] = {0};
+    uint8_t records[MILECOPPER_LARGEST_STATEMENT_BYTES];
+    uint8_t before[MILECOPPER_KEPT_BYTES];
+    size_t pair = MILECOPPER_KEPT_BYTES;
+    size_t all = MILECOPPER_LARGEST_STATEMENT_BYTES;
+    uint64_t settled = milecopper_settle(tariff, tariff_len, alone, sizeof alone, trip, trip_len, records, sizeof records);
+    uint32_t charged = milecopper_statement_total(records, settled);
+    uint32_t month;
+
+    check(milecopper_settle_month(0, NULL, 0, NULL, 0, NULL, 0, NULL, 0, NULL, 0, NULL, 0) == refused(MILECOPPER_WRONG_CEILING, 0),
+          "nothing is kept");
+    check(milecopper_settle_month(MILECOPPER_LARGEST_CEILING + 1, kept, pair, NULL, 0, NULL, 0, NULL, 0, NULL, 0, NULL, 0) ==
+              refused(MILECOPPER_WRONG_CEILING, 0), "too high a ceiling");
+    check(milecopper_settle_month(0, kept, pair, NULL, 0, NULL, 0, NULL, 0, NULL, 0, NULL, 0) ==
+              refused(MILECOPPER_TARIFF_MISSHAPEN, 0), "no tariff under a ceiling");
+    check(milecopper_settle_month(0, kept, pair, tariff, tariff_len, book, MILECOPPER_BOOK_BYTES, trip, trip_len, statement, all, NULL,
+                                  0) == refused(MILECOPPER_NO_ROOM, 0), "no room for what is due");
+    check(milecopper_settle_month(0, kept, pair, tariff, tariff_len, book, MILECOPPER_BOOK_BYTES, trip, trip_len, NULL, 0, due,
+                                  MILECOPPER_DUE_BYTES) == refused(MILECOPPER_NO_ROOM, 0), "no statement under a ceiling");
+    check(milecopper_kept_month(kept) == 0 && milecopper_kept_amount(kept) == 0 && book[0] == 0 && due[0] == 0,
+          "what is refused under a ceiling changes nothing");
+
+    due[MILECOPPER_DUE_BYTES] = 99;
+    check(milecopper_settle_month(MILECOPPER_LARGEST_CEILING, kept, pair, tariff, tariff_len, book, MILECOPPER_BOOK_BYTES, trip,
+                                  trip_len, statement, all, due, MILECOPPER_DUE_BYTES + 1) == settled,
+          "a trip under a ceiling is answered as without it");
+    check(memcmp(book, alone, sizeof alone) == 0 && memcmp(statement, records, milecopper_bytes_written(settled)) == 0,
+          "its book and its records");
+    check(milecopper_number(due, MILECOPPER_DUE_BYTES) == charged && due[MILECOPPER_DUE_BYTES] == 99, "all of it is due");
+    month = 12 * (milecopper_number(trip + MILECOPPER_TRIP_CHECK_IN_AT, 2) - 2000) +
+            trip[MILECOPPER_TRIP_CHECK_IN_AT + MILECOPPER_STAMP_MONTH_AT] - 1u;
+    check(milecopper_kept_month(kept) == month && milecopper_kept_amount(kept) == charged, "its month and its amount");
+
+    /* once more on a fresh book, with 1 cent left, and then under a lower ceiling */
+    memset(book, 0, MILECOPPER_BOOK_BYTES);
+    check(milecopper_settle_month(charged + 1, kept, pair, tariff, tariff_len, book, MILECOPPER_BOOK_BYTES, trip, trip_len, statement,
+                                  all, due, MILECOPPER_DUE_BYTES) == settled, "a trip with 1 cent left");
+    check(milecopper_number(due, MILECOPPER_DUE_BYTES) == 1 && milecopper_kept_amount(kept) == charged + 1, "1 cent is due");
+    check(memcmp(book, alone, sizeof alone) == 0, "the book counts all of it");
+    memset(book, 0, MILECOPPER_BOOK_BYTES);
+    check(milecopper_settle_month(1, kept, pair, tariff, tariff_len, book, MILECOPPER_BOOK_BYTES, trip, trip_len, statement, all, due,
+                                  MILECOPPER_DUE_BYTES) == settled, "a trip over the ceiling");
+    check(milecopper_number(due, MILECOPPER_DUE_BYTES) == 0 && milecopper_kept_amount(kept) == charged + 1, "nothing is due");
+
+    /* what is kept is damaged */
+    milecopper_put_number(kept + MILECOPPER_KEPT_AMOUNT_AT, 4, MILECOPPER_LARGEST_CEILING + 1);
+    memcpy(before, kept, pair);
+    memset(book, 0, MILECOPPER_BOOK_BYTES);
+    check(milecopper_settle_month(1, kept, pair, tariff, tariff_len, book, MILECOPPER_BOOK_BYTES, trip, trip_len, statement, all, due,
+                                  MILECOPPER_DUE_BYTES) == refused(MILECOPPER_WRONG_CEILING, 0), "too high an amount");
+    check(memcmp(before, kept, pair) == 0 && book[0] == 0, "which stays, and the book with it");
+}
+
 /* ---- The writers. */
 
 /* The fields that both kinds of area have. */
@@ -583,6 +643,7 @@ int main(int argc, char **argv)
     charges_alone();
     any_fields();
     members(tariff, tariff_len, trip, trip_len);
+    ceilings(tariff, tariff_len, trip, trip_len);
     all_again(tariff, tariff_len);
     all_again(roll, roll_len);
     editions(tariff, tariff_len, trip, trip_len);

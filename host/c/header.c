@@ -42,6 +42,8 @@ static void sizes(void)
     check(MILECOPPER_PAGE_BYTES == MILECOPPER_PLACES * MILECOPPER_PLACE_BYTES, "a page");
     check(MILECOPPER_PLACES == MILECOPPER_ASSOCIATIONS * MILECOPPER_PLACES_OF_EACH, "the associations' places");
     check(MILECOPPER_TRIP_CHECK_IN_AT + MILECOPPER_STAMP_BYTES == MILECOPPER_TRIP_CHECK_OUT_AT, "a trip's stamps");
+    check(MILECOPPER_KEPT_MONTH_AT + 4 == MILECOPPER_KEPT_AMOUNT_AT && MILECOPPER_KEPT_AMOUNT_AT + 4 == MILECOPPER_KEPT_BYTES,
+          "what is kept under a ceiling");
 }
 
 /* Only the types are looked at; nothing is called. */
@@ -53,6 +55,8 @@ static void only_read(void)
     check(sizeof(milecopper_post(read, 0, written, 0, read, 0, read, 0)) == 8, "a posting's record is only read");
     check(sizeof(milecopper_read(read, 0, 0, written, 0)) == 8, "a reading's statement is only read");
     check(sizeof(milecopper_settle_member(read, 0, written, 0, 1, 1, read, 0, written, 0)) == 8, "a member's trip is only read");
+    check(sizeof(milecopper_settle_month(1, written, 0, read, 0, written, 0, read, 0, written, 0, written, 0)) == 8,
+          "under a ceiling the tariff and the trip are only read");
     check(sizeof(milecopper_add(written, 0, 1, 1)) == 8 && sizeof(milecopper_close(written, 0, 1, 1)) == 8, "a page is written");
 }
 
@@ -74,6 +78,7 @@ static void answers(void)
     check(milecopper_refusal_of((uint64_t)19 << 32) == MILECOPPER_WRONG_MEMBER, "a member who is not there, or is already");
     check(milecopper_refusal_of((uint64_t)20 << 32) == MILECOPPER_NO_PLACE, "no free place");
     check(milecopper_refusal_of((uint64_t)21 << 32) == MILECOPPER_WRONG_ASSOCIATION, "no such association");
+    check(milecopper_refusal_of((uint64_t)24 << 32) == MILECOPPER_WRONG_CEILING, "a ceiling that is wrong");
     check(milecopper_bytes_written(MILECOPPER_PLACE_BYTES) == MILECOPPER_PLACE_BYTES, "a member who was added");
     check(milecopper_bytes_written(MILECOPPER_BOOK_BYTES) == MILECOPPER_BOOK_BYTES, "a posted trip");
 }
@@ -82,7 +87,7 @@ static void texts(void)
 {
     int one;
     int other;
-    for (one = 0; one <= 23; one += 1)
+    for (one = 0; one <= 24; one += 1)
         for (other = 0; other < one; other += 1)
             check(strcmp(milecopper_refusal_text((enum milecopper_refusal)one),
                          milecopper_refusal_text((enum milecopper_refusal)other)) != 0, "two refusals with one text");
@@ -149,6 +154,14 @@ static void books(void)
     check(milecopper_book_edition(book) == 2, "the edition of a book");
 }
 
+/* A month and an amount, whose bytes all differ. */
+static void months(void)
+{
+    static const uint8_t kept[MILECOPPER_KEPT_BYTES] = {65, 1, 2, 3, 64, 66, 15, 4};
+    check(milecopper_kept_month(kept) == 0x03020141, "the month that is kept");
+    check(milecopper_kept_amount(kept) == 0x040f4240, "the amount that is kept");
+}
+
 /* Fields as a reading tells them, of a record with an adult and a bicycle. */
 static void fields(void)
 {
@@ -206,6 +219,7 @@ int main(void)
     records();
     fields();
     books();
+    months();
     pages();
     two_records();
     return faults == 0 ? 0 : 1;

@@ -3,7 +3,7 @@
  */
 typedef __UINT64_TYPE__ word;
 
-word painted_depth(const void *function, const word given[10], word *stack, word size, word *answer);
+word painted_depth(const void *function, const word given[14], word *stack, word size, word *answer);
 int __real_main(void);
 int dprintf(int, const char *, ...);
 
@@ -11,7 +11,7 @@ enum { WORDS = 1 << 16 };
 static word stack[WORDS] __attribute__((aligned(16)));
 
 int __wrap_main(void) {
-    static const word nothing[10];
+    static const word nothing[14];
     word answer, depth = painted_depth((const void *)__real_main, nothing, stack, WORDS, &answer);
     dprintf(2, "%llu\n", (unsigned long long)depth);
     return (int)answer;

@@ -1,13 +1,14 @@
 //! The differential test: the library and the model settle, quote and post the same cases, and must agree in the answer, in
 //! every byte of the book and in every byte of the statement or the record; and they read the same charge records, and must agree
 //! in the answer and in every byte of the fields; and they add, settle and close members on the same pages, and must agree in the
-//! answer and in every byte of the page and the statement.
+//! answer and in every byte of the page and the statement; and they settle the same trips under a monthly ceiling, and must agree
+//! in the answer and in every byte of what is kept, of book and statement and of what is due.
 //!
 //! A run has parts, which can be repeated one by one. Part 0 of a seed is a sweep ([`sweeps`]): two good cases, one with a
 //! broken trip, and all that lie one step away from them. Every other part is a chain ([`chains`]): trips settled one
 //! after another on one book, with damaged cases in between ([`damage`]). Beside many of them stand a quote and a posting
-//! ([`quotes`]), behind each part records are read ([`readings`]), and behind some there is a page ([`accounts`]). What is
-//! called on the library's side gets slices beside protected pages ([`guarded`]), so that a byte touched outside them is seen.
+//! ([`quotes`]), behind each part records are read ([`readings`]), and behind some there is a page ([`accounts`])
+//! or a ceiling ([`months`]). What is called on the library's side gets slices beside protected pages ([`guarded`]), so that a byte touched outside them is seen.
 
 mod aachen;
 mod accounts;
@@ -24,6 +25,7 @@ mod functions;
 mod guarded;
 mod kinds;
 mod mistaps;
+mod months;
 mod offers;
 mod options;
 mod particulars;
@@ -41,7 +43,8 @@ pub mod trips;
 
 pub use counts::Counts;
 pub use functions::{
-    number_of, settle_by_the_model, ChangePage, Check, Functions, Post, Quote, Read, Settle, SettleMember, MODEL,
+    number_of, settle_by_the_model, ChangePage, Check, Functions, Post, Quote, Read, Settle, SettleMember, SettleMonth,
+    MODEL,
 };
 pub use options::{Options, USAGE};
 pub use run::Difference;
@@ -60,6 +63,10 @@ const READINGS: u64 = 1 << 32;
 /// Likewise for the numbers of a page, which one of so many parts has.
 const ACCOUNTS: u64 = 2 << 32;
 const PARTS_WITH_A_PAGE: u64 = 16;
+
+/// Likewise for those of a ceiling.
+const MONTHS: u64 = 3 << 32;
+const PARTS_WITH_A_CEILING: u64 = 8;
 
 /// Compares these functions, of whoever is called `name`, with the model. Prints the seeds first and the counts at the end.
 /// An error is the first difference, or says what was met too seldom.
@@ -99,6 +106,13 @@ pub fn run_alike(name: &'static str, functions: Functions, options: &Options) ->
             }
             if part.is_multiple_of(PARTS_WITH_A_PAGE) {
                 accounts::chain(&mut random, &mut run)?;
+            }
+            let mut random = Random::of(seed, MONTHS + part);
+            if part == 0 {
+                months::sweep(&mut random, &mut run)?;
+            }
+            if part.is_multiple_of(PARTS_WITH_A_CEILING) {
+                months::chain(&mut random, &mut run)?;
             }
         }
     }

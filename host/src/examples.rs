@@ -1,6 +1,6 @@
 //! Examples, run on anything that settles, quotes and posts: samples/vectors.txt and samples/examples.txt, whose form
 //! [`crate::maker::cases`] tells. What is printed comes of these alone, and each call is looked at besides: a refusal leaves
-//! book and statement as they are, and no byte behind the charge records is written.
+//! book and statement as they are, no byte behind the charge records is written, and under a ceiling a trip is settled as without it.
 
 use crate::answer::Answer;
 use crate::differential::Functions;
@@ -8,6 +8,7 @@ use crate::maker::bytes_of;
 use crate::maker::cases::{sections_of, Content, Section, Sort};
 use crate::model::book::BOOK_BYTES;
 use crate::model::clock::Date;
+use crate::model::month::{Kept, DUE_BYTES, KEPT_BYTES};
 use crate::model::record::{record_at, Fields, KIND_AACHEN_AREA, KIND_AREA, KIND_EDITION};
 use crate::model::statement::{number_of, ChargeRecord, LARGEST_STATEMENT};
 use crate::numbers::number;
@@ -27,7 +28,8 @@ pub type SettleRoll = fn(&[u8], &[u8]) -> String;
 /// Runs a file, its rolls only where something settles them. The answer is how many were offered; an error tells the
 /// first of which something else came than was expected.
 pub fn run(text: &str, functions: Functions, roll: Option<SettleRoll>) -> Result<usize, String> {
-    let mut desk = Desk { functions, roll, tariff: Vec::new(), book: vec![0; BOOK_BYTES], quote: Vec::new(), line: 0 };
+    let (book, kept) = (vec![0; BOOK_BYTES], vec![0; KEPT_BYTES]);
+    let mut desk = Desk { functions, roll, tariff: Vec::new(), book, kept, quote: Vec::new(), line: 0 };
     let sections = sections_of(text).map_err(|fault| fault.to_string())?;
     let sections = sections.iter().filter(|section| section.sort != Sort::Roll || roll.is_some());
     sections.map(|section| desk.run(section)).sum()
@@ -39,6 +41,8 @@ struct Desk {
     roll: Option<SettleRoll>,
     tariff: Vec<u8>,
     book: Vec<u8>,
+    /// Beside the book, under a ceiling.
+    kept: Vec<u8>,
     /// The last one that was accepted.
     quote: Vec<u8>,
     /// Of the example that is run.
@@ -48,7 +52,7 @@ struct Desk {
 impl Desk {
     /// Offers a section and its variants.
     fn run(&mut self, section: &Section) -> Result<usize, String> {
-        let found = self.book.clone();
+        let found = (self.book.clone(), self.kept.clone());
         self.line = section.line;
         let printed = self.offer(section.sort, &section.content);
         let expected = section.expected.join("\n");
@@ -56,9 +60,9 @@ impl Desk {
             return Err(format!("line {}: printed was\n{printed}\nand not\n{expected}", section.line));
         }
         for variant in &section.variants {
-            let left = (self.tariff.clone(), self.book.clone(), self.quote.clone());
+            let left = (self.tariff.clone(), self.book.clone(), self.kept.clone(), self.quote.clone());
             if !variant.leaves_a_trace {
-                self.book.clone_from(&found);
+                (self.book, self.kept) = found.clone();
             }
             self.line = variant.line;
             let printed = self.offer(section.sort, &variant.content);
@@ -66,7 +70,7 @@ impl Desk {
                 return Err(format!("line {}: printed was\n{printed}\nand not .. {}", variant.line, variant.end));
             }
             if !variant.leaves_a_trace {
-                (self.tariff, self.book, self.quote) = left;
+                (self.tariff, self.book, self.kept, self.quote) = left;
             }
         }
         Ok(1 + section.variants.len())
@@ -101,8 +105,14 @@ impl Desk {
                 self.book = book;
                 posted.map_or_else(refused_line, |()| "posted".to_string())
             }
+            Sort::Month => {
+                if let Some(kept) = &content.kept {
+                    self.kept.clone_from(kept);
+                }
+                self.settled_in_a_month(content, room).unwrap_or_else(refused_line)
+            }
             Sort::Fresh => {
-                self.book = vec![0; BOOK_BYTES];
+                (self.book, self.kept) = (vec![0; BOOK_BYTES], vec![0; KEPT_BYTES]);
                 String::new()
             }
             Sort::Book => {
@@ -133,6 +143,36 @@ impl Desk {
         }
         assert!(book == before, "line {line}: the book is not as it was, or not as a posting leaves it");
         settled
+    }
+
+    /// The lines of the charge records, and one of what is due and kept. A refusal leaves all, and but for 24 settling comes to the
+    /// same on the book; where there is no room for what is due, settling without a statement.
+    fn settled_in_a_month(&mut self, content: &Content, room: usize) -> Result<String, Refused> {
+        let Content { bytes: trip, ceiling, due: size, .. } = content;
+        let (mut kept, mut book, mut due) = (self.kept.clone(), self.book.clone(), vec![0x5b; *size]);
+        let records = self.written(room, |statement| {
+            (self.functions.settle_month)(*ceiling, &mut kept, &self.tariff, &mut book, trip, statement, &mut due)
+        });
+        let line = self.line;
+        if records != Err((24, 0)) {
+            let mut alone = self.book.clone();
+            let settled = self.settled(&self.tariff, &mut alone, trip, if *size < DUE_BYTES { 0 } else { room });
+            assert_eq!(records, settled, "line {line}: not what settling gives");
+            assert!(alone == book, "line {line}: not the book that settling leaves");
+        }
+        let Ok(records) = records else {
+            let is_left = kept == self.kept && book == self.book && due.iter().all(|&byte| byte == 0x5b);
+            assert!(is_left, "line {line}: a refusal under a ceiling changed something");
+            return records.map(|_| String::new());
+        };
+        assert!(
+            due[DUE_BYTES..].iter().all(|&byte| byte == 0x5b),
+            "line {line}: a byte behind what is due was written"
+        );
+        (self.kept, self.book) = (kept, book);
+        let Kept { month, amount } = Kept::read(&self.kept).expect("accepted, so a pair");
+        let due = number(&due[..DUE_BYTES]);
+        Ok(format!("{}\ndue {due}, month {month} collected {amount}", record_lines(&records)))
     }
 
     /// The bytes of the charge records.

@@ -60,6 +60,22 @@ extern "C" {
         statement: *mut u8,
         statement_len: usize,
     ) -> u64;
+
+    pub(crate) fn milecopper_settle_month(
+        ceiling: u32,
+        kept: *mut u8,
+        kept_len: usize,
+        tariff: *const u8,
+        tariff_len: usize,
+        book: *mut u8,
+        book_len: usize,
+        trip: *const u8,
+        trip_len: usize,
+        statement: *mut u8,
+        statement_len: usize,
+        due: *mut u8,
+        due_len: usize,
+    ) -> u64;
 }
 
 /// A faultless tariff's length, or the number that settling under it gives.
@@ -69,7 +85,7 @@ pub fn check_tariff(tariff: &[u8]) -> u64 {
     unsafe { milecopper_check_tariff(tariff.as_ptr(), tariff.len()) }
 }
 
-/// The eight functions, each with the answer's number as the library gives it.
+/// The nine functions, each with the answer's number as the library gives it.
 pub const LIBRARY: Functions = Functions {
     check: check_tariff,
     settle: settle_to_number,
@@ -79,6 +95,7 @@ pub const LIBRARY: Functions = Functions {
     add: add_to_number,
     close: close_to_number,
     settle_member: settle_member_to_number,
+    settle_month: settle_month_to_number,
 };
 
 pub fn settle_to_number(tariff: &[u8], book: &mut [u8], trip: &[u8], statement: &mut [u8]) -> u64 {
@@ -171,6 +188,35 @@ pub fn settle_member_to_number(
     }
 }
 
+pub fn settle_month_to_number(
+    ceiling: u32,
+    kept: &mut [u8],
+    tariff: &[u8],
+    book: &mut [u8],
+    trip: &[u8],
+    statement: &mut [u8],
+    due: &mut [u8],
+) -> u64 {
+    // SAFETY: as above.
+    unsafe {
+        milecopper_settle_month(
+            ceiling,
+            kept.as_mut_ptr(),
+            kept.len(),
+            tariff.as_ptr(),
+            tariff.len(),
+            book.as_mut_ptr(),
+            book.len(),
+            trip.as_ptr(),
+            trip.len(),
+            statement.as_mut_ptr(),
+            statement.len(),
+            due.as_mut_ptr(),
+            due.len(),
+        )
+    }
+}
+
 /// Settles one trip. Accepted: the book is replaced, and the charge records stand at the start of the statement. Refused:
 /// book and statement stay.
 pub fn settle(tariff: &[u8], book: &mut [u8], trip: &[u8], statement: &mut [u8]) -> Answer {
@@ -215,6 +261,20 @@ pub fn settle_member(
     statement: &mut [u8],
 ) -> Answer {
     answer_of(settle_member_to_number(tariff, page, association, member, trip, statement))
+}
+
+/// Settles one trip under a monthly ceiling. Accepted: as by [`settle`], and what is due stands at the start of `due`, and the
+/// month with the amount collected in it in `kept`. Refused: all four stay.
+pub fn settle_month(
+    ceiling: u32,
+    kept: &mut [u8],
+    tariff: &[u8],
+    book: &mut [u8],
+    trip: &[u8],
+    statement: &mut [u8],
+    due: &mut [u8],
+) -> Answer {
+    answer_of(settle_month_to_number(ceiling, kept, tariff, book, trip, statement, due))
 }
 
 fn answer_of(number: u64) -> Answer {

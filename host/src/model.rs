@@ -13,6 +13,7 @@
 //! - [`statement`]: the charge record;
 //! - [`reading`]: charge records read off a statement that was kept;
 //! - [`page`]: twelve members' books on one page, six of each of two associations;
+//! - [`month`]: a monthly ceiling over settling;
 //! - [`roll`]: what the program that settles a roll prints;
 //! - [`salvage`]: what is kept of a torn roll, and what the program that salvages rolls prints;
 //! - [`table`]: what the program that prints statements prints.
@@ -26,6 +27,7 @@ pub mod charge;
 pub mod clock;
 pub mod editions;
 pub mod fare;
+pub mod month;
 pub mod page;
 pub mod parts;
 pub mod reading;
@@ -42,6 +44,7 @@ use charge::{costs_of, window_for, Costs};
 use clock::MINUTES_IN_A_DAY;
 pub use editions::{read_file, File};
 use fare::Ride;
+pub use month::settle_month;
 pub use page::{add, close, settle_member};
 use parts::{parts_of, rides_in_a_marked_town};
 pub use reading::read;

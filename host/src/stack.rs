@@ -2,12 +2,12 @@
 
 use crate::library::{
     milecopper_add, milecopper_check_tariff, milecopper_close, milecopper_post, milecopper_quote, milecopper_read,
-    milecopper_settle, milecopper_settle_member,
+    milecopper_settle, milecopper_settle_member, milecopper_settle_month,
 };
 
 /// What the library exports, and how many bytes of stack a call may take. Who raises a limit says why in docs/DECISIONS.md.
 /// c/painter.c has the functions in the same order.
-pub const FUNCTIONS: [Function; 8] = [
+pub const FUNCTIONS: [Function; 9] = [
     Function { name: "milecopper_settle", limit: 832, start: milecopper_settle as *const (), before: ALL, numbers: 0 },
     Function { name: "milecopper_quote", limit: 1_536, start: milecopper_quote as *const (), before: ALL, numbers: 0 },
     Function { name: "milecopper_post", limit: 2_048, start: milecopper_post as *const (), before: ALL, numbers: 0 },
@@ -28,6 +28,13 @@ pub const FUNCTIONS: [Function; 8] = [
         before: 2,
         numbers: 2,
     },
+    Function {
+        name: "milecopper_settle_month",
+        limit: 1_536,
+        start: milecopper_settle_month as *const (),
+        before: 0,
+        numbers: 1,
+    },
 ];
 
 /// Their places among them.
@@ -39,9 +46,10 @@ pub const READ: usize = 4;
 pub const ADD: usize = 5;
 pub const CLOSE: usize = 6;
 pub const SETTLE_MEMBER: usize = 7;
+pub const SETTLE_MONTH: usize = 8;
 
 /// The most slices that a function takes, each a pointer and a length.
-const SLICES: usize = 4;
+const SLICES: usize = 6;
 /// A function has no numbers between its slices.
 const ALL: usize = SLICES;
 /// The words that a call is given: those of the slices, and two for numbers.
@@ -66,11 +74,21 @@ const WORDS: usize = 8 * 1_024;
 struct Stack([u64; WORDS]);
 
 /// What is lent to a call: tariff, book or page and trip, and a statement, or a posting's record; the statement and the fields of
-/// a reading; or a page; and a reading's offset, or an association and a member's number. A function does not look at what it does not take.
+/// a reading; a page; or what is kept under a ceiling, tariff, book, trip, statement and what is due; and a reading's offset, an
+/// association and a member's number, or the ceiling. A function does not look at what it does not take.
 #[derive(Clone, Copy)]
 pub struct Call<'a> {
-    pub slices: [&'a [u8]; SLICES],
-    pub numbers: [usize; 2],
+    slices: [&'a [u8]; SLICES],
+    numbers: [usize; 2],
+}
+
+impl<'a> Call<'a> {
+    /// With these slices, and none behind them.
+    pub fn of(lent: &[&'a [u8]], numbers: [usize; 2]) -> Call<'a> {
+        let mut slices: [&[u8]; SLICES] = [&[]; SLICES];
+        slices[..lent.len()].copy_from_slice(lent);
+        Call { slices, numbers }
+    }
 }
 
 #[cfg(any(target_arch = "x86_64", target_arch = "aarch64"))]
@@ -92,8 +110,8 @@ pub fn depth_of(function: usize, call: &Call) -> usize {
     let Function { before, numbers, .. } = FUNCTIONS[function];
     given.splice(2 * before..2 * before, call.numbers[..numbers].iter().map(|&number| number as u64));
     given.resize(GIVEN, 0);
-    // SAFETY: each function takes at most four slices, a pointer and a length each, and two numbers between them: ten
-    // words. The pointers come with their slices' own lengths, and the slices overlap nothing. The stack is memory that nobody else
+    // SAFETY: each function takes at most six slices, a pointer and a length each, and at most two numbers before or between
+    // them: fourteen words. The pointers come with their slices' own lengths, and the slices overlap nothing. The stack is memory that nobody else
     // uses, of so many words, an even number, at a multiple of 16, and far more than a call needs.
     unsafe {
         painted_depth(FUNCTIONS[function].start, given.as_ptr(), stack.0.as_mut_ptr(), WORDS as u64, &mut 0) as usize
@@ -102,11 +120,10 @@ pub fn depth_of(function: usize, call: &Call) -> usize {
 
 /// A call as c/painter.c takes it.
 pub fn bytes_of(function: usize, call: &Call) -> Vec<u8> {
-    let [first, second, third, fourth] = call.slices;
     let [one, other] = call.numbers;
-    let numbers = [function, one, other, first.len(), second.len(), third.len(), fourth.len()];
-    let head = numbers.map(|number| (number as u64).to_le_bytes()).concat();
-    [&head, first, second, third, fourth].concat()
+    let numbers = [function, one, other].into_iter().chain(call.slices.map(<[u8]>::len));
+    let head = numbers.flat_map(|number| (number as u64).to_le_bytes());
+    head.chain(call.slices.concat()).collect()
 }
 
 #[cfg(test)]

@@ -108,6 +108,27 @@ fn are_on_a_page(Functions { add, close, settle_member, .. }: Functions) {
     assert_eq!(page[6 * PLACE_BYTES..6 * PLACE_BYTES + other.len()], other);
 }
 
+/// Two trips under a ceiling, the second one on a book of its own: what is due, and what is kept.
+fn are_under_a_ceiling(Functions { settle_month, .. }: Functions) {
+    let (tariff, mut kept) = (block("tariff"), [0; 8]);
+    for (trip, records, due, left) in [
+        ("trip", "record", "due", "kept"),
+        ("ride-out-and-back", "two-records", "due-of-the-rest", "kept-at-the-ceiling"),
+    ] {
+        let (trip, records, left) = (block(trip), block(records), block(left));
+        let (mut book, mut statement, mut paid) = ([0; BOOK_BYTES], [0; 532], [0xaa; 6]);
+        assert_eq!(settle_month(1_000_001, &mut kept, &tariff, &mut book, &trip, &mut statement, &mut paid), 24 << 32);
+        assert_eq!(settle_month(1_000, &mut kept, &tariff, &mut book, &trip, &mut statement, &mut paid[..3]), 12 << 32);
+        assert_eq!(
+            settle_month(1_000, &mut kept, &tariff, &mut book, &trip, &mut statement, &mut paid),
+            records.len() as u64
+        );
+        assert_eq!(statement[..records.len()], records);
+        assert_eq!(paid.to_vec(), [block(due), vec![0xaa; 2]].concat());
+        assert_eq!(kept.to_vec(), left);
+    }
+}
+
 /// The table of the statement that the page puts together.
 #[test]
 fn the_table_that_is_printed() {
@@ -124,6 +145,7 @@ fn the_worked_example_by_the_model() {
     are_quoted_and_posted(MODEL);
     are_read(MODEL.read);
     are_on_a_page(MODEL);
+    are_under_a_ceiling(MODEL);
 }
 
 #[cfg(feature = "library")]
@@ -135,6 +157,7 @@ fn the_worked_example_by_the_library() {
     are_quoted_and_posted(milecopper_host::library::LIBRARY);
     are_read(milecopper_host::library::LIBRARY.read);
     are_on_a_page(milecopper_host::library::LIBRARY);
+    are_under_a_ceiling(milecopper_host::library::LIBRARY);
 }
 
 #[test]

@@ -10,7 +10,7 @@ fn planted(name: &str) -> (bool, String) {
 }
 
 /// Each planted error, and words of the difference that it makes.
-const FOUND: [(&str, &str); 53] = [
+const FOUND: [(&str, &str); 61] = [
     ("refusal_12_writes_the_book", "the copy refused, and changed the book"),
     ("stops_before_10", "by the model: refused 10 at 0 (before the last check-out)\n  by the copy: refused 7 at 0"),
     ("rounding_once_at_the_end", "of the statement is"),
@@ -69,6 +69,14 @@ const FOUND: [(&str, &str); 53] = [
     ("room_in_the_other_half", "by the model: refused 20 at 0 (no free place)\n  by the copy: accepted"),
     ("association_after_the_page", "by the model: refused 21 at 0 (no such association)\n  by the copy: refused 18"),
     ("other_half_written", "bytes of the page differ, first byte"),
+    ("month_of_the_check_out", "of what is kept is"),
+    ("month_by_the_local_clock", "of what is kept is"),
+    ("first_record_collected_alone", "of what is due is"),
+    ("later_month_goes_on", "of what is kept is"),
+    ("nothing_due_keeps_the_month", "of what is kept is"),
+    ("amount_lowered_with_the_ceiling", "of what is kept is"),
+    ("ceiling_after_the_tariff", "by the model: refused 24 at 0"),
+    ("room_for_what_is_due_first", "\n  by the copy: refused 12 at 0"),
     ("reads_past_the_trip", "signal 11 instead of an answer"),
 ];
 

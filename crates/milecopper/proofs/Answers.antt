@@ -1,4 +1,4 @@
--- The exported number is the answer of the outcome, of the quote, of the posting and of a page's change.
+-- The exported number is the answer of the outcome, of the quote, of the posting, of a page's change and of a trip under a ceiling.
 -- Assumes nothing.
 use Prim.Native.Nat.{ℕ}
 use native.Mathlib.Omega.{arith}
@@ -15,6 +15,7 @@ use Rattle.settle.specs.Contracts.{toldBy, Told, toldQuote, QuoteTold, toldPost
 use Rattle.page.specs.Pages.{Change, unchanged, changed}
 use Rattle.accounts.specs.Members.{changeAnswer, Changed}
 use Rattle.accounts.specs.Contracts.{toldChange, ChangeTold}
+use Rattle.ceiling.specs.Contracts.{MonthTold, MonthSettled}
 use Rattle.milecopper.specs.Contracts.{encodedAs, fillingAnswer, ReadTo}
 
 answer-is : (o : Outcome) → encodedAs (toldBy o) ≡ answerOf o
@@ -26,6 +27,19 @@ pub settled-told :
     → Settled o book book′ statement statement′ r
 settled-told {o} told is =
     record { answer = is ∙ ap encodedAs (told .answer) ∙ answer-is o; book-is = told .book-is; statement-is = told .statement-is }
+
+pub month-told :
+    {o : Outcome} {ceiling : ℕ} {trip kept kept′ book book′ statement statement′ due due′ : List ℕ} {a : Answer} {r : ℕ}
+    → MonthTold o ceiling trip kept kept′ book book′ statement statement′ due due′ a → r ≡ encodedAs a
+    → MonthSettled o ceiling trip kept kept′ book book′ statement statement′ due due′ r
+month-told {o} month is =
+    record {
+      answer = is ∙ ap encodedAs (month .told .answer) ∙ answer-is o;
+      book-is = month .told .book-is;
+      statement-is = month .told .statement-is;
+      kept-is = month .kept-is;
+      due-is = month .due-is;
+    }
 
 quote-answer-is : (q : Quote) → encodedAs (toldQuote q) ≡ quoteAnswer q
 quote-answer-is (unquoted number place) = refl

@@ -49,12 +49,12 @@ record Row (book : List ℕ) (windows : List RiderWindow) : Type 0 where
 -- ---- One accepted trip.
 
 -- it begins when the last one has ended, and the new book's last check-out is its own
-record Timely (book bytes new : List ℕ) : Type 0 where
-  since : 1 ≤ tripsOf book → lastOutOf book ≤ checkinOf bytes
-  forward : checkinOf bytes ≤ checkoutOf bytes
-  last : lastOutOf new ≡ checkoutOf bytes
+pub record Timely (book bytes new : List ℕ) : Type 0 where
+  pub since : 1 ≤ tripsOf book → lastOutOf book ≤ checkinOf bytes
+  pub forward : checkinOf bytes ≤ checkoutOf bytes
+  pub last : lastOutOf new ≡ checkoutOf bytes
 
-timely :
+pub timely :
     {file book bytes : List ℕ} {room : ℕ} {new : List ℕ} {parts : List Part} → AcceptedBy file book bytes room new parts → Timely book bytes new
 unfolding conditionWith
 timely {file} {book} {bytes} a =

@@ -22,3 +22,4 @@ pub mod InRow
 pub mod Numbers
 pub mod TripInWords
 pub mod Payments
+pub mod Months

@@ -10,3 +10,4 @@ pub mod Exported
 pub mod Numbers
 pub mod TripInWords
 pub mod Payments
+pub mod Months

@@ -30,7 +30,7 @@ pub const FIXED: usize = 24;
 
 const BODY: usize = FIXED - 4;
 
-const CHECK_IN: usize = 4;
+pub const CHECK_IN: usize = 4;
 
 const CHECK_OUT: usize = CHECK_IN + Stamp::SIZE;
 

@@ -146,7 +146,7 @@ fn report_stack(cases: &[Case], verdicts: &mut Verdicts) {
     }
     let depth = |case: &Case| {
         let slices = [&case.tariff[..], &case.book, &case.trip, &vec![0; case.room]];
-        stack::depth_of(stack::SETTLE, &stack::Call { slices, numbers: [0; 2] })
+        stack::depth_of(stack::SETTLE, &stack::Call::of(&slices, [0; 2]))
     };
     let most = cases.iter().filter(|case| case.group != Group::Tariff).map(depth).max().unwrap_or(0);
     let allowed = stack::FUNCTIONS[stack::SETTLE].limit;

@@ -9,6 +9,7 @@ use milecopper_host::examples::{run, FILES};
 use milecopper_host::library::LIBRARY;
 use milecopper_host::stack::{
     bytes_of, depth_of, Call, ADD, CHECK, CLOSE, FUNCTIONS, IS_PAINTED, POST, QUOTE, READ, SETTLE, SETTLE_MEMBER,
+    SETTLE_MONTH,
 };
 use milecopper_host::tool::{is_asked, misused};
 use std::io::{BufWriter, Read, Write};
@@ -33,41 +34,45 @@ static PAINTER: Mutex<Option<BufWriter<ChildStdin>>> = Mutex::new(None);
 /// The library, with each call made on a painted stack first.
 const PAINTED: Functions = Functions {
     check: |tariff| {
-        paint(CHECK, [tariff, &[], &[], &[]], [0; 2]);
+        paint(CHECK, &[tariff], [0; 2]);
         (LIBRARY.check)(tariff)
     },
     settle: |tariff, book, trip, statement| {
-        paint(SETTLE, [tariff, book, trip, statement], [0; 2]);
+        paint(SETTLE, &[tariff, book, trip, statement], [0; 2]);
         (LIBRARY.settle)(tariff, book, trip, statement)
     },
     quote: |tariff, book, trip, statement| {
-        paint(QUOTE, [tariff, book, trip, statement], [0; 2]);
+        paint(QUOTE, &[tariff, book, trip, statement], [0; 2]);
         (LIBRARY.quote)(tariff, book, trip, statement)
     },
     post: |tariff, book, trip, record| {
-        paint(POST, [tariff, book, trip, record], [0; 2]);
+        paint(POST, &[tariff, book, trip, record], [0; 2]);
         (LIBRARY.post)(tariff, book, trip, record)
     },
     read: |statement, at, fields| {
-        paint(READ, [statement, fields, &[], &[]], [at, 0]);
+        paint(READ, &[statement, fields], [at, 0]);
         (LIBRARY.read)(statement, at, fields)
     },
     add: |page, association, member| {
-        paint(ADD, [page, &[], &[], &[]], [association as usize, member as usize]);
+        paint(ADD, &[page], [association as usize, member as usize]);
         (LIBRARY.add)(page, association, member)
     },
     close: |page, association, member| {
-        paint(CLOSE, [page, &[], &[], &[]], [association as usize, member as usize]);
+        paint(CLOSE, &[page], [association as usize, member as usize]);
         (LIBRARY.close)(page, association, member)
     },
     settle_member: |tariff, page, association, member, trip, statement| {
-        paint(SETTLE_MEMBER, [tariff, page, trip, statement], [association as usize, member as usize]);
+        paint(SETTLE_MEMBER, &[tariff, page, trip, statement], [association as usize, member as usize]);
         (LIBRARY.settle_member)(tariff, page, association, member, trip, statement)
+    },
+    settle_month: |ceiling, kept, tariff, book, trip, statement, due| {
+        paint(SETTLE_MONTH, &[kept, tariff, book, trip, statement, due], [ceiling as usize, 0]);
+        (LIBRARY.settle_month)(ceiling, kept, tariff, book, trip, statement, due)
     },
 };
 
-fn paint(function: usize, slices: [&[u8]; 4], numbers: [usize; 2]) {
-    let call = Call { slices, numbers };
+fn paint(function: usize, slices: &[&[u8]], numbers: [usize; 2]) {
+    let call = Call::of(slices, numbers);
     CALLS[function].fetch_add(1, Relaxed);
     MOST[function].fetch_max(depth_of(function, &call), Relaxed);
     if let Some(painter) = PAINTER.lock().expect("one thread").as_mut() {

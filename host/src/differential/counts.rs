@@ -1,9 +1,10 @@
-//! How many settled cases ended in each refusal and in each kind of acceptance, and what quotes, postings, readings and calls
-//! on pages came to.
+//! How many settled cases ended in each refusal and in each kind of acceptance, and what quotes, postings, readings, calls on
+//! pages and calls under a ceiling came to.
 
 use super::accounts::Accounts;
 use super::cases::Case;
 use super::kinds::{is_rare, kinds_of, KINDS};
+use super::months::Months;
 use super::offers::Offers;
 use super::particulars::particulars;
 use super::reads::Reads;
@@ -23,12 +24,13 @@ pub struct Counts {
     pub quotes: Offers,
     pub readings: Reads,
     pub accounts: Accounts,
+    pub months: Months,
     /// Tariffs checked alone, those with a fault and those without.
     tariffs: [u64; 2],
 }
 
 /// No refusal has a number as high as this.
-pub const NUMBERS: usize = Refusal::ALL.len() + 1;
+pub const NUMBERS: usize = Refusal::WrongCeiling as usize + 1;
 
 impl Counts {
     pub fn count_accepted(&mut self, case: &Case, records: &[ChargeRecord]) {
@@ -57,7 +59,8 @@ impl Counts {
 
     /// Everything that was called.
     fn cases(&self) -> u64 {
-        self.accepted + self.refused() + self.quotes.calls() + self.readings.calls() + self.accounts.calls()
+        let settled = self.accepted + self.refused();
+        settled + self.quotes.calls() + self.readings.calls() + self.accounts.calls() + self.months.calls()
     }
 
     /// Each kind with its count.
@@ -80,6 +83,7 @@ impl Counts {
         all.extend(self.quotes.too_few());
         all.extend(self.readings.too_few());
         all.extend(self.accounts.too_few());
+        all.extend(self.months.too_few());
         if self.tariffs.contains(&0) {
             all.push("tariffs checked alone".to_string());
         }
@@ -112,6 +116,6 @@ impl fmt::Display for Counts {
         }
         let [faulty, faultless] = self.tariffs;
         writeln!(out, "tariffs checked alone: {faultless} without and {faulty} with a fault")?;
-        write!(out, "{}{}{}cases {}", self.quotes, self.readings, self.accounts, self.cases())
+        write!(out, "{}{}{}{}cases {}", self.quotes, self.readings, self.accounts, self.months, self.cases())
     }
 }

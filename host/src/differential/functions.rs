@@ -23,6 +23,9 @@ pub type ChangePage = fn(&mut [u8], u32, u32) -> u64;
 /// Settles a member: tariff, page, association, member, trip, statement, and the answer's number.
 pub type SettleMember = fn(&[u8], &mut [u8], u32, u32, &[u8], &mut [u8]) -> u64;
 
+/// Settles under a monthly ceiling: ceiling, what is kept, tariff, book, trip, statement, what is due, and the answer's number.
+pub type SettleMonth = fn(u32, &mut [u8], &[u8], &mut [u8], &[u8], &mut [u8], &mut [u8]) -> u64;
+
 #[derive(Clone, Copy)]
 pub struct Functions {
     pub check: Check,
@@ -33,6 +36,7 @@ pub struct Functions {
     pub add: ChangePage,
     pub close: ChangePage,
     pub settle_member: SettleMember,
+    pub settle_month: SettleMonth,
 }
 
 /// The model, called as the library is.
@@ -46,6 +50,9 @@ pub const MODEL: Functions = Functions {
     close: |page, association, member| number_of(model::close(page, association, member)),
     settle_member: |tariff, page, association, member, trip, statement| {
         number_of(model::settle_member(tariff, page, association, member, trip, statement))
+    },
+    settle_month: |ceiling, kept, tariff, book, trip, statement, due| {
+        number_of(model::settle_month(ceiling, kept, tariff, book, trip, statement, due))
     },
 };
 

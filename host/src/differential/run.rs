@@ -20,7 +20,7 @@ pub struct Run {
     pub(super) name: &'static str,
     pub(super) functions: Functions,
     pub(super) tariff: Guarded,
-    book: Guarded,
+    pub(super) book: Guarded,
     pub(super) trip: Guarded,
     /// The statement, a posting's record, or the fields of a reading.
     pub(super) fourth: Guarded,
@@ -29,6 +29,9 @@ pub struct Run {
     /// A page of accounts, and the number that the last call on one answered.
     pub(super) accounts: Guarded,
     pub(super) answer: u64,
+    /// What is kept under a ceiling, and what is due.
+    pub(super) pair: Guarded,
+    pub(super) due: Guarded,
     /// What was settled in this part of the run.
     settled: Vec<Vec<u8>>,
     /// The last tariff that was checked alone.
@@ -59,7 +62,7 @@ impl Outcome {
 
 impl Run {
     pub fn of(name: &'static str, functions: Functions, print: bool) -> Run {
-        let [tariff, book, trip, fourth, kept, accounts] = [(); 6].map(|_| Guarded::new());
+        let [tariff, book, trip, fourth, kept, accounts, pair, due] = [(); 8].map(|_| Guarded::new());
         let (settled, checked, counts) = (Vec::new(), Vec::new(), Counts::default());
         let (answer, seed, part, case) = (0, 0, 0, 0);
         Run {
@@ -72,6 +75,8 @@ impl Run {
             kept,
             accounts,
             answer,
+            pair,
+            due,
             settled,
             checked,
             counts,

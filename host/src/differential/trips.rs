@@ -116,7 +116,7 @@ fn days_in_year(year: u64) -> u64 {
     }
 }
 
-fn days_in_month(year: u64, month: u64) -> u64 {
+pub fn days_in_month(year: u64, month: u64) -> u64 {
     match month {
         2 => days_in_year(year) - 337,
         4 | 6 | 9 | 11 => 30,
@@ -130,13 +130,16 @@ pub fn start(random: &mut Random) -> u64 {
         0..2 => random.below(10),
         2 => random.below(2 * HOUR),
         3 => LAST_MINUTE - random.below(4 * DAY),
-        4..9 => {
-            let months = random.below(1_200);
-            let days: u64 = (0..=months).map(|month| days_in_month(2000 + month / 12, 1 + month % 12)).sum();
-            days * DAY - 1 - random.below(400)
-        }
+        4..9 => before_a_months_end(random, 400),
         _ => random.below(LAST_MINUTE),
     }
+}
+
+/// One of so many last minutes of some month.
+pub fn before_a_months_end(random: &mut Random, minutes: u64) -> u64 {
+    let months = random.below(1_200);
+    let days: u64 = (0..=months).map(|month| days_in_month(2000 + month / 12, 1 + month % 12)).sum();
+    days * DAY - 1 - random.below(minutes)
 }
 
 /// A trip that comes after the book's last one, and the number of the edition under which it is settled; `now` is the minute

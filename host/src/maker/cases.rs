@@ -40,11 +40,19 @@
 //! quote whole    # or `cut 25`, its first 25 bytes; `longer 1`, a zero more; `off 9`, byte 9 one off; `first`, `second`, `swapped`
 //! trip ..
 //! = posted
+//! month:         # the one trip that follows is settled under a monthly ceiling
+//! ceiling 15000
+//! kept 321 14500 # before: a month, counted from January 2000, and what was collected in it; unless given, what the last one left
+//! due 4          # bytes for what is due; 4 unless given
+//! trip ..
+//! = open 526860 area 2 km 3 min 8 cents 221 off 0 by 255 0
+//! = due 221, month 12 collected 221
 //! roll:          # the records that follow are a roll
 //! trip ..
 //! ```
 //!
-//! A broken trip has two lines, one for each part. `but` offers the section once more with texts of it replaced, instead
+//! A fresh book has nothing kept beside it; `kept` takes `length`, too, which gives it as many bytes. A broken trip has two lines,
+//! one for each part. `but` offers the section once more with texts of it replaced, instead
 //! of it: on the tariff and the book that it found, and without a trace. `then` offers it after what stands before. Each
 //! text stands once in the section. Of the answer to these only the end is given, with ` / ` between two lines, or
 //! `accepted` for any that is no refusal.
@@ -53,6 +61,7 @@ use super::records::Records;
 use super::words::Words;
 use super::{bytes_of, lines_of, without_comment, Fault};
 use crate::model::book::BOOK_BYTES;
+use crate::model::month::{Kept, DUE_BYTES};
 use crate::numbers::put;
 use crate::offered::Offered;
 
@@ -65,19 +74,21 @@ pub enum Sort {
     Settle,
     Quote,
     Post,
+    Month,
     Fresh,
     Book,
     Words,
     Roll,
 }
 
-const SORTS: [(&str, Sort); 10] = [
+const SORTS: [(&str, Sort); 11] = [
     ("tariff:", Sort::Tariff),
     ("sample:", Sort::Sample),
     ("price:", Sort::Price),
     ("settle:", Sort::Settle),
     ("quote:", Sort::Quote),
     ("post:", Sort::Post),
+    ("month:", Sort::Month),
     ("fresh:", Sort::Fresh),
     ("book:", Sort::Book),
     ("words:", Sort::Words),
@@ -119,6 +130,17 @@ pub struct Content {
     pub room: Option<usize>,
     /// What is made of the quote that a posting is offered.
     pub offered: Offered,
+    /// In a month: the ceiling, what is kept before if that was said, and the bytes for what is due.
+    pub ceiling: u32,
+    pub kept: Option<Vec<u8>>,
+    pub due: usize,
+}
+
+/// That of no lines.
+impl Default for Content {
+    fn default() -> Content {
+        Content { bytes: Vec::new(), room: None, offered: Offered::Whole, ceiling: 0, kept: None, due: DUE_BYTES }
+    }
 }
 
 /// A `but` or a `then`.
@@ -195,7 +217,7 @@ impl Draft<'_> {
 /// What the lines of a section that starts at this line give.
 fn content_of(sort: Sort, line: usize, lines: &[(usize, String)]) -> Result<Content, Fault> {
     let fault = |text: &str| Fault { line, text: format!("{} {text}", sort.name()) };
-    let mut content = Content { bytes: Vec::new(), room: None, offered: Offered::Whole };
+    let mut content = Content::default();
     let mut records = Records::default();
     match sort {
         Sort::Sample | Sort::Fresh | Sort::Words if !lines.is_empty() => return Err(fault("takes no record")),
@@ -207,14 +229,17 @@ fn content_of(sort: Sort, line: usize, lines: &[(usize, String)]) -> Result<Cont
     }
     for (line, text) in lines {
         match (sort, text.split_once(' ')) {
-            (Sort::Settle | Sort::Quote, Some(("room", bytes))) => {
+            (Sort::Settle | Sort::Quote | Sort::Month, Some(("room", bytes))) => {
                 content.room = Some(numbers(*line, bytes, ["room"])?[0]);
             }
             (Sort::Post, Some(("quote", words))) => content.offered = offered_of(*line, words)?,
+            (Sort::Month, Some(("ceiling", cents))) => content.ceiling = numbers(*line, cents, ["ceiling"])?[0] as u32,
+            (Sort::Month, Some(("kept", words))) => content.kept = Some(kept_of(*line, words)?),
+            (Sort::Month, Some(("due", bytes))) => content.due = numbers(*line, bytes, ["due"])?[0],
             _ => records.take(*line, text)?,
         }
     }
-    let takes_one = matches!(sort, Sort::Price | Sort::Settle | Sort::Quote | Sort::Post);
+    let takes_one = matches!(sort, Sort::Price | Sort::Settle | Sort::Quote | Sort::Post | Sort::Month);
     match sort {
         _ if takes_one && records.is_without_lines() => Err(fault("has no record")),
         _ if takes_one && records.whole_records() > 1 => Err(fault("takes one record")),
@@ -235,6 +260,15 @@ fn offered_of(line: usize, text: &str) -> Result<Offered, Fault> {
         ("swapped", "") => Ok(Offered::Swapped),
         _ => Err(Fault { line, text: format!("'{text}' makes nothing of a quote") }),
     }
+}
+
+/// A month and an amount, or so many zeros.
+fn kept_of(line: usize, text: &str) -> Result<Vec<u8>, Fault> {
+    if let Some(rest) = text.strip_prefix("length ") {
+        return numbers(line, rest, ["the length of what is kept"]).map(|[length]| vec![0; length]);
+    }
+    let [month, amount] = numbers(line, text, ["the month", "the amount"])?;
+    Ok(Kept { month: month as u64, amount: amount as u64 }.bytes())
 }
 
 /// A book with these words.

@@ -4,7 +4,6 @@ use super::cases::{cases_of, rolls_of, sections_of, Content, Sort, Variant};
 use super::compare::difference;
 use super::encoding::text_of;
 use super::*;
-use crate::offered::Offered;
 
 fn bytes(text: &str) -> Vec<u8> {
     bytes_of(text).unwrap_or_else(|fault| panic!("{fault}"))
@@ -549,6 +548,10 @@ fn faults_of_a_case_file() {
         ("post:\nquote cut\nrecord 3", "line 2: the number of bytes is missing"),
         ("post:\nquote whole", "line 1: post: has no record"),
         ("post:\nroom 16\nrecord 3", "line 2: 'room' is no sort of line"),
+        ("month:\nceiling x\nrecord 3", "line 2: ceiling 'x' is not a number"),
+        ("month:\nkept 321\nrecord 3", "line 2: the amount is missing"),
+        ("month:\nceiling 1", "line 1: month: has no record"),
+        ("settle:\nceiling 1\nrecord 3", "line 2: 'ceiling' is no sort of line"),
         ("book:\nrecord 3", "line 2: 'record' is no line of a book"),
         ("book:\nword 1368 1", "line 2: a book has no word 1368"),
         ("book:\nword 3 7 7", "line 2: '7' is one word too many"),
@@ -569,8 +572,8 @@ fn variants_of_a_section() {
         "settle:\nroom 16\nrecord 3 07\n= refused 12 at 0\nbut 07 -> 08, room 16 -> room 17 = accepted # so\nthen = x";
     let [section] = &sections_of(text).expect("a case file")[..] else { panic!("one section") };
     assert_eq!((section.line, section.sort, section.expected[0].as_str()), (1, Sort::Settle, "refused 12 at 0"));
-    assert_eq!(section.content, Content { bytes: vec![3, 0, 3, 0, 7], room: Some(16), offered: Offered::Whole });
-    let but = Content { bytes: vec![3, 0, 3, 0, 8], room: Some(17), offered: Offered::Whole };
+    assert_eq!(section.content, Content { bytes: vec![3, 0, 3, 0, 7], room: Some(16), ..Content::default() });
+    let but = Content { bytes: vec![3, 0, 3, 0, 8], room: Some(17), ..Content::default() };
     let variant =
         |line, leaves_a_trace, content, end: &str| Variant { line, leaves_a_trace, content, end: end.to_string() };
     assert_eq!(section.variants, [variant(5, false, but, "accepted"), variant(6, true, section.content.clone(), "x")]);
@@ -587,6 +590,15 @@ fn quotes_and_postings() {
         assert_eq!(sections[0].content.room, Some(9));
         assert_eq!(sections[1].content.offered.bytes(&[1, 2, 3, 4]), record, "{words}");
     }
+}
+
+#[test]
+fn months() {
+    let text = "month:\nceiling 15000\nkept 321 258\ndue 3\nroom 9\nrecord 3\nmonth:\nkept length 7\nrecord 3";
+    let [first, second] = &sections_of(text).expect("a case file")[..] else { panic!("two sections") };
+    let Content { ceiling, kept, due, room, .. } = first.content.clone();
+    assert_eq!((ceiling, kept, due, room), (15_000, Some(vec![65, 1, 0, 0, 2, 1, 0, 0]), 3, Some(9)));
+    assert_eq!((second.content.ceiling, second.content.kept.clone(), second.content.due), (0, Some(vec![0; 7]), 4));
 }
 
 #[test]

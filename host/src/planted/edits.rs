@@ -7,7 +7,7 @@ pub struct Planted {
     pub edits: &'static [(&'static str, &'static str, &'static str)],
 }
 
-pub const PLANTED: [Planted; 52] = [
+pub const PLANTED: [Planted; 60] = [
     // Promise 1: a refusal changes nothing, and the refusals are tried in their order.
     Planted {
         name: "refusal_12_writes_the_book",
@@ -397,6 +397,57 @@ pub const PLANTED: [Planted; 52] = [
             "page[bytes_of(place)].fill(0);
              let other = bytes_of((place + PLACES_OF_EACH) % PLACES);
              if number(&page[other.clone()][..NUMBER_BYTES]) == u64::from(member) { page[other].fill(0); }",
+        )],
+    },
+    // A monthly ceiling: whose month, what is collected, and what a refusal leaves.
+    Planted {
+        name: "month_of_the_check_out",
+        edits: &[("month.rs", "month_of(trip.check_in.minute_number()", "month_of(trip.check_out.minute_number()")],
+    },
+    Planted {
+        name: "month_by_the_local_clock",
+        edits: &[(
+            "month.rs",
+            "let month = month_of(trip.check_in.minute_number().expect(\"accepted, so a time\"));",
+            "let month = 12 * (trip.check_in.year - FIRST_YEAR) + trip.check_in.month - 1;",
+        )],
+    },
+    Planted {
+        name: "first_record_collected_alone",
+        edits: &[("month.rs", "charge_records.iter().map(ChargeRecord::total)", "charge_records[..1].iter().map(ChargeRecord::total)")],
+    },
+    Planted {
+        name: "later_month_goes_on",
+        edits: &[("month.rs", "if found.month == month {", "if found.month >= month {")],
+    },
+    Planted {
+        name: "nothing_due_keeps_the_month",
+        edits: &[(
+            "month.rs",
+            "kept.copy_from_slice(",
+            "let is_kept = collected == 0 && found.month != month;
+             if !is_kept { kept.copy_from_slice(",
+        ), (
+            "month.rs",
+            "Kept { month, amount: before + collected }.bytes());",
+            "Kept { month, amount: before + collected }.bytes()); }",
+        )],
+    },
+    Planted {
+        name: "amount_lowered_with_the_ceiling",
+        edits: &[("month.rs", "amount: before + collected", "amount: (before + collected).min(ceiling)")],
+    },
+    Planted {
+        name: "ceiling_after_the_tariff",
+        edits: &[("month.rs", "unless(ceiling <= MOST, 24)?;", "super::read_file(tariff)?; unless(ceiling <= MOST, 24)?;")],
+    },
+    Planted {
+        name: "room_for_what_is_due_first",
+        edits: &[(
+            "month.rs",
+            "let (new_book, charge_records) = outcome(tariff, book, trip, room)?;",
+            "unless(DUE_BYTES <= due.len(), 12)?;
+             let (new_book, charge_records) = outcome(tariff, book, trip, room)?;",
         )],
     },
 ];

@@ -1,0 +1,4 @@
+pub mod Kept
+pub mod Months
+pub mod Trips
+pub mod Outcomes
