@@ -1,10 +1,10 @@
-// Closed months: which books there are, from which of them the trips go on, whether those fit the tariff, which trips
-// of a closed month the books lack, and what speaks against closing a month now.
+// Closed months: which books there are, from which of them the trips go on, whether those fit the tariff, and what
+// speaks against closing a month now.
 import { bookEdition, openUntil } from './account.mjs';
-import { closedIn, isUnderCeiling, parsedBooks, readBooks } from './books.mjs';
+import { closedIn, isUnderCeiling, readBooks } from './books.mjs';
+import { freshKept } from './ceiling.mjs';
 import { WINDOW } from './editions.mjs';
-import { decoded } from './encoding.mjs';
-import { notKept } from './kept.mjs';
+import { BOOK_BYTES } from './engine.mjs';
 import { mistakeText } from './mistakes.mjs';
 import { firstOf, lastOf, monthBefore, monthBehind, startOf } from './months.mjs';
 import { structureOf } from './tariff.mjs';
@@ -38,6 +38,12 @@ export function booksIn(desk, tariff, closings) {
     for (const month of due) fitMonths(desk, closings.get(month), closings.get(month) === file ? books : null);
     if (tariff.hash) fitEditions(desk, tariff.editions, books, file);
     return { ...books, file };
+}
+
+/** What books have of a member: the book, and what is kept of the month under a ceiling; of none, fresh ones. */
+export function accountIn(books, name) {
+    const book = books?.books.get(name) ?? new Uint8Array(BOOK_BYTES);
+    return { book, kept: books?.collected?.get(name) ?? freshKept() };
 }
 
 // ---- Books and months
@@ -87,49 +93,20 @@ function isSame(mistakes, edition, { from, tariff, structure, values, areas }, n
     return values === edition.values && from === edition.from;
 }
 
-// ---- Trips of closed months
+/** Whether areas mean what they meant when books were kept, also older ones than those that the trips go on from. */
+export function fitsAreas(editions, books) {
+    return books.editions.every(({ tariff, structure, areas }, i) => {
+        if (structure === undefined || !editions[i]) return tariff === editions[i]?.hash;
+        return structureOf(editions[i].areas.slice(0, areas)) === structure;
+    });
+}
+
+// ---- Trips
 
 /** Those trips that are neither in the books already nor behind the period. */
-export function dueTrips(desk, books, closings, trips, { editions }) {
-    const { period } = desk;
+export function dueTrips({ period }, books, trips) {
     const closed = books?.period ?? '';
-    tellOld(desk, books, closings, trips.filter(({ month }) => month <= closed), editions);
     return trips.filter(({ month }) => month > closed && (period === null || month <= period));
-}
-
-/** Names each trip of a closed month that its books lack; of books that keep no trips it tells how many there are. */
-function tellOld({ mistakes }, books, closings, old, editions) {
-    const unknown = [];
-    for (const [month, own] of byMonth(old)) {
-        const kept = keepersOf(month, books, closings);
-        if (kept === null) unknown.push(...own);
-        else for (const trip of notKept(own, kept, editions)) tellLate(mistakes, trip, kept.file.name);
-    }
-    if (unknown.length === 0) return;
-    const { file, line } = unknown[0];
-    mistakes.warning(file, line, 'inBooks', { count: unknown.length, closed: books.period });
-}
-
-function tellLate(mistakes, { file, line, member, month }, books) {
-    mistakes.warning(file, line, 'lateTrip', { member, month, books });
-}
-
-function byMonth(trips) {
-    const months = new Map();
-    for (const trip of trips) {
-        if (!months.has(trip.month)) months.set(trip.month, []);
-        months.get(trip.month).push(trip);
-    }
-    return months;
-}
-
-/** The books that keep a closed month's trips: those of the first closing from it on. Null where they keep none. */
-function keepersOf(month, books, closings) {
-    const [closed] = [...closings.keys()].filter((closing) => closing >= month).sort();
-    const file = closings.get(closed);
-    const kept = file === books.file ? books : parsedBooks(decoded(file.bytes).text ?? '');
-    const there = kept?.trips && (kept.before === null || kept.before < month);
-    return there ? { ...kept, file } : null;
 }
 
 // ---- What came before
@@ -156,9 +133,9 @@ export function warnOfLostWindows({ period, months, monthZone, mistakes }, membe
 /**
  * What is to be said before a month is closed, as {kind, key, values, text}: an 'error' where it is likely not meant,
  * so that it is done only if asked for once more (--force), or never where it is closed already ('closeTwice'); and a
- * 'warning'. `today` is a date, or null: not known.
+ * 'warning'. `today` is a date, or null: not known. `unpaid` are closed months that have a supplement.
  */
-export function closingDoubts({ period, today, months, closings, language }) {
+export function closingDoubts({ period, today, months, closings, unpaid, language }) {
     if (period === null) return [];
     const present = today?.slice(0, 7) ?? null;
     const later = [...closings.keys()].filter((month) => month > period);
@@ -168,6 +145,7 @@ export function closingDoubts({ period, today, months, closings, language }) {
         ...(present !== null && period > present ? [['error', 'closeFuture', { period, today }]] : []),
         ...(open.length > 0 ? [['error', 'closeGap', { period, months: open }]] : []),
         ...(later.length > 0 ? [['error', 'closeEarlier', { later: lastOf(later) }]] : []),
+        ...(unpaid.length > 0 ? [['error', 'closeSupplement', { months: unpaid }]] : []),
         ...(period === present ? [['warning', 'closeRunning', { period, today }]] : []),
     ];
     return doubts.map(([kind, key, values]) => ({ kind, key, values, text: mistakeText({ key, values }, language) }));

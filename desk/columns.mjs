@@ -43,6 +43,10 @@ export const GERMAN = {
     town: ['Ort'],
     child_ticket: ['Kinderticket'],
     ...letters('child', 'Kinderticket'),
+    // corrections
+    file: ['Datei'],
+    line: ['Zeile'],
+    cancel: ['streichen', 'gestrichen'],
     // members
     number: ['Personalnummer', 'Nummer'],
     email: ['E-Mail-Adresse', 'Mail'],

@@ -8,11 +8,13 @@ import { booksName, booksText } from './books.mjs';
 import { builtSalvager, builtWasm } from './building.mjs';
 import { ceilingOf, monthZoneOf, noCeiling } from './ceiling.mjs';
 import { dayOf, todayIn } from './clock.mjs';
+import { differencesText } from './differences.mjs';
 import { loadEngine } from './engine.mjs';
 import { mistakeLine, mistakeText } from './mistakes.mjs';
 import { isPeriod } from './months.mjs';
 import { fileSafe } from './names.mjs';
 import { writeFiles } from './output.mjs';
+import { reopenedBooks } from './reopening.mjs';
 import { OPEN, runDesk } from './run.mjs';
 import { KEPT, salvaged } from './salvage.mjs';
 import { agreeStatements, membersOf, statementText } from './statement.mjs';
@@ -77,9 +79,9 @@ async function orMistaken(language, make, say) {
 
 // ---- The call
 
-const TEXTS = ['members', 'period', 'format', 'out', 'language', 'member', 'today', 'ceiling'];
+const TEXTS = ['members', 'corrections', 'period', 'format', 'out', 'language', 'member', 'today', 'ceiling'];
 const LISTS = ['areas', 'stops', 'trips', 'books'];
-const MARKS = ['force', 'new-tariff', 'strict'];
+const MARKS = ['force', 'new-tariff', 'reopen', 'strict'];
 const OPTIONS = {
     ...Object.fromEntries(TEXTS.map((name) => [name, { type: 'string' }])),
     ...Object.fromEntries(LISTS.map((name) => [name, { type: 'string', multiple: true }])),
@@ -90,7 +92,8 @@ const OPTIONS = {
 
 const OF_ONE = ['settle', 'statement', 'wages']; // what can be had of one member
 const SALVAGE = 'salvage'; // of a roll, without tariff, books or months
-const ACTIONS = { check: checked, settle: settled, statement: stated, wages: waged, close: closed };
+const CORRECT = 'correct'; // settles twice, and prices what changes in closed months
+const ACTIONS = { check: checked, settle: settled, statement: stated, wages: waged, correct: corrected, close: closed };
 
 async function callOf(args) {
     const { values, positionals } = parsed(args);
@@ -108,6 +111,7 @@ async function callOf(args) {
     if (!FORMATS.includes(format)) throw new Mistaken(words.allowed('format', FORMATS), true);
     if (action === 'close' && values.period === undefined) throw new Mistaken(words.due, true);
     if (values.member !== undefined && !OF_ONE.includes(action)) throw new Mistaken(words.one(OF_ONE), true);
+    if (values.reopen && action !== CORRECT) throw new Mistaken(words.reopen, true);
     const ceiling = ceilingIn(values, language);
     return { ...values, ...datesOf({ ...values, ceiling }, words), ceiling, action, folder, format, language, words };
 }
@@ -165,11 +169,14 @@ async function perform(call) {
     const files = await prepared(filesOf(call, found));
     const engine = await orMistaken(language, () => engineOf(words), words.engineless);
     const progress = progressLine(words);
-    const result = runDesk({ engine, files, period, language, today, strict, ceiling, newTariff, progress });
+    const asked = { correct: call.action === CORRECT, reopen: call.reopen };
+    const options = { engine, files, period, language, today, strict, ceiling, newTariff, progress, ...asked };
+    const result = runDesk(options);
     const books = [files.books].flat().find(({ name }) => name === result.booksFile);
     if (books) tell(words.books(books.place));
+    if (result.corrections) tell(words.corrections(files.corrections.place, result.corrections));
     agreed(call, () => agreeStatements(result));
-    await ACTIONS[call.action](call, result);
+    await ACTIONS[call.action](call, result, options);
     if (result.errors > 0) return MISTAKEN;
     return result.refused > 0 ? TRIP_REFUSED : ALL_PRICED;
 }
@@ -189,6 +196,7 @@ function filesOf(call, found) {
         areas: call.areas ?? inFolder(tablesIn(found, /^areas(-.*)?\.\w+$/, 'areas.csv')),
         stops: call.stops ?? inFolder(tablesIn(found, /^stops(-.*)?\.\w+$/, 'stops.csv')),
         members: call.members ? [call.members] : inFolder(tablesIn(found, /^members\.\w+$/)),
+        corrections: call.corrections ? [call.corrections] : inFolder(tablesIn(found, /^corrections\.\w+$/)),
         trips: call.trips ?? inFolder(tablesIn(found, /^trips/i, 'trips.csv')),
         books: call.books ?? inFolder(booksAmong(found)),
     };
@@ -198,7 +206,8 @@ function filesOf(call, found) {
     if (unread.length > 0) throw new Mistaken(words.unread(unread));
     const apart = Object.fromEntries(read.map(([sort, files]) => [sort, toldApart(files)]));
     const named = call.books?.length === 1; // one that is named is meant, whatever it closes
-    return { ...apart, members: apart.members[0], books: named ? apart.books[0] : apart.books };
+    const [members, corrections] = [apart.members[0], apart.corrections[0]];
+    return { ...apart, members, corrections, books: named ? apart.books[0] : apart.books };
 }
 
 /** A folder's tables of such a name, in order, those that are saved as CSV as that; of none the one that is due. */
@@ -303,14 +312,30 @@ async function waged(call, result) {
     await put(call, [[`wages.${call.format}`, wagesText(asked(call, result), call.format, call.language)]]);
 }
 
+/** The differences and, with supplements, the wages. Closed books are replaced where they lie, and only if asked. */
+async function corrected(call, result, options) {
+    if (!isClean(result)) return;
+    const { format, language, words } = call;
+    const { period, months, supplements } = result;
+    if (months.some(({ month, closed: is }) => is && month === period)) throw new Mistaken(words.openOnly(period));
+    const { files, fault } = call.reopen ? reopenedBooks(options, result) : { files: [], fault: null };
+    if (fault) throw new Mistaken(words.unopened(fault));
+    const wages = supplements.length > 0 ? [[`wages.${format}`, wagesText(result, format, language)]] : [];
+    await put(call, [[`differences.${format}`, differencesText(result, format, language)], ...wages]);
+    for (const { name, bytes } of files) {
+        const { place } = [options.files.books].flat().find((own) => own.name === name);
+        await put({ ...call, out: path.dirname(place) }, [[path.basename(place), bytes]]);
+    }
+}
+
 /** What the tables are made of: all of it, or of the member who is asked for. */
 function asked({ member, words }, result) {
     if (member === undefined) return result;
-    const { tariff, tripFiles, roster, ceiling } = result;
+    const { tariff, tripFiles, roster, ceiling, corrections } = result;
     const members = membersOf(result).filter(({ name }) => name === member);
     if (members.length === 0) throw new Mistaken(words.member(member));
     const wages = result.wages.filter((row) => row.member === member);
-    return { tariff, tripFiles, roster, ceiling, members, wages };
+    return { tariff, tripFiles, roster, ceiling, corrections, members, wages };
 }
 
 async function stated(call, result) {

@@ -112,9 +112,9 @@ function closingQuote(text, from) {
 export const IN_HEADER = 'header';
 
 /**
- * What `take` makes of a file's rows, objects by column with their line; a row that it makes null of is left out. What
- * is amiss goes to the mistakes. `columns` has for each name whether it is due: true, false or IN_HEADER; one that is
- * not, and not there, is empty in every row. Null where no row can be read.
+ * What `take(row, line)` makes of a file's rows, objects by column with their line, unless a column has that name; a
+ * row that it makes null of is left out. What is amiss goes to the mistakes. `columns` has for each name whether it is
+ * due: true, false or IN_HEADER; one that is not, and not there, is empty in every row. Null where no row can be read.
  */
 export function readTable(file, columns, mistakes, take = (row) => row) {
     if (file.bytes === null) return mistakes.error(file.name, 1, 'missing');
@@ -125,7 +125,7 @@ export function readTable(file, columns, mistakes, take = (row) => row) {
     const broken = eachRow(text, (cells, line, separator) => {
         if (table === undefined) return (table = tableOf(file.name, cells, line, columns, mistakes));
         const row = table && filledRow(table, cells, line, separator, mistakes);
-        const taken = row && take(row);
+        const taken = row && take(row, line);
         if (taken) rows.push(taken);
     });
     if (broken !== null) mistakes.error(file.name, broken, 'quote');

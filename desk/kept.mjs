@@ -1,6 +1,7 @@
-// The trips that closed books keep, each with what it was charged, and which of today's trips are not among them. A
-// stop stands there by the word that trips.csv would have for it, and the file says beside which id the word has in
-// which edition.
+// The trips that closed books keep, each with what it was charged, and which of today's trips are among them. A stop
+// stands there by the word that trips.csv would have for it, and the file says beside which id the word has in which
+// edition.
+import { monthOf } from './clock.mjs';
 import { directory } from './tariff.mjs';
 import { isoOf, stopsIn } from './trips.mjs';
 
@@ -53,32 +54,51 @@ function hasOutcome({ cents = null, refused = null }) {
 
 const isCount = (number) => Number.isInteger(number) && number >= 0;
 
-// ---- Which are not among them
+// ---- Today's beside them
 
 /**
- * Those of today's trips that the books' kept ones lack; one that is there twice has to be kept twice. Under which
- * edition a trip was settled is known of the kept ones alone, so it may be the same under any.
+ * Today's trips beside those that books keep, member → trips: `known` are those of today's that they have, `late` those
+ * that they lack, and `gone` what they keep and today's lack, member → trips. One that is there twice has to be kept
+ * twice. Under which edition a trip was settled is known of the kept ones alone, so it may be the same under any.
  */
-export function notKept(trips, { trips: kept, editions: then }, editions) {
-    const numberOf = editions.map(({ stops }, i) => stopNumbers(stops, then[i]?.stopIds ?? {}));
-    const left = new Map();
-    const add = (key, number) => left.set(key, (left.get(key) ?? 0) + number);
-    for (const member of new Set(trips.map((trip) => trip.member))) {
-        for (const trip of kept.get(member) ?? []) {
-            const { edition = 1, stops } = trip;
-            add(keyOf(member, trip, edition, stops.map(numberOf[edition - 1] ?? (() => null))), 1);
-        }
-    }
-    return trips.filter((trip) => {
+export function besideKept(trips, { trips: kept, editions: then }, editions) {
+    const left = keptByKey(kept, then, editions);
+    const isKept = (trip) => {
         const keys = editions.map(({ number }) => {
             return keyOf(trip.member, sameAsKept(trip), number, stopsIn(trip, number));
         });
-        const key = keys.find((own) => left.get(own) > 0);
-        if (key === undefined) return true;
-        add(key, -1);
-        return false;
-    });
+        const key = keys.find((own) => left.get(own)?.trips.length > 0);
+        return key !== undefined && left.get(key).trips.shift() !== undefined;
+    };
+    const [known, late, gone] = [[], [], new Map()];
+    for (const trip of trips) (isKept(trip) ? known : late).push(trip);
+    for (const { member, trips: own } of left.values()) {
+        if (own.length > 0) gone.set(member, [...(gone.get(member) ?? []), ...own]);
+    }
+    return { known, late, gone };
 }
+
+/** Kept trips by what makes them the same again, each with its member. */
+function keptByKey(kept, then, editions) {
+    const numberOf = editions.map(({ stops }, i) => stopNumbers(stops, then[i]?.stopIds ?? {}));
+    const byKey = new Map();
+    for (const [member, trips] of kept) {
+        for (const trip of trips) {
+            const { edition = 1, stops } = trip;
+            const key = keyOf(member, trip, edition, stops.map(numberOf[edition - 1] ?? (() => null)));
+            if (!byKey.has(key)) byKey.set(key, { member, trips: [] });
+            byKey.get(key).trips.push(trip);
+        }
+    }
+    return byKey;
+}
+
+/** The month of a kept trip, by the clock of a zone. */
+export function keptMonth({ in: from }, zone) {
+    return monthOf(zone, (Date.parse(from) - FIRST_MINUTE) / 60000);
+}
+
+const FIRST_MINUTE = Date.parse('2000-01-01T00:00Z');
 
 /** A trip's times and party as they are kept. */
 function sameAsKept({ checkIn, checkOut, class: travelClass, level, party: { adults, children, bicycles } }) {

@@ -15,6 +15,12 @@ const place = {
     en: ({ file, line }) => (file ? `${file}:${line}` : `line ${line}`),
 };
 
+/** What stands behind a mistake of a trip that is corrected. */
+const CORRECTED = {
+    de: ({ name, line }) => ` (berichtigt in ${name}, Zeile ${line})`,
+    en: ({ name, line }) => ` (corrected in ${name}, line ${line})`,
+};
+
 const MOST_NAMES = 40;
 
 /** Names one behind another; of more than can be looked at how many there are besides. */
@@ -194,6 +200,31 @@ const TEXTS = {
     taken: {
         de: ({ column, value, line }) => `${column} '${value}': schon in Zeile ${line} vergeben`,
         en: ({ column, value, line }) => `${column} '${value}': taken already in line ${line}`,
+    },
+    // corrections
+    tripFileDue: {
+        de: ({ files }) => `file ist leer, und Fahrten stehen in mehreren Dateien: ${listed.de(files)}`,
+        en: ({ files }) => `file is empty, and trips stand in several files: ${listed.en(files)}`,
+    },
+    noTripFile: {
+        de: ({ value, near }) => `file '${value}': keine solche Datei mit Fahrten${meant.de(near)}`,
+        en: ({ value, near }) => `file '${value}': no such file of trips${meant.en(near)}`,
+    },
+    noTripLine: {
+        de: ({ trips, line }) => `line '${line}': in ${trips} steht dort keine Fahrt`,
+        en: ({ trips, line }) => `line '${line}': ${trips} has no trip there`,
+    },
+    correctedTwice: {
+        de: ({ trips, line, other }) => `line '${line}' von ${trips} ist schon in Zeile ${other} berichtigt`,
+        en: ({ trips, line, other }) => `line '${line}' of ${trips} is corrected already in line ${other}`,
+    },
+    cancelAlone: {
+        de: ({ columns }) => `die Fahrt wird gestrichen; ${columns.join(', ')} muss dann leer sein`,
+        en: ({ columns }) => `the trip is cancelled; ${columns.join(', ')} has to be empty then`,
+    },
+    correctsNothing: {
+        de: () => 'hier wird nichts berichtigt: weder cancel noch eine Spalte der Fahrten ist ausgefüllt',
+        en: () => 'nothing is corrected here: neither cancel nor a column of the trips is filled in',
     },
     // the tariff
     editionDay: {
@@ -377,14 +408,66 @@ const TEXTS = {
     lateTrip: {
         de: ({ member, month, books }) =>
             `'${member}', nachgereicht oder geändert: die Fahrt liegt im abgeschlossenen ${monthText(month, 'de')}, ` +
-            `dessen Bücher (${books}) sie nicht haben, und wird nicht berechnet. Ist der Monat noch nicht ` +
-            `ausgezahlt, diese und spätere Bücher löschen und neu abschließen; sonst zeigt ${month}, als Monat ` +
-            'gewählt (--period), was er mit ihr kostet, und der Unterschied ist einzeln abzurechnen',
+            `dessen Bücher (${books}) sie nicht so haben, und wird hier nicht berechnet. './milecopper correct' ` +
+            'berechnet sie als Nachtrag',
         en: ({ member, month, books }) =>
             `'${member}', late or changed: the trip lies in ${monthText(month, 'en')}, which is closed and whose ` +
-            `books (${books}) do not have it, and is not priced. If the month is not paid yet, delete these and ` +
-            `later books and close again; else ${month}, chosen as the month (--period), shows what it costs with ` +
-            'the trip, and the difference has to be settled by itself',
+            `books (${books}) do not have it so, and is not priced here. './milecopper correct' prices it as a ` +
+            'supplement',
+    },
+    supplement: {
+        de: ({ member, month, books }) =>
+            `'${member}', nachgereicht oder geändert: die Fahrt liegt im abgeschlossenen ${monthText(month, 'de')} ` +
+            `(${books}), und was sich dort ändert, wird als Nachtrag berechnet`,
+        en: ({ member, month, books }) =>
+            `'${member}', late or changed: the trip lies in ${monthText(month, 'en')}, which is closed (${books}), ` +
+            'and what changes there is priced as a supplement',
+    },
+    supplementUnkept: {
+        de: ({ month, books }) =>
+            `kein Nachtrag möglich: die Fahrt liegt im abgeschlossenen ${monthText(month, 'de')}, und ${books} hat ` +
+            'noch keine Fahrten, also auch nicht, was für sie berechnet wurde',
+        en: ({ month, books }) =>
+            `no supplement is possible: the trip lies in ${monthText(month, 'en')}, which is closed, and ${books} ` +
+            'keeps no trips, so it does not say what was charged for it',
+    },
+    supplementBefore: {
+        de: ({ member, closed, before }) =>
+            `'${member}': für den Nachtrag fehlen die Bücher, von denen ${closed} ausging: books-${before}.json`,
+        en: ({ member, closed, before }) =>
+            `'${member}': for the supplement the books are missing that ${closed} went on from: books-${before}.json`,
+    },
+    supplementTariff: {
+        de: ({ member, before }) =>
+            `'${member}': kein Nachtrag möglich: ${before} gehört zu einem Tarif mit anderen Gebieten`,
+        en: ({ member, before }) =>
+            `'${member}': no supplement is possible: ${before} belongs to a tariff with other areas`,
+    },
+    supplementApart: {
+        de: ({ member, closed, before }) =>
+            `'${member}': kein Nachtrag möglich: ${closed} geht nicht von ${before} aus, oder hat keine Fahrten`,
+        en: ({ member, closed, before }) =>
+            `'${member}': no supplement is possible: ${closed} does not go on from ${before}, or keeps no trips`,
+    },
+    supplementMissing: {
+        de: ({ member, closed, count, first }) =>
+            `'${member}': kein Nachtrag möglich: in ${closed} stehen Fahrten, die heute fehlen (${count}, die erste ` +
+            `vom ${dateText(first, 'de')}, ${first.slice(11, 16)}). Alle Fahrten seit den Büchern davor gehören ` +
+            'dazu, wie sie waren; geändert und gestrichen wird in corrections.csv',
+        en: ({ member, closed, count, first }) =>
+            `'${member}': no supplement is possible: ${closed} has trips that are missing today (${count}, the first ` +
+            `of ${dateText(first, 'en')}, ${first.slice(11, 16)}). All trips since the books before have to be ` +
+            'there as they were; they are changed and cancelled in corrections.csv',
+    },
+    supplementPrices: {
+        de: ({ member, month, charged, due }) =>
+            `'${member}': die Fahrten, die für ${monthText(month, 'de')} in den Büchern stehen, kosten nach dem ` +
+            `heutigen Tarif ${moneyText(due, 'de')}, und berechnet wurden ${moneyText(charged, 'de')}; auch dieser ` +
+            'Unterschied steckt im Nachtrag',
+        en: ({ member, month, charged, due }) =>
+            `'${member}': the trips that the books have of ${monthText(month, 'en')} cost ${moneyText(due, 'en')} ` +
+            `under today's tariff, and ${moneyText(charged, 'en')} was charged; this difference, too, is in the ` +
+            'supplement',
     },
     lostWindows: {
         de: ({ names, month, before, cents }) =>
@@ -425,6 +508,14 @@ const TEXTS = {
         de: ({ later }) => `${monthText(later, 'de')} ist schon abgeschlossen, und seine Bücher wüssten hiervon nichts`,
         en: ({ later }) => `${monthText(later, 'en')} is closed already, and its books would know nothing of this`,
     },
+    closeSupplement: {
+        de: ({ months }) =>
+            `für ${months.map((month) => monthText(month, 'de')).join(', ')} gibt es einen Nachtrag, und solange die ` +
+            'Bücher nicht ersetzt sind (--reopen), kommt er im nächsten Monat noch einmal',
+        en: ({ months }) =>
+            `there is a supplement for ${months.map((month) => monthText(month, 'en')).join(', ')}, and until the ` +
+            'books are replaced (--reopen), it will come again next month',
+    },
     closeRunning: {
         de: ({ period, today }) =>
             `${monthText(period, 'de')} ist noch nicht vorbei (heute ist ${dayText(today, 'de')}); ` +
@@ -464,6 +555,7 @@ const MOST_TOLD = 1000; // errors, and as many warnings; of what comes behind th
  */
 export class Mistakes {
     constructor(language, files, strict = false) {
+        this.corrections = null; // once the trips are read: where a mistake of a corrected one comes from
         this.language = language;
         this.files = files;
         this.strict = strict;
@@ -486,7 +578,10 @@ export class Mistakes {
     }
 
     worded(mistake) {
-        return { ...mistake, text: mistakeText(mistake, this.language) };
+        const { name, at } = this.corrections ?? {};
+        const line = at?.(mistake.file, mistake.line);
+        const behind = line === undefined ? '' : CORRECTED[this.language]({ name, line });
+        return { ...mistake, text: mistakeText(mistake, this.language) + behind };
     }
 
     error(file, line, key, values) {

@@ -1,21 +1,27 @@
 // The desk's work in one function, which page and command both call: files in, everything out.
 import { Disagreement, lastCheckOut, settleMember } from './account.mjs';
 import { capsOf } from './caps.mjs';
-import { freshKept, isCeiling, monthZoneOf } from './ceiling.mjs';
+import { isCeiling, monthZoneOf } from './ceiling.mjs';
 import { clockOf } from './clock.mjs';
-import { booksIn, closingDoubts, closingsIn, dueTrips, warnOfLostWindows } from './closings.mjs';
+import { accountIn, booksIn, closingDoubts, closingsIn, dueTrips, warnOfLostWindows } from './closings.mjs';
+import { correctedTrips, correctionsIn, readCorrections } from './corrections.mjs';
+import { differencesOf } from './differences.mjs';
 import { placeOf, warnOfNearBooks, warnOfNearMembers, warnOfSlips } from './doubts.mjs';
 import { dayInName, editionFiles } from './editions.mjs';
-import { BOOK_BYTES } from './engine.mjs';
+import { closedSpans, tellClosed } from './late.mjs';
 import { checkMembers, readMembers } from './members.mjs';
 import { Mistakes } from './mistakes.mjs';
 import { isPeriod, monthsOf, openMonth } from './months.mjs';
+import { NO_SUPPLEMENTS, supplementsOf } from './supplements.mjs';
 import { readTariff, recordAt } from './tariff.mjs';
 import { momentIn, readTrips, tripsByMember } from './trips.mjs';
 import { agreeWages, chargesOf, wagesOf } from './wages.mjs';
 import { reasonText } from './words.mjs';
 
-const NAMES = { areas: 'areas.csv', stops: 'stops.csv', trips: 'trips.csv', members: 'members.csv' };
+const NAMES = {
+    ...{ areas: 'areas.csv', stops: 'stops.csv', trips: 'trips.csv' },
+    ...{ members: 'members.csv', corrections: 'corrections.csv' },
+};
 
 /**
  * Reads the files, each as bytes, as text or as {name, bytes}, and of trips, areas and stops one or several in a list,
@@ -31,12 +37,18 @@ const NAMES = { areas: 'areas.csv', stops: 'stops.csv', trips: 'trips.csv', memb
  *
  * `ceiling`: the cents to which a member's month is limited, or null. With one, months are those of UTC (`monthZone`).
  *
- * `files.members` may be there: it says who is who.
+ * `files.members` may be there: it says who is who. So may `files.corrections`: then all that is said is of the
+ * corrected trips. `correct`: what the corrections change is put out, too, and what they and late trips change in
+ * closed months, as supplements; with `tolerant` those that cannot be priced are warnings. `reopen`: the trips go on
+ * from books as they would be with these.
  *
- * Of the result, `roster` has the members of that file by name (`readMembers`) or is null; `booksFile` is the name of
- * the books that were gone on from, `booksCeiling` the ceiling that they know or null, `collected` what is kept of each
- * member's month (`keptOf`), `months` are those that there are (`monthsOf`), `open` the one to choose
- * (`openMonth`), and `closing` what is to be said before the period is closed (`closingDoubts`).
+ * Of the result, `roster` has the members of that file by name (`readMembers`) or is null; `closings` are the books,
+ * month → file, `booksFile` is the name of those that were gone on from, `booksCeiling` the ceiling that they know or
+ * null, `collected` what is kept of each member's month (`keptOf`), `months` are those that there are (`monthsOf`),
+ * `open` the one to choose (`openMonth`), and `closing` what is to be said before the period is closed
+ * (`closingDoubts`). `corrections` says how many trips are corrected (`correctionsIn`), `differences` has what that
+ * changes (`differencesOf`), `supplements` has rows like those of the wages, and `reopens` is the first closed month
+ * that would be another now, or null.
  */
 export function runDesk({ files, period: asked = null, zone = 'Europe/Berlin', language = 'de', ...options }) {
     if (asked !== null && asked !== OPEN && !isPeriod(asked)) throw new RangeError(`${asked} is no month`);
@@ -46,7 +58,10 @@ export function runDesk({ files, period: asked = null, zone = 'Europe/Berlin', l
     const desk = deskOf({ ...options, zone, monthZone, ceiling }, files, language);
     const tariff = tariffIn(desk);
     const roster = readMembers(desk.files.members, desk.mistakes);
-    const trips = readTrips(desk.files.trips, tariff.editions, desk, desk.mistakes);
+    const corrections = readCorrections(desk.files.corrections, desk.files.trips, desk.mistakes);
+    const read = readTrips(desk.files.trips, tariff.editions, desk, desk.mistakes, corrections);
+    const trips = correctedTrips(read);
+    desk.mistakes.corrections = corrections;
     if (roster) checkMembers(trips, roster, desk.files.members, desk.mistakes);
     else warnOfNearMembers(desk, trips); // where it is said who is who, near names are two
     warnOfSlips(desk, trips, tripsByMember(trips));
@@ -56,9 +71,12 @@ export function runDesk({ files, period: asked = null, zone = 'Europe/Berlin', l
     const period = asked === OPEN ? open : asked;
     Object.assign(desk, { period, months, roster });
     const books = booksIn(desk, tariff, closings);
-    const settled = desk.mistakes.count('error') === 0 ? settledOrNot(desk, tariff, books, closings, trips) : null;
+    const work = { books, closings, read, trips };
+    const settled = desk.mistakes.count('error') === 0 ? settledOrNot(desk, tariff, work) : null;
     const errors = desk.mistakes.count('error'); // where warnings are errors, settling may have found some, too
-    const { members, wages, refused, books: kept, collected } = errors === 0 ? settled : NOTHING;
+    const { members, wages, refused, books: kept, collected, ...changes } = errors === 0 ? settled : NOTHING;
+    const { differences, supplements } = changes;
+    const unpaid = desk.reopen ? [] : [...new Set(supplements.rows.map((row) => row.period))].sort();
     let charges = null;
     return {
         mistakes: desk.mistakes.sorted(),
@@ -67,10 +85,12 @@ export function runDesk({ files, period: asked = null, zone = 'Europe/Berlin', l
         tariff: tariffOf(desk, tariff),
         ...{ period, zone, language, version: engine.version, tripFiles: desk.files.trips.map(({ name }) => name) },
         ...{ ceiling, monthZone, booksCeiling: books?.ceiling ?? null },
-        ...{ booksPeriod: books?.period ?? null, booksFile: books?.file.name ?? null },
+        ...{ closings, booksPeriod: books?.period ?? null, booksFile: books?.file.name ?? null },
         association: books?.association ?? null,
-        ...{ roster, months, open, closing: closingDoubts({ period, today, months, closings, language }) },
+        ...{ roster, months, open, closing: closingDoubts({ period, today, months, closings, unpaid, language }) },
         ...{ members, wages, refused, books: kept, collected },
+        ...{ corrections: correctionsIn(corrections, read), differences },
+        ...{ supplements: supplements.rows, reopens: supplements.first },
         /** The largest table, made when it is asked for. */
         get charges() {
             return (charges ??= chargesOf(this));
@@ -90,7 +110,10 @@ function tariffOf({ engine, mistakes }, { bytes, hash, editions }) {
     return { bytes, hash, editions: own };
 }
 
-const NOTHING = { members: [], wages: [], refused: 0, books: new Map(), collected: new Map() };
+const NOTHING = {
+    ...{ members: [], wages: [], refused: 0, books: new Map(), collected: new Map() },
+    ...{ differences: [], supplements: NO_SUPPLEMENTS },
+};
 
 function deskOf(rest, given, language) {
     const files = filesOf(given);
@@ -103,7 +126,8 @@ function deskOf(rest, given, language) {
 function filesOf(files) {
     const books = [files.books ?? []].flat().map((given) => fileOf(given, 'books'));
     const [areas, stops] = [tariffFilesOf(files.areas, NAMES.areas), tariffFilesOf(files.stops, NAMES.stops)];
-    return { areas, stops, trips: tripFilesOf(files.trips), members: fileOf(files.members, NAMES.members), books };
+    const [corrections, members] = ['corrections', 'members'].map((sort) => fileOf(files[sort], NAMES[sort]));
+    return { areas, stops, trips: tripFilesOf(files.trips), corrections, members, books };
 }
 
 /** The files of areas or of stops; where there is none of the first edition, the one that is missing. */
@@ -145,11 +169,16 @@ function tariffIn({ engine, files, mistakes }) {
 // ---- Trips
 
 /** Nothing is put out where sums disagree: that is an error like any other. */
-function settledOrNot(desk, tariff, books, closings, trips) {
+function settledOrNot(desk, tariff, work) {
     try {
-        const settled = settleAll(desk, tariff, books, dueTrips(desk, books, closings, trips, tariff));
-        warnOfLostWindows(desk, settled?.members ?? []);
-        return settled;
+        const supplements = closedTrips(desk, tariff, work);
+        const books = desk.reopen ? reopened(work.books, supplements) : work.books;
+        const settled = settleAll(desk, tariff, books, work.trips);
+        if (settled === null) return null;
+        warnOfLostWindows(desk, settled.members);
+        const differences = desk.correct ? differencesIn(desk, tariff, work, settled, supplements) : [];
+        const refused = settled.refused + supplements.refused;
+        return { ...settled, refused, differences: [...differences, ...supplements.differences], supplements };
     } catch (error) {
         if (!(error instanceof Disagreement)) throw error;
         const { member, what } = error;
@@ -157,23 +186,57 @@ function settledOrNot(desk, tariff, books, closings, trips) {
     }
 }
 
-function settleAll(desk, tariff, books, due) {
-    const { engine, zone, period, ceiling, mistakes } = desk;
+/** What is told of trips of closed months or, where it is asked for, what they cost as supplements. */
+function closedTrips(desk, tariff, { books, closings, read, trips }) {
+    if (books === null) return NO_SUPPLEMENTS;
+    const spans = closedSpans(books, closings, read, trips);
+    if (!desk.correct) tellClosed(desk, spans, tariff.editions, books.period);
+    if (!desk.correct) return NO_SUPPLEMENTS;
+    const settle = ({ ceiling = null, before }, name, account, own, counts) => {
+        const member = settled({ ...desk, ceiling }, tariff, name, account, own, counts);
+        if (isUnsound(member)) desk.mistakes.error(closings.get(before).name, 1, 'bookUnsound', { member: name });
+        warnOfRefused(desk, tariff, member, account.book);
+        return member;
+    };
+    const inOrder = (members) => byName(members, desk.mistakes.language);
+    return supplementsOf(desk, tariff, { books, closings, spans, settle, inOrder });
+}
+
+/** What corrections change in the trips that are due, and what the supplements do where the trips go on from them. */
+function differencesIn(desk, tariff, { books, read }, { members }, supplements) {
+    const inPeriod = inPeriodOf(desk);
+    const silent = { ...desk, mistakes: { error: () => null } }; // what is amiss is told of the corrected trips
+    const settle = (name, trips) => settled(silent, tariff, name, accountIn(books, name), trips, inPeriod);
+    const was = dueTrips(desk, books, read);
+    const counts = (trip) => inPeriod(trip) && trip.month > (books?.period ?? '');
+    const others = desk.reopen ? [...supplements.accounts.keys()] : [];
+    const groups = differencesOf({ read, was, members, others, counts, settle, ceiling: desk.ceiling });
+    return byName(groups, desk.mistakes.language).flatMap(([, rows]) => rows);
+}
+
+/** Books as they would be with the supplements. */
+function reopened(books, { accounts }) {
+    if (books === null) return null;
+    const own = (key) => [...accounts].map(([name, account]) => [name, account[key]]);
+    const collected = books.collected && new Map([...books.collected, ...own('kept')]);
+    return { ...books, books: new Map([...books.books, ...own('book')]), collected };
+}
+
+const inPeriodOf = ({ period }) => ({ month }) => period === null || month === period;
+
+function settleAll(desk, tariff, books, trips) {
+    const { mistakes, ceiling } = desk;
+    const due = dueTrips(desk, books, trips);
     const kept = new Map(books?.books ?? []);
     const collected = new Map(books?.collected ?? []);
     warnOfNearBooks(desk, [...kept.keys()], due);
-    const inPeriod = ({ month }) => period === null || month === period;
-    const note = ({ file, line }, key, values) => mistakes.error(file, line, key, values);
     const members = [];
     let done = 0;
     for (const [name, own] of byName(tripsByMember(due), mistakes.language)) {
-        const book = kept.get(name) ?? new Uint8Array(BOOK_BYTES);
-        const month = ceiling === null ? undefined : { ceiling, kept: collected.get(name) ?? freshKept() };
-        const member = settleMember({ engine, tariff, zone, name, book, month, trips: own, inPeriod, note });
-        if (member.entries.some(({ refusal }) => refusal?.number === 4)) {
-            return mistakes.error(books.file.name, 1, 'bookUnsound', { member: name });
-        }
-        warnOfRefused(desk, tariff, member, book);
+        const account = accountIn(books, name);
+        const member = settled(desk, tariff, name, account, own, inPeriodOf(desk));
+        if (isUnsound(member)) return mistakes.error(books.file.name, 1, 'bookUnsound', { member: name });
+        warnOfRefused(desk, tariff, member, account.book);
         members.push(member);
         kept.set(name, member.book);
         collected.set(name, member.kept);
@@ -183,6 +246,15 @@ function settleAll(desk, tariff, books, due) {
     const wages = wagesOf(members, desk.roster, ceiling);
     agreeWages(wages, members, ceiling);
     return { members, wages, books: kept, collected, refused: wages.reduce((sum, row) => sum + row.refused, 0) };
+}
+
+const isUnsound = ({ entries }) => entries.some(({ refusal }) => refusal?.number === 4);
+
+/** A member's trips on the book and, under a ceiling, on what is kept of the month. */
+function settled({ engine, zone, ceiling, mistakes }, tariff, name, { book, kept }, trips, inPeriod) {
+    const month = ceiling === null ? undefined : { ceiling, kept };
+    const note = ({ file, line }, key, values) => mistakes.error(file, line, key, values);
+    return settleMember({ engine, tariff, zone, name, book, month, trips, inPeriod, note });
 }
 
 /** The members as the language sorts them, numbers in names by their size. */

@@ -19,19 +19,36 @@ export function statementOf(member, result, language) {
     const { words } = saying;
     const windows = member.windows.filter(({ entries }) => entries.some(({ inPeriod }) => inPeriod));
     const own = member.entries.filter(({ inPeriod }) => inPeriod);
-    const refused = own.filter(({ accepted }) => !accepted).length;
     return {
         language,
         words,
         member: member.name,
         title: words.title(result.period && monthText(result.period, language)),
-        counts: [words.trips(own.length - refused), ...(refused > 0 ? [words.refusals(refused)] : [])].join(', '),
+        counts: [...countsOf(own, saying), ...cancelledOf(member, saying)].join(', '),
         totalName: result.ceiling === null ? words.total : words.collected,
         total: moneyText(agreedTotal(member, own, result), language),
         windows: windows.map((window) => windowOf(window, saying)),
         ending: result.ceiling === null ? null : endingOf(member, saying),
         foot: footOf(saying),
     };
+}
+
+/** How many trips there are, and how many of them are refused and corrected. */
+function countsOf(entries, { words }) {
+    const refused = entries.filter(({ accepted }) => !accepted).length;
+    const corrected = entries.filter(({ original }) => original).length;
+    return [
+        words.trips(entries.length - refused),
+        ...(refused > 0 ? [words.refusals(refused)] : []),
+        ...(corrected > 0 ? [words.corrections(corrected)] : []),
+    ];
+}
+
+/** How many of the member's trips would be here if they were not cancelled. */
+function cancelledOf({ name }, { words, result: { corrections, period, booksPeriod } }) {
+    const isHere = ({ month }) => (period === null ? month > (booksPeriod ?? '') : month === period);
+    const own = (corrections?.cancelled ?? []).filter((trip) => trip.member === name && isHere(trip));
+    return own.length > 0 ? [words.cancelled(own.length)] : [];
 }
 
 /** Looks whether the wages have the totals of all statements, for whoever puts wages out without them. */
@@ -185,12 +202,13 @@ function tripOf(entry, number, saying) {
     const via = entry.via.length > 0 ? [words.via(entry.via.map(stop).join(', '))] : [];
     const level = entry.level === null ? [] : [words.level(entry.level)];
     const elsewhere = entry.inPeriod ? [] : [words.elsewhere(monthText(entry.month, language))];
+    const corrected = entry.original ? [words.corrected] : [];
     return {
         ...{ number, from: entry.checkIn.minute, to: entry.checkOut.minute, counts: entry.inPeriod },
         state: stateOf(entry),
         when: whenText(entry, saying),
         where: `${stop(entry.from)} → ${stop(entry.to)}`,
-        how: [...via, classText(entry.class, language), ...level, ...elsewhere].join(', '),
+        how: [...via, classText(entry.class, language), ...level, ...elsewhere, ...corrected].join(', '),
         refused: entry.accepted ? null : refusedText(entry, saying),
         parts: (entry.parts ?? []).map((part, i) => partOf(entry, part, i, edition, saying)),
     };

@@ -19,24 +19,31 @@ export const TRIP_COLUMNS = {
 /**
  * The trips of all files, in the files' order and by line. Where the stops of an edition could not be read, `stops` is
  * null there: names are then not looked for. A row with a mistake is none of the trips. Clock times are those of
- * `zone`, and months those of `monthZone`.
+ * `zone`, and months those of `monthZone`. Of a trip that is corrected, `corrected` is what it becomes, or null where
+ * it is cancelled; the trip itself stays as it was.
  */
-export function readTrips(files, editions, { zone, monthZone }, mistakes) {
+export function readTrips(files, editions, { zone, monthZone }, mistakes, corrections = null) {
     const sheet = { clock: clockOf(zone), monthZone, editions, stopIn: stopFinder(editions) };
-    return files.flatMap((file) => tripsIn(file, sheet, mistakes));
+    return files.flatMap((file) => tripsIn(file, sheet, mistakes, corrections));
 }
 
-function tripsIn(file, sheet, mistakes) {
-    const take = (row) => {
+function tripsIn(file, sheet, mistakes, corrections) {
+    const read = (row, tell) => {
         let right = true;
         const note = (key, values) => {
             right = false;
-            return mistakes.error(file.name, row.line, key, values);
+            return tell(key, values);
         };
         const trip = readTrip(file.name, row, sheet, note);
         return right ? trip : null;
     };
-    return readTable(file, TRIP_COLUMNS, mistakes, take) ?? [];
+    const take = (row) => {
+        const tell = (key, values) => mistakes.error(file.name, row.line, key, values);
+        return corrections ? corrections.read(file.name, row, read, tell) : read(row, tell);
+    };
+    const trips = readTable(file, TRIP_COLUMNS, mistakes, take);
+    if (trips !== null) corrections?.end(file.name);
+    return trips ?? [];
 }
 
 const tidied = remembered(tidy);
@@ -52,9 +59,17 @@ function readTrip(file, row, { clock, monthZone, editions, stopIn }, note) {
         file, line: row.line, member, checkIn, checkOut, month, names, edition: none, from: none, to: none, via: none,
         class: travelClass, level, party,
         inPeriod: none, accepted: none, refusal: none, window: none, cents: none, collected: none, parts: none,
+        original: none, corrected: none,
     };
     if (checkIn) takeStops(trip, inForce(editions, checkIn.minute).number);
     return trip;
+}
+
+/** A trip by itself, as it was read: what is put into it when it is settled is not there. */
+export function unsettled(trip) {
+    const none = undefined;
+    const settled = { accepted: none, refusal: none, window: none, cents: none, collected: none, parts: none };
+    return { ...trip, inPeriod: none, ...settled };
 }
 
 // ---- Stops

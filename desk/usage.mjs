@@ -1,10 +1,10 @@
 // What the command says of itself and of a call, both languages beside each other.
 
-export const USAGE = `usage: ./milecopper check|settle|statement|wages|close [FOLDER] [--period 2026-10|open]
+export const USAGE = `usage: ./milecopper check|settle|statement|wages|correct|close [FOLDER] [--period 2026-10|open]
                     [--format csv|json] [--out FOLDER] [--member NAME] [--language de|en]
                     [--areas FILE]... [--stops FILE]... [--trips FILE]... [--books FILE]...
-                    [--members FILE] [--ceiling 150,00] [--strict] [--new-tariff] [--force]
-                    [--today 2026-11-03]
+                    [--members FILE] [--corrections FILE] [--ceiling 150,00] [--strict] [--new-tariff]
+                    [--force] [--reopen] [--today 2026-11-03]
        ./milecopper salvage ROLL [--out FOLDER] [--format csv] [--language de|en]
 `;
 
@@ -15,6 +15,8 @@ settle     jeder einzelne Betrag: eine Tabelle
 statement  eine Abrechnung je Mitglied, als Text
 wages      für das Lohnbüro: eine Zeile je Mitglied und Monat
            settle, statement und wages mit --member NAME: nur von diesem Mitglied
+correct    was Berichtigungen (corrections.csv) ändern: vorher, nachher, Unterschied; was sie und nachgereichte Fahrten
+           in abgeschlossenen Monaten ändern, als Nachtrag, dann mit Lohnliste; --reopen ersetzt deren Bücher
 close      schließt den Monat ab und schreibt die Bücher, books-2026-10.json; einmal je Monat
 salvage    rettet aus einer zerrissenen Rolle die ganzen Fahrten nach kept.bin, im Ordner --out oder hier, und nennt die
            verlorenen Bytes; --format csv: als Tabelle offset;length
@@ -23,12 +25,13 @@ Im Ordner (ohne Angabe: hier) liegen areas.csv, stops.csv und trips.csv, dazu ge
 letzten Abschlusses vor dem Monat gelten. Einzelne Dateien lassen sich stattdessen nennen. Die Fahrten können in
 mehreren Dateien stehen: genommen wird jede trips*.csv des Ordners, oder --trips mehrmals. Statt einer CSV darf es
 eine Mappe sein, .xlsx, deren erstes Blatt gelesen wird. Eine members.csv sagt, wer wer ist; die Lohnliste hat dann
-die Personalnummern. Wechselt der Tarif, so steht die neue Fassung in areas-2026-06-01.csv, mit dem Tag, ab dem sie
-gilt, und wenn nötig in stops-2026-06-01.csv; oder --areas und --stops werden zweimal genannt, die neue Fassung mit dem
-Tag im Namen. --period open ist der Monat, der offen ist: der erste mit Fahrten hinter den letzten Büchern.
---out schreibt Dateien, statt zu drucken. --strict: auch was nur zweifelhaft ist, eine Warnung also, gilt als Fehler.
---new-tariff: Gebiete haben seit dem Abschließen andere Preise oder Deckel, und das ist so gewollt. --force schließt
-auch einen Monat ab, der in der Zukunft liegt oder frühere offen lässt. --today: ein anderes Datum als das der Uhr.
+die Personalnummern. Eine corrections.csv berichtigt Zeilen der Fahrten; alles gilt dann den berichtigten. Wechselt
+der Tarif, so steht die neue Fassung in areas-2026-06-01.csv, mit dem Tag, ab dem sie gilt, und wenn nötig in
+stops-2026-06-01.csv; oder --areas und --stops werden zweimal genannt, die neue Fassung mit dem Tag im Namen. --period
+open ist der Monat, der offen ist: der erste mit Fahrten hinter den letzten Büchern. --out schreibt Dateien, statt zu
+drucken. --strict: auch was nur zweifelhaft ist, eine Warnung also, gilt als Fehler. --new-tariff: Gebiete haben seit
+dem Abschließen andere Preise oder Deckel, und das ist so gewollt. --force schließt auch einen Monat ab, der in der
+Zukunft liegt oder frühere offen lässt. --today: ein anderes Datum als das der Uhr.
 --ceiling 150,00: ein Monatsdeckel von 0,00 bis 10000,00 Euro; von keinem Mitglied wird im Monat mehr eingezogen. Monate
 sind dann die der Weltzeit (UTC), auch in den Büchern, und von diesen geht es nur mit einem Monatsdeckel weiter.
 Der Rechenkern wird beim ersten Mal gebaut, was ihn beweist und einige Minuten dauert.
@@ -43,6 +46,8 @@ settle     every single charge: a table
 statement  a statement for each member, as text
 wages      for the wage office: a row for each member and month
            settle, statement and wages with --member NAME: of this member only
+correct    what corrections (corrections.csv) change: before, after, difference; what they and late trips change in
+           closed months, as supplements, and then the wages, too; --reopen replaces the books of these months
 close      closes the month and writes the books, books-2026-10.json; once a month
 salvage    keeps the whole trips of a torn roll in kept.bin, in the folder --out or here, and says which bytes are lost;
            --format csv: as a table offset;length
@@ -50,13 +55,13 @@ salvage    keeps the whole trips of a torn roll in kept.bin, in the folder --out
 The folder (none: the present one) holds areas.csv, stops.csv and trips.csv and, if there are, the books; those of the
 last closing before the month count. Single files can be named instead. The trips may stand in several files: every
 trips*.csv of the folder is taken, or --trips more than once. Instead of a CSV there may be a workbook, .xlsx, of
-which the first sheet is read. A members.csv says who is who; the wages then have the personnel numbers. Where the
-tariff changes, its new edition is areas-2026-06-01.csv, with the day from which it is valid, and if need be
-stops-2026-06-01.csv; or --areas and --stops are named twice, the new edition with the day in its name. --period open
-is the month that is open: the first with trips behind the last books. --out writes files instead of printing.
---strict: warnings are errors. --new-tariff: areas have other prices or caps since the closing, and that is meant.
---force closes a month, too, that lies in the future or leaves earlier ones open. --today: another date than the
-clock's.
+which the first sheet is read. A members.csv says who is who; the wages then have the personnel numbers. A
+corrections.csv corrects lines of the trips; all is then of the corrected ones. Where the tariff changes, its new
+edition is areas-2026-06-01.csv, with the day from which it is valid, and if need be stops-2026-06-01.csv; or --areas
+and --stops are named twice, the new edition with the day in its name. --period open is the month that is open: the
+first with trips behind the last books. --out writes files instead of printing. --strict: warnings are errors.
+--new-tariff: areas have other prices or caps since the closing, and that is meant. --force closes a month, too, that
+lies in the future or leaves earlier ones open. --today: another date than the clock's.
 --ceiling 150.00: a monthly ceiling of 0.00 to 10000.00 euros; of no member more is collected in a month. Months are
 those of UTC then, in the books, too, from which one goes on under a ceiling only.
 The engine is built the first time, which proves it and takes some minutes.
@@ -78,6 +83,15 @@ export const WORDS = {
         date: (word) => `--today '${word}': kein Datum wie 2026-11-03`,
         due: 'zum Abschließen gehört --period',
         one: (words) => `--member gehört nur zu ${words.join(', ')}`,
+        reopen: '--reopen gehört nur zu correct',
+        openOnly: (month) =>
+            `${month} ist abgeschlossen: was sich dort ändert, ist ein Nachtrag und kommt mit dem offenen Monat ` +
+            '(--period open) oder ohne --period',
+        unopened: ({ name, member }) =>
+            `nicht ersetzt: in ${name} wäre auch '${member}' anders, ohne Nachtrag; fehlen heute Fahrten, oder ist ` +
+            'der Tarif ein anderer?',
+        corrections: (file, { corrected, cancelled }) =>
+            `Berichtigungen: ${file} (berichtigte Fahrten: ${corrected}, gestrichene: ${cancelled.length})`,
         folder: (folder, why) => `der Ordner ${folder} ist nicht lesbar: ${why}`,
         unread: (files) => `nicht lesbar: ${files.map(({ place, why }) => `${place} (${why})`).join(', ')}`,
         there: (file) => `${file} ist schon da: ein Monat wird einmal abgeschlossen`,
@@ -115,6 +129,15 @@ export const WORDS = {
         date: (word) => `--today '${word}': not a date like 2026-11-03`,
         due: 'closing needs --period',
         one: (words) => `--member is only for ${words.join(', ')}`,
+        reopen: '--reopen is only for correct',
+        openOnly: (month) =>
+            `${month} is closed: what changes there is a supplement, and comes with the open month (--period open) ` +
+            'or without --period',
+        unopened: ({ name, member }) =>
+            `not replaced: in ${name} '${member}' would be another, too, without a supplement; are trips missing ` +
+            'today, or is the tariff another?',
+        corrections: (file, { corrected, cancelled }) =>
+            `corrections: ${file} (trips corrected: ${corrected}, cancelled: ${cancelled.length})`,
         folder: (folder, why) => `the folder ${folder} cannot be read: ${why}`,
         unread: (files) => `cannot be read: ${files.map(({ place, why }) => `${place} (${why})`).join(', ')}`,
         there: (file) => `${file} is there already: a month is closed once`,

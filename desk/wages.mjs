@@ -26,7 +26,7 @@ export function wagesOf(members, roster, ceiling = null) {
 }
 
 /** What an accepted trip costs the member: under a ceiling what is collected, else its charges. */
-const paidOf = ({ cents, collected = cents }) => collected;
+export const paidOf = ({ cents, collected = cents }) => collected;
 
 /** The charges of a row; without a ceiling they are what is paid. */
 export const chargedOf = ({ cents, charged = cents }) => charged;
@@ -38,11 +38,13 @@ const RIDER = ['rider', 'price', 'charge', 'taken_off', 'cap_area', 'cap_class']
 const CHARGES = [...TRIP, ...RIDE, ...RIDER, 'refusal'];
 
 /**
- * The columns of a result's charges: where there are several files of trips, the first says which a trip is from, and
- * under a ceiling the last has in a trip's first row what it collects.
+ * The columns of a result's charges: where there are several files of trips, the first says which a trip is from;
+ * under a ceiling one has in a trip's first row what it collects; and where there are corrections, the last says which
+ * trips are corrected.
  */
-function chargeColumns({ tripFiles, ceiling = null }) {
-    return [...(tripFiles.length > 1 ? ['file'] : []), ...CHARGES, ...(ceiling === null ? [] : ['collected'])];
+function chargeColumns({ tripFiles, ceiling = null, corrections = null }) {
+    const [first, last] = [tripFiles.length > 1 ? ['file'] : [], corrections ? ['corrected'] : []];
+    return [...first, ...CHARGES, ...(ceiling === null ? [] : ['collected']), ...last];
 }
 
 /** Rows by column of the entries in the period: one for each charge, and one for each refused trip. */
@@ -54,14 +56,20 @@ export function chargesOf(result) {
 const rowByColumn = (columns, row) => Object.fromEntries(columns.map((column, i) => [column, row[i]]));
 
 /** The same rows one after another, as values in the columns' order. */
-function* chargeRows({ members, tariff, tripFiles, ceiling = null }) {
+function* chargeRows({ members, tariff, tripFiles, ceiling = null, corrections = null }) {
     const fileOf = (entry) => (tripFiles.length > 1 ? [entry.file] : []);
     for (const { entries, openingLocal } of members.flatMap(({ windows }) => windows)) {
         for (const entry of entries.filter(({ inPeriod }) => inPeriod)) {
             const rows = entryRows(fileOf(entry), entry, openingLocal, tariff.editions[entry.edition - 1]);
-            yield* ceiling === null ? rows : collectedRows(entry, rows);
+            const paid = ceiling === null ? rows : collectedRows(entry, rows);
+            yield* corrections ? correctedRows(entry, paid) : paid;
         }
     }
+}
+
+/** The rows with a word behind each where the trip is corrected. */
+function* correctedRows({ original }, rows) {
+    for (const row of rows) yield [...row, original ? 'yes' : null];
 }
 
 /** The rows with what the trip collects behind the first; of a refused one that is nothing, and not 0. */
@@ -87,8 +95,11 @@ function* entryRows(file, entry, opening, { areas, stops }) {
     }
 }
 
+/** How tables name one of a party: 'holder', 'adult 2'. */
+export const riderName = ({ sort, number }) => (sort === 'holder' ? sort : `${sort} ${number}`);
+
 function riderValues({ sort, number, price, charge, off, cap }, areas) {
-    const rider = sort === 'holder' ? sort : `${sort} ${number}`;
+    const rider = riderName({ sort, number });
     return [rider, price, charge, off, cap ? areas[cap.area].name : null, cap ? cap.class : null];
 }
 
@@ -120,16 +131,20 @@ function chargedIn(entries) {
 
 const WAGES = ['member', 'period', 'trips', 'refused', 'cents'];
 const TITLES = { cents: 'amount' };
-const AMOUNTS = new Set(['cents', 'charged', 'price', 'charge', 'taken_off', 'collected']);
+const DIFFERENCES = ['before', 'after', 'difference'];
+const AMOUNTS = new Set(['cents', 'charged', 'price', 'charge', 'taken_off', 'collected', ...DIFFERENCES]);
 
 /**
  * The wages as CSV, with amounts in euros, or as JSON, with amounts in cents. Under a ceiling the months are those of
- * UTC, and their column says so.
+ * UTC, and their column says so. Supplements are rows of their own, and the last column then says which.
  */
-export function wagesText({ wages, roster, ceiling = null }, format, language) {
-    const columns = [...WAGES, ...(roster ? ['number'] : []), ...(ceiling === null ? [] : ['charged'])];
+export function wagesText({ wages, roster, ceiling = null, supplements = [] }, format, language) {
+    const charged = ceiling === null ? [] : ['charged'];
+    const supplement = supplements.length > 0 ? ['supplement'] : [];
+    const columns = [...WAGES, ...(roster ? ['number'] : []), ...charged, ...supplement];
     const names = columns.map((column) => (column === 'period' && ceiling !== null ? 'period_utc' : column));
-    return tableText(names, wages.map((row) => columns.map((column) => row[column])), format, language);
+    const rows = [...wages, ...supplements].map((row) => columns.map((column) => row[column] ?? null));
+    return tableText(names, rows, format, language);
 }
 
 /** The charges likewise. */
@@ -137,7 +152,8 @@ export function chargesText(result, format, language) {
     return tableText(chargeColumns(result), chargeRows(result), format, language);
 }
 
-function tableText(columns, rows, format, language) {
+/** A table as CSV or JSON, its rows as values in the columns' order. */
+export function tableText(columns, rows, format, language) {
     return format === 'json' ? jsonOf(columns, rows) : writtenCsv(csvRows(columns, rows), language);
 }
 

@@ -126,8 +126,9 @@ function causeOf({ class: travelClass, level, party, from, via, to }, { areas, s
 
 // ---- Money
 
-/** Cents as '1.234,50 €' or '€1,234.50'. */
+/** Cents as '1.234,50 €' or '€1,234.50', with a minus where they are negative. */
 export function moneyText(cents, language) {
+    if (cents < 0) return `−${moneyText(-cents, language)}`;
     const [thousands, point] = language === 'de' ? ['.', ','] : [',', '.'];
     const whole = String(Math.floor(cents / 100)).replace(/\B(?=(\d{3})+$)/g, thousands);
     const amount = `${whole}${point}${String(cents % 100).padStart(2, '0')}`;
@@ -219,6 +220,9 @@ export const STATEMENT = {
         title: (month) => (month ? `Abrechnung ${month}` : 'Abrechnung aller Fahrten'),
         trips: (number) => counted(number, 'Fahrt', 'Fahrten'),
         refusals: (number) => `${number} abgelehnt`,
+        corrections: (number) => `${number} berichtigt`,
+        cancelled: (number) => `${number} gestrichen`,
+        corrected: 'berichtigt',
         total: 'Zusammen',
         window: (from) => `24-Stunden-Fenster ab ${from}`,
         until: (to) => `bis ${to}`,
@@ -256,6 +260,9 @@ export const STATEMENT = {
         title: (month) => (month ? `Statement for ${month}` : 'Statement of all trips'),
         trips: (number) => counted(number, 'trip', 'trips'),
         refusals: (number) => `${number} refused`,
+        corrections: (number) => `${number} corrected`,
+        cancelled: (number) => `${number} cancelled`,
+        corrected: 'corrected',
         total: 'Total',
         window: (from) => `24-hour window from ${from}`,
         until: (to) => `to ${to}`,

@@ -89,6 +89,7 @@ fn plant(package: &Path, out: &Path) {
         close: |page, association, member| {},
         settle_member: |tariff, page, association, member, trip, statement| {},
         settle_month: |ceiling, kept, tariff, book, trip, statement, due| {},
+        correct: |tariff, roll, n, replacement, statements, differences| {},
     }}),\n",
             told("check_tariff(tariff)"),
             told("settle(tariff, book, trip, statement)"),
@@ -99,6 +100,7 @@ fn plant(package: &Path, out: &Path) {
             told("close(page, association, member)"),
             told("settle_member(tariff, page, association, member, trip, statement)"),
             told("settle_month(ceiling, kept, tariff, book, trip, statement, due)"),
+            told("correct(tariff, roll, n, replacement, statements, differences)"),
         );
     }
     let many = edits::PLANTED.len();

@@ -5,7 +5,8 @@
  * records that were kept, of this kind and of the kind before it, wherever they come from. An app with several members may keep
  * twelve of their books on one page, six for each of two associations: milecopper_add, milecopper_close and
  * milecopper_settle_member. Where a member pays no more than a ceiling in a month, milecopper_settle_month settles and tells what
- * is still due.
+ * is still due. Where one trip of a roll has to be corrected, milecopper_correct settles the roll afresh and tells what changes for
+ * each payer.
  *
  * For C99 and later and C++11 and later. `host/install PREFIX` in the source's folder builds and installs this file, a
  * static and a shared library and a file for pkg-config below the folder PREFIX. Then:
@@ -68,6 +69,16 @@
  *         printf("%lu of %lu cents\n", (unsigned long)milecopper_number(due, MILECOPPER_DUE_BYTES),
  *                (unsigned long)milecopper_statement_total(statement, answer));
  *
+ * A roll, `roll_len` bytes of `many` trips one after another, in which the third one gets other bytes:
+ *
+ *     uint8_t differences[MILECOPPER_DIFFERENCES_BYTES];
+ *     size_t room = many * MILECOPPER_LARGEST_STATEMENT_BYTES; // enough for every roll of so many records
+ *     uint8_t *statements = malloc(room);
+ *     answer = milecopper_correct(tariff, tariff_len, roll, roll_len, 3, trip, trip_len,
+ *                                 statements, room, differences, sizeof differences);
+ *     if (milecopper_accepted(answer))
+ *         printf("the account holder: %lld cents\n", (long long)milecopper_holder_difference(differences));
+ *
  * A tariff is a file of one or two editions, each a date and then its areas, factor records and stops, with numbers of its own. An
  * edition is valid from the first minute of its date in UTC. The one in force when a 24-hour window opens settles the whole window:
  * the book keeps its number, 1 or 2, and decides while the window is open, whatever the dates say.
@@ -83,16 +94,18 @@
  *
  * Duties of the caller
  *
- *   - Each pointer points to at least as many bytes as the length beside it says. `tariff` and `trip` are only read, and
- *     so are a quote's `book`, a posting's `record` and a reading's `statement`. Else `book`, `page`, `statement`, `fields`, `kept`
- *     and `due` may be written within their lengths, and only there.
+ *   - Each pointer points to at least as many bytes as the length beside it says. `tariff`, `trip`, `roll` and `replacement` are
+ *     only read, and so are a quote's `book`, a posting's `record` and a reading's `statement`. Else `book`, `page`, `statement`,
+ *     `fields`, `kept`, `due`, `statements` and `differences` may be written within their lengths, and only there.
  *   - The slices of a call do not overlap, not even in part.
  *   - A pointer beside a length of 0 is not looked at. It may be null, as that of an empty std::vector is.
  *   - A tariff has at most MILECOPPER_LARGEST_TARIFF_BYTES bytes, a trip MILECOPPER_LARGEST_TRIP_BYTES, a book exactly
  *     MILECOPPER_BOOK_BYTES and a page MILECOPPER_PAGE_BYTES; others may be offered, and are refused. A statement of
  *     MILECOPPER_LARGEST_STATEMENT_BYTES has room for every trip, and fields of MILECOPPER_LARGEST_FIELDS_BYTES for every
- *     record. What is kept under a ceiling has exactly MILECOPPER_KEPT_BYTES, and MILECOPPER_DUE_BYTES have room for what is due. Any
- *     length that a size_t holds may be given, any offset, any ceiling, and any number of an association or of a member.
+ *     record. What is kept under a ceiling has exactly MILECOPPER_KEPT_BYTES, and MILECOPPER_DUE_BYTES have room for what is due. For
+ *     a corrected roll MILECOPPER_LARGEST_STATEMENT_BYTES for each of its records are enough, and MILECOPPER_DIFFERENCES_BYTES for the
+ *     differences. Any length that a size_t holds may be given, any offset, any ceiling, and any number of an association, of a
+ *     member or of a record.
  *   - A fresh book is MILECOPPER_BOOK_BYTES bytes, all zero. From then on only this library writes into it. Each
  *     account has a book of its own, and the caller keeps it from one trip to the next. An account's trips are
  *     settled or posted in the order in which they were ridden.
@@ -115,6 +128,7 @@
  *   - Where milecopper_close is called, at least 256 bytes of stack are free.
  *   - Where milecopper_settle_member is called, at least 1,280 bytes of stack are free.
  *   - Where milecopper_settle_month is called, at least 1,536 bytes of stack are free.
+ *   - Where milecopper_correct is called, at least 8,192 bytes of stack are free.
  *
  * What the library does not do
  *
@@ -127,7 +141,8 @@
  *     posting; the statement's further bytes stay as they were. The parts of a broken trip are accepted together or
  *     refused together. A record that is refused changes no byte of the fields; of one that is read the fields stand at their
  *     start, and the further bytes stay as they were. Under a ceiling a refusal changes no byte of what is kept and of what is due
- *     either; an accepted trip writes all of the first, and the first MILECOPPER_DUE_BYTES bytes of the second.
+ *     either; an accepted trip writes all of the first, and the first MILECOPPER_DUE_BYTES bytes of the second. A correction that is
+ *     refused changes no byte of statements and differences; one that is accepted writes both at their starts.
  *   - A call on a page that is refused changes no byte of the page. One that is accepted changes the bytes of that member's place
  *     alone: all of them in adding and closing, its book in settling. What stands in other places, in free ones too, stays as it is.
  *   - It tells an association nothing of the other. For the same call, pages that agree in the association's own places give the
@@ -182,7 +197,7 @@
 /* The version. The number stands here alone: the library's file names, its pkg-config file, its constant
  * milecopper_version and what the scripts say all come from these lines. */
 #define MILECOPPER_VERSION_MAJOR 0
-#define MILECOPPER_VERSION_MINOR 17
+#define MILECOPPER_VERSION_MINOR 18
 #define MILECOPPER_VERSION_PATCH 0
 #define MILECOPPER_VERSION_AS_TEXT(major, minor, patch) #major "." #minor "." #patch
 #define MILECOPPER_VERSION_AS_WRITTEN(major, minor, patch) MILECOPPER_VERSION_AS_TEXT(major, minor, patch)
@@ -190,7 +205,7 @@
     MILECOPPER_VERSION_AS_WRITTEN(MILECOPPER_VERSION_MAJOR, MILECOPPER_VERSION_MINOR, MILECOPPER_VERSION_PATCH)
 
 /* The stack that has to be free whatever is called: the most of what stands above. */
-#define MILECOPPER_MOST_STACK_BYTES 2048
+#define MILECOPPER_MOST_STACK_BYTES 8192
 
 /* The book's length, and where its last word stands, the edition of the open window; 0 in a fresh book. A book of 5,468 bytes, from
  * before editions, is refused with 4: put the word 1 behind it where its first word is not 0, else the word 0. Begin with a fresh
@@ -219,6 +234,17 @@
 #define MILECOPPER_KEPT_MONTH_AT 0
 #define MILECOPPER_KEPT_AMOUNT_AT 4
 #define MILECOPPER_DUE_BYTES 4
+
+/* A roll that is corrected has at most so many records. The differences: for each payer 8 bytes, in two's complement; first the account
+ * holder, then the adults, the children and the bicycles, ten of each, by their numbers. */
+#define MILECOPPER_MOST_ROLL_RECORDS 65535
+#define MILECOPPER_PAYERS 31
+#define MILECOPPER_DIFFERENCE_BYTES 8
+#define MILECOPPER_DIFFERENCES_BYTES 248
+#define MILECOPPER_HOLDER_DIFFERENCE_AT 0
+#define MILECOPPER_ADULTS_DIFFERENCES_AT 8
+#define MILECOPPER_CHILDREN_DIFFERENCES_AT 88
+#define MILECOPPER_BICYCLES_DIFFERENCES_AT 168
 
 /* Charge records: the smallest has one person, the largest MILECOPPER_MOST_PERSONS and MILECOPPER_MOST_BICYCLES. Each of
  * them has a charge. */
@@ -403,11 +429,12 @@
 /* Why a trip, a record or a page was refused. Where several apply, the answer is the first of them in this order. Settling and a
  * quote give 1 to 12, 17 and 22, a posting 1 to 11, 17, 22 and 13, a reading 14 to 16 and then 12; adding gives 21 and 18 to 20, closing
  * 21, 18 and 19, and settling a member 1 to 3, 21, 18, 19, and then what settling gives. Settling under a ceiling gives 24, and then
- * what settling gives. */
+ * what settling gives. A correction gives 23, 1 to 3 and 12. */
 enum milecopper_refusal {
     MILECOPPER_NOT_REFUSED = 0,
     MILECOPPER_WRONG_CEILING = 24,    /* ceiling: it or the amount that is kept is above 1,000,000; or what is kept has
                                        * another length */
+    MILECOPPER_NO_RECORD = 23,        /* roll that is corrected: it has no nth record, or that record's frame is broken */
     MILECOPPER_TARIFF_BROKEN = 1,     /* tariff: a record's frame is broken */
     MILECOPPER_TARIFF_MISSHAPEN = 2,  /* tariff: kind, length, order or number of records wrong, or one is missing */
     MILECOPPER_TARIFF_VALUE = 3,      /* tariff: a value outside its range, or an edition not after the one before */
@@ -428,7 +455,8 @@ enum milecopper_refusal {
     MILECOPPER_UNKNOWN_STOP = 7,      /* trip: a stop number that its edition of the tariff lacks */
     MILECOPPER_WINDOW_FULL = 11,      /* trip: it, or its second part, would be the 257th of its window */
     MILECOPPER_NO_ROOM = 12,          /* statement shorter than the charge records, fields shorter than what is told, or under
-                                       * a ceiling fewer than 4 bytes for what is due */
+                                       * a ceiling fewer than 4 bytes for what is due; of a correction, not all statements
+                                       * fit, or fewer than 248 bytes for the differences */
     MILECOPPER_OTHER_RECORD = 13,     /* record: not exactly the bytes that a quote would write now */
     MILECOPPER_RECORD_BROKEN = 14,    /* charge record: its frame is broken, or no byte is left */
     MILECOPPER_RECORD_MISSHAPEN = 15, /* charge record: another kind, or a length that fits no party */
@@ -573,6 +601,39 @@ uint64_t milecopper_settle_month(uint32_t ceiling, uint8_t *kept, size_t kept_le
                                  uint8_t *statement, size_t statement_len,
                                  uint8_t *due, size_t due_len);
 
+/*
+ * Corrects one record of a roll: the roll is settled afresh with `replacement` in the place of its nth record, and compared with the
+ * roll as it was.
+ *
+ * The roll is trip records one after another, of one account, and its first trip is settled on a fresh book. It ends with its last
+ * record, with a broken frame, which counts as a record, or after MILECOPPER_MOST_ROLL_RECORDS records; what stands behind that is not
+ * looked at. `n` counts from 1. The nth record may be of any kind, and need not be a trip that was accepted.
+ *
+ * The replacement takes its place as it is, whatever its length. Where it is no whole trip record it is refused there with 5 and charges
+ * nothing, and the others are settled all the same: so an empty one, of 0 bytes, cancels the trip. Both rolls are settled from fresh
+ * books, so a change may move later windows and their charges, too, and a trip may be accepted in one of them and refused in the other,
+ * with 10 for instance. No such refusal ends the call, and none is told: it leaves no charge record.
+ *
+ * Accepted: the bytes of all statements of the corrected roll. They stand at the start of `statements`, one behind another, in the
+ * order of the roll, and are read as one statement is (milecopper_record_bytes). It may be 0, where no trip of the corrected roll is
+ * accepted. MILECOPPER_LARGEST_STATEMENT_BYTES for each record of the roll are always enough. The first MILECOPPER_DIFFERENCES_BYTES bytes
+ * of `differences` become for each payer the sum of all its charges in the corrected roll less that in the roll as it was, in cents: below
+ * 0 where less is charged now (milecopper_holder_difference and the others). Who rides in only one of them has the sum 0 in the other.
+ * Further bytes of both stay as they were.
+ *
+ * Refused, in this order: by 23, MILECOPPER_NO_RECORD, where the roll has no nth record, n being 0 or above
+ * MILECOPPER_MOST_ROLL_RECORDS or beyond the last one, or where the nth one's frame is broken; by 1 to 3 with the place; by 12 where not all
+ * statements fit or `differences` has fewer than MILECOPPER_DIFFERENCES_BYTES bytes. A refusal writes nothing.
+ *
+ * The roll is settled three times: it takes as long as so many calls of milecopper_settle. No byte of the roll is copied or changed. What
+ * the account's book is after the corrected roll is not told: settle the roll on a fresh book with milecopper_settle.
+ */
+uint64_t milecopper_correct(const uint8_t *tariff, size_t tariff_len,
+                            const uint8_t *roll, size_t roll_len, uint32_t n,
+                            const uint8_t *replacement, size_t replacement_len,
+                            uint8_t *statements, size_t statements_len,
+                            uint8_t *differences, size_t differences_len);
+
 #ifdef __cplusplus
 }
 #define MILECOPPER_AS(type, value) static_cast<type>(value)
@@ -583,17 +644,17 @@ uint64_t milecopper_settle_month(uint32_t ceiling, uint8_t *kept, size_t kept_le
 /* ---- The answer ----
  *
  * `answer` is one that milecopper_settle, milecopper_quote, milecopper_post, milecopper_read, milecopper_add, milecopper_close,
- * milecopper_settle_member or milecopper_settle_month gave.
+ * milecopper_settle_member, milecopper_settle_month or milecopper_correct gave.
  */
 
-/* 1 if the trip was accepted, the record read, or the member added or closed, else 0. */
+/* 1 if the trip was accepted, the record read, the member added or closed, or the roll corrected, else 0. */
 static inline int milecopper_accepted(uint64_t answer)
 {
     return (answer >> 32) == 0;
 }
 
-/* The number of bytes written: the length of the charge records at the start of the statement, by a posting the book's, by adding
- * and closing a place's; 0 if it was refused. */
+/* The number of bytes written: the length of the charge records at the start of the statement, of a corrected roll of all its
+ * statements, by a posting the book's, by adding and closing a place's; 0 if it was refused. */
 static inline size_t milecopper_bytes_written(uint64_t answer)
 {
     return milecopper_accepted(answer) ? MILECOPPER_AS(size_t, answer) : 0;
@@ -605,7 +666,7 @@ static inline size_t milecopper_record_read(uint64_t answer)
     return milecopper_bytes_written(answer);
 }
 
-/* Why the trip, the record, the page or the ceiling was refused; MILECOPPER_NOT_REFUSED if it was accepted. */
+/* Why the trip, the record, the page, the ceiling or the correction was refused; MILECOPPER_NOT_REFUSED if it was accepted. */
 static inline enum milecopper_refusal milecopper_refusal_of(uint64_t answer)
 {
     return MILECOPPER_AS(enum milecopper_refusal, answer >> 32);
@@ -628,6 +689,8 @@ static inline const char *milecopper_refusal_text(enum milecopper_refusal refusa
         return "The trip was accepted.";
     case MILECOPPER_WRONG_CEILING:
         return "The monthly ceiling is above 10,000 euro, or what was kept of the amount collected in the month is damaged.";
+    case MILECOPPER_NO_RECORD:
+        return "There is no trip with this number in the list that is corrected, or the list is damaged there.";
     case MILECOPPER_TARIFF_BROKEN:
         return "The price file is damaged: one of its records is cut short or has an impossible length.";
     case MILECOPPER_TARIFF_MISSHAPEN:
@@ -721,6 +784,70 @@ static inline uint32_t milecopper_kept_month(const uint8_t *kept)
 static inline uint32_t milecopper_kept_amount(const uint8_t *kept)
 {
     return milecopper_number(kept + MILECOPPER_KEPT_AMOUNT_AT, 4);
+}
+
+/* ---- The differences of a correction ----
+ *
+ * `differences` has MILECOPPER_DIFFERENCES_BYTES bytes, as milecopper_correct has written them. Carried persons and bicycles are counted
+ * from 0, as in a charge record.
+ */
+
+/* The number of 8 bytes, in two's complement, that starts at `bytes`. */
+static inline int64_t milecopper_signed_number(const uint8_t *bytes)
+{
+    uint64_t low = milecopper_number(bytes, 4);
+    uint64_t number = low | MILECOPPER_AS(uint64_t, milecopper_number(bytes + 4, 4)) << 32;
+    /* below 0 it is -1 less what its complement says, which every int64_t can hold */
+    return number >> 63 == 0 ? MILECOPPER_AS(int64_t, number) : -1 - MILECOPPER_AS(int64_t, ~number);
+}
+
+/* What payer number i, counted from 0, pays more since the correction, in cents; below 0 where it is less. The account holder is 0,
+ * then come ten adults, ten children and ten bicycles. 0 where there is no such payer. */
+static inline int64_t milecopper_difference(const uint8_t *differences, unsigned i)
+{
+    if (i >= MILECOPPER_PAYERS)
+        return 0;
+    return milecopper_signed_number(differences + MILECOPPER_DIFFERENCE_BYTES * MILECOPPER_AS(size_t, i));
+}
+
+/* That of the account holder. */
+static inline int64_t milecopper_holder_difference(const uint8_t *differences)
+{
+    return milecopper_signed_number(differences + MILECOPPER_HOLDER_DIFFERENCE_AT);
+}
+
+/* That of adult i, counted from 0; 0 where there is no such, here and below. */
+static inline int64_t milecopper_adult_difference(const uint8_t *differences, unsigned i)
+{
+    if (i >= MILECOPPER_MOST_ADULTS)
+        return 0;
+    return milecopper_difference(differences + MILECOPPER_ADULTS_DIFFERENCES_AT, i);
+}
+
+/* That of child i. */
+static inline int64_t milecopper_child_difference(const uint8_t *differences, unsigned i)
+{
+    if (i >= MILECOPPER_MOST_CHILDREN)
+        return 0;
+    return milecopper_difference(differences + MILECOPPER_CHILDREN_DIFFERENCES_AT, i);
+}
+
+/* That of bicycle i. */
+static inline int64_t milecopper_bicycle_difference(const uint8_t *differences, unsigned i)
+{
+    if (i >= MILECOPPER_MOST_BICYCLES)
+        return 0;
+    return milecopper_difference(differences + MILECOPPER_BICYCLES_DIFFERENCES_AT, i);
+}
+
+/* The sum of all payers' differences: what the account pays more, or less. */
+static inline int64_t milecopper_differences_total(const uint8_t *differences)
+{
+    int64_t total = 0;
+    unsigned i;
+    for (i = 0; i < MILECOPPER_PAYERS; i += 1)
+        total += milecopper_difference(differences, i);
+    return total;
 }
 
 /* ---- The page ----

@@ -13,6 +13,7 @@ export const SORTS = {
     areas: { due: true, several: true, editions: true },
     stops: { due: true, several: true, editions: true },
     trips: { due: true, several: true },
+    corrections: {},
     members: {},
     books: { several: true },
 };
@@ -21,8 +22,8 @@ export const DUE = Object.keys(SORTS).filter((sort) => SORTS[sort].due);
 // ---- Which is which
 
 const ENDING = /\.(csv|json|xlsx)$/i;
-const NAMED = /^(areas|stops|trips|books|members)\b.*\.(csv|json|xlsx?|ods)$/i;
-const MARKS = { trips: 'depart', stops: 'x_m', areas: 'per_km', members: 'number' };
+const NAMED = /^(areas|stops|trips|books|members|corrections)\b.*\.(csv|json|xlsx?|ods)$/i;
+const MARKS = { corrections: 'cancel', trips: 'depart', stops: 'x_m', areas: 'per_km', members: 'number' };
 
 /** What a file holds, by its name, else by the columns that its first line names; null for any other. */
 export function sortOf({ name, bytes }) {

@@ -14,9 +14,13 @@ export const LABELS = {
         chooseFolder: 'Ordner wählen',
         tryIt: 'Beispiel ausprobieren',
         forget: 'Alles vergessen',
-        slots: { areas: 'Gebiete', stops: 'Haltestellen', trips: 'Fahrten', members: 'Mitglieder', books: 'Bücher' },
+        slots: {
+            ...{ areas: 'Gebiete', stops: 'Haltestellen', trips: 'Fahrten' },
+            ...{ corrections: 'Berichtigungen', members: 'Mitglieder', books: 'Bücher' },
+        },
         none: {
             ...{ areas: 'fehlen noch', stops: 'fehlen noch', trips: 'fehlen noch' },
+            corrections: 'nicht nötig; corrections.csv ändert oder streicht Zeilen der Fahrten',
             members: 'nicht nötig; mit members.csv stehen Personalnummern in der Lohnliste',
             books: 'keine; sie sind nötig, wenn die Fahrten nicht von Anfang an da sind',
         },
@@ -89,6 +93,29 @@ export const LABELS = {
         letterContact: 'Kontakt',
         letterDate: 'Datum',
         letterHint: 'Das steht über jeder Abrechnung. Verein und Kontakt werden nur in den Büchern aufgehoben.',
+        corrected: ({ corrected, cancelled }) =>
+            [
+                ...(corrected > 0 ? [many(corrected, 'Fahrt wurde berichtigt.', 'Fahrten wurden berichtigt.')] : []),
+                ...(cancelled > 0 ? [many(cancelled, 'Fahrt wurde gestrichen.', 'Fahrten wurden gestrichen.')] : []),
+            ].join(' '),
+        corrections: 'Berichtigungen',
+        differences: 'Was die Berichtigungen ändern',
+        differenceColumns: {
+            ...{ member: 'Mitglied', rider: 'Wer' },
+            ...{ before: 'Vorher', after: 'Nachher', difference: 'Unterschied' },
+        },
+        sums: { sum: 'Summe', charged: 'Berechnet', collected: 'Eingezogen' },
+        supplements: 'Nachträge zu abgeschlossenen Monaten',
+        supplement: (month) => `Nachtrag ${month}`,
+        saveDifferences: 'Unterschiede speichern',
+        reopen: 'Bücher ersetzen und speichern',
+        reopenHint:
+            'Ein Nachtrag kommt jeden Monat wieder, bis die Bücher ersetzt sind. Der offene Monat geht dann von den ' +
+            'neuen aus; in der Lohnliste bleibt der Nachtrag noch stehen.',
+        reopened: (names) => `Bitte anstelle der bisherigen Bücher aufheben: ${names}`,
+        unopened: ({ name, member }) =>
+            `Nicht ersetzt: in ${name} wäre auch ${member} anders, ohne Nachtrag. Fehlen Fahrten, oder ist der Tarif ` +
+            'ein anderer?',
         closing: 'Monat abschließen',
         saveBooks: 'Abschließen, Bücher speichern',
         booksHint: 'Einmal je Monat, wenn alle seine Fahrten da sind. Von diesen Büchern geht der nächste Monat aus.',
@@ -117,9 +144,13 @@ export const LABELS = {
         chooseFolder: 'Choose a folder',
         tryIt: 'Try the sample',
         forget: 'Forget everything',
-        slots: { areas: 'Areas', stops: 'Stops', trips: 'Trips', members: 'Members', books: 'Books' },
+        slots: {
+            ...{ areas: 'Areas', stops: 'Stops', trips: 'Trips' },
+            ...{ corrections: 'Corrections', members: 'Members', books: 'Books' },
+        },
         none: {
             ...{ areas: 'still missing', stops: 'still missing', trips: 'still missing' },
+            corrections: 'not needed; corrections.csv changes or cancels lines of the trips',
             members: 'not needed; with members.csv the wages have personnel numbers',
             books: 'none; needed where the trips are not there from the start',
         },
@@ -188,6 +219,29 @@ export const LABELS = {
         letterContact: 'Contact',
         letterDate: 'Date',
         letterHint: 'This stands above each statement. Association and contact are kept in the books only.',
+        corrected: ({ corrected, cancelled }) =>
+            [
+                ...(corrected > 0 ? [many(corrected, 'trip was corrected.', 'trips were corrected.')] : []),
+                ...(cancelled > 0 ? [many(cancelled, 'trip was cancelled.', 'trips were cancelled.')] : []),
+            ].join(' '),
+        corrections: 'Corrections',
+        differences: 'What the corrections change',
+        differenceColumns: {
+            ...{ member: 'Member', rider: 'Who' },
+            ...{ before: 'Before', after: 'After', difference: 'Difference' },
+        },
+        sums: { sum: 'Sum', charged: 'Charged', collected: 'Collected' },
+        supplements: 'Supplements to closed months',
+        supplement: (month) => `Supplement for ${month}`,
+        saveDifferences: 'Save the differences',
+        reopen: 'Replace and save the books',
+        reopenHint:
+            'A supplement comes again each month until the books are replaced. The open month then goes on from the ' +
+            'new ones; the supplement still stays in the wages.',
+        reopened: (names) => `Please keep in the place of the former books: ${names}`,
+        unopened: ({ name, member }) =>
+            `Not replaced: in ${name} ${member} would be another, too, without a supplement. Are trips missing, or ` +
+            'is the tariff another?',
         closing: 'Close the month',
         saveBooks: 'Close and save the books',
         booksHint: 'Once a month, when all its trips are there. The next month goes on from these books.',

@@ -13,7 +13,8 @@ import { LABELS } from './labels.mjs';
 import { columnsHtml, doubtsHtml, mistakesCount, mistakesHtml, monthsHtml, slotsHtml } from './layout.mjs';
 
 const NOTHING = {
-    ...{ files: [], notices: [], newTariff: false, ceiling: null }, // the ceiling as she wrote it, or null: not yet
+    ...{ files: [], notices: [], newTariff: false, reopened: null }, // `reopened`: the books that are replaced
+    ceiling: null, // as she wrote it, or null: not yet
     ...{ chosen: undefined, result: null, member: null }, // the month that she chose, what came of it, who is shown
 };
 const state = { language: 'de', turn: 0, ...NOTHING, letter: {} }; // `letter`: who the statements are from, and when
@@ -56,7 +57,8 @@ const known = (file) => ({ ...file, sort: sortOf(file), rows: rowsIn(file) });
 /** Keeps a file, and answers what is to be said of the one whose place it takes. With books another month is open. */
 function keep(file) {
     const { files, replaced } = withFile(state.files, file);
-    Object.assign(state, { files, newTariff: false, ...(file.sort === 'books' ? { chosen: undefined } : {}) });
+    const open = file.sort === 'books' ? { chosen: undefined } : {};
+    Object.assign(state, { files, newTariff: false, reopened: null, ...open });
     if (replaced === null) return [];
     const { replaced: again, inPlaceOf } = labels();
     return [replaced.name === file.name ? again(file.name) : inPlaceOf(file.name, replaced.name)];
@@ -64,7 +66,7 @@ function keep(file) {
 
 function remove({ remove: name, sort }) {
     state.files = state.files.filter((file) => file.name !== name || file.sort !== sort);
-    state.notices = [];
+    Object.assign(state, { notices: [], reopened: null });
     return work();
 }
 
@@ -99,9 +101,8 @@ async function work() {
     if (!DUE.every((sort) => state.files.some((file) => file.sort === sort))) return;
     tell(labels().working);
     showProgress({});
-    const { chosen, language, newTariff } = state;
     await clerk.ask('files', deskFiles(state.files));
-    const values = { chosen, language, newTariff, ceiling, today: todayIn(monthZoneOf(ceiling)) };
+    const values = { ...optionsOf(ceiling), chosen: state.chosen };
     const result = await clerk.ask('run', values, (told) => turn === state.turn && showProgress(told));
     if (turn !== state.turn) return;
     if (state.ceiling === null && result.booksCeiling !== null) return rememberCeiling(result.booksCeiling);
@@ -127,6 +128,11 @@ function rememberCeiling(cents) {
     state.ceiling = state.language === 'de' ? euros(cents).replace('.', ',') : euros(cents);
     element('ceiling').value = state.ceiling;
     return work();
+}
+/** What the desk is told besides the files. */
+function optionsOf(ceiling) {
+    const { language, newTariff, reopened } = state;
+    return { language, newTariff, ceiling, reopen: reopened !== null, today: todayIn(monthZoneOf(ceiling)) };
 }
 
 /** The sender that the books name, unless she has written one. */
@@ -188,10 +194,11 @@ function showResult() {
     return tell(settled ? statusOf(result) : labels().notPriced);
 }
 
-function statusOf({ trips, members, refused }) {
-    const { nothing, priced, refused: told } = labels();
-    if (members.length === 0) return nothing;
-    return [priced(trips, members.length), ...(refused > 0 ? [told(refused)] : [])].join(' ');
+function statusOf({ trips, members, refused, corrections }) {
+    const { nothing, priced, refused: told, corrected } = labels();
+    const counts = members.length === 0 ? [nothing] : [priced(trips, members.length)];
+    const more = corrections ? [corrected(corrections)] : [];
+    return [...counts, ...(refused > 0 ? [told(refused)] : []), ...more].join(' ');
 }
 
 function showMistakes({ mistakes, errors }) {
@@ -203,9 +210,13 @@ function showMistakes({ mistakes, errors }) {
     element('mistakes-lists').classList.toggle('short', errors === 0);
 }
 
-function showWages({ members, wages }) {
+function showWages({ members, wages, differences, reopens }) {
     if (!members.includes(state.member)) state.member = members[0] ?? null;
     element('wages').innerHTML = wages;
+    element('differences').innerHTML = differences;
+    element('corrections').hidden = differences === '';
+    for (const id of ['reopen', 'reopen-hint']) element(id).hidden = reopens === null;
+    element('reopen').disabled = state.reopened !== null;
     element('force').checked = false;
     showClosing();
 }
@@ -286,8 +297,18 @@ function download({ name, type, content }) {
 async function closeMonth() {
     const month = monthText(state.result.period, state.language);
     const { name, content } = await saved('books');
-    keep(known({ name, bytes: new TextEncoder().encode(content) }));
+    const closed = { name, bytes: new TextEncoder().encode(content) };
+    for (const file of [...(state.reopened ?? []), closed]) keep(known(file));
     state.notices = [labels().closed(month, name)];
+    await work();
+}
+
+/** Saves new books in the place of closed ones, and has the open month go on from them. */
+async function reopen() {
+    const { files, fault } = await clerk.ask('reopened', optionsOf(ceilingWritten()));
+    for (const { name, bytes } of files) download({ name, type: 'application/json', content: bytes });
+    if (fault === null) state.reopened = files;
+    state.notices = [fault ? labels().unopened(fault) : labels().reopened(files.map(({ name }) => name).join(', '))];
     await work();
 }
 
@@ -310,6 +331,7 @@ function listen() {
     on('new-tariff', 'click', () => ((state.newTariff = true), work()));
     on('force', 'change', showClosing);
     on('close', 'click', closeMonth);
+    on('reopen', 'click', reopen);
     on('print-one', 'click', () => window.print());
     on('print-all', 'click', printAll);
     on('to-list', 'click', toList);

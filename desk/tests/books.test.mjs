@@ -64,9 +64,8 @@ test('a late trip of a closed month is named, with its line and what to do; what
     const result = run(TRIPS + EVENING + late + MORNING, { books: [file('books-2026-10.json', books)] });
     assert.deepEqual(said(result), [
         "trips.csv:3: warning: 'Anna Berg', late or changed: the trip lies in October 2026, which is closed and " +
-            'whose books (books-2026-10.json) do not have it, and is not priced. If the month is not paid yet, ' +
-            'delete these and later books and close again; else 2026-10, chosen as the month (--period), shows ' +
-            'what it costs with the trip, and the difference has to be settled by itself',
+            "whose books (books-2026-10.json) do not have it so, and is not priced here. './milecopper correct' " +
+            'prices it as a supplement',
     ]);
     assert.deepEqual(cents(result), [659]);
 });

@@ -10,6 +10,8 @@ test('a file is known by its name', () => {
     const sorts = (...names) => names.map((name) => sortOf(file(name, '')));
     const known = sorts('areas.csv', 'Stops 2026.CSV', 'trips-oktober.csv', 'books-2026-09.json', 'members.csv');
     assert.deepEqual(known, ['areas', 'stops', 'trips', 'books', 'members']);
+    const corrections = sorts('corrections.csv', 'Corrections 11.xlsx', 'corrected.csv');
+    assert.deepEqual(corrections, ['corrections', 'corrections', null]);
     const others = sorts('notes.csv', 'trips.csv.bak', 'tripsters.csv', 'trips.pdf', '');
     assert.deepEqual(others, [null, null, null, null, null]);
 });
@@ -20,6 +22,8 @@ test('and else by the columns that it names', () => {
     }
     assert.equal(sortOf(file('Stammdaten.csv', 'number;name;email')), 'members');
     assert.equal(sortOf(file('alt.json', '{"form": "milecopper books 1",')), 'books');
+    assert.equal(sortOf(file('Nachweise.csv', 'Zeile;streichen;Abfahrt')), 'corrections');
+    assert.equal(sortOf(file('charges.csv', 'member,line,check_in,check_out,corrected')), null);
     assert.equal(sortOf(file('x.csv', 'a;b\ndepart;x_m')), null);
 });
 

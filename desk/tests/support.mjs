@@ -23,8 +23,8 @@ export const TRIPS = 'member,date,depart,arrive,from,to,via,class,level,adults,c
 
 /** Runs the desk on the sample's tariff, or other files, and these trips. */
 export function run(trips, { areas = sample('areas.csv'), stops = sample('stops.csv'), ...rest } = {}) {
-    const { books, members, ...options } = rest;
-    return runDesk({ engine, files: { areas, stops, trips, books, members }, language: 'en', ...options });
+    const { books, members, corrections, ...options } = rest;
+    return runDesk({ engine, files: { areas, stops, trips, books, members, corrections }, language: 'en', ...options });
 }
 
 /** All that is said of a run's mistakes. */

@@ -1,7 +1,7 @@
 /*
  * Calls the library and the header's functions as an app might, rightly and wrongly: empty slices with a null pointer, a
- * tariff checked alone, bytes that are no record, records read back, members on a page, a monthly ceiling, and records written by
- * the header's writers.
+ * tariff checked alone, bytes that are no record, records read back, members on a page, a monthly ceiling, a corrected roll, and records
+ * written by the header's writers.
  *
  *     calls TARIFF ROLL
  *
@@ -380,6 +380,67 @@ static void ceilings(const uint8_t *tariff, size_t tariff_len, const uint8_t *tr
     check(memcmp(before, kept, pair) == 0 && book[0] == 0, "which stays, and the book with it");
 }
 
+/* The roll of all trips settled one after another: its statements in `statements`, whose room is enough, and their bytes. */
+static size_t settled(const uint8_t *tariff, size_t tariff_len, const uint8_t *roll, size_t roll_len, uint8_t *statements)
+{
+    uint8_t book[MILECOPPER_BOOK_BYTES] = {0};
+    size_t at;
+    size_t size;
+    size_t written = 0;
+    for (at = 0; at < roll_len; at += size) {
+        size = MILECOPPER_KIND_AT + milecopper_number(roll + at, 2);
+        written += milecopper_bytes_written(milecopper_settle(tariff, tariff_len, book, sizeof book, roll + at, size,
+                                                              statements + written, MILECOPPER_LARGEST_STATEMENT_BYTES));
+    }
+    return written;
+}
+
+/* The roll's first trip, of so many bytes, replaced by itself and by nothing; and what is refused, which writes nothing. */
+static void corrections(const uint8_t *tariff, size_t tariff_len, const uint8_t *roll, size_t roll_len, const uint8_t *trip, size_t first)
+{
+    size_t room = MILECOPPER_LARGEST_STATEMENT_BYTES * (roll_len / MILECOPPER_TRIP_STOPS_AT);
+    size_t all = MILECOPPER_DIFFERENCES_BYTES;
+    uint8_t *own = guarded(room);
+    uint8_t *rest = guarded(room);
+    uint8_t *statements = guarded(room);
+    uint8_t *differences = guarded(all + 1);
+    size_t own_bytes = settled(tariff, tariff_len, roll, roll_len, own);
+    size_t rest_bytes = settled(tariff, tariff_len, roll + first, roll_len - first, rest);
+    unsigned i;
+
+    check(milecopper_correct(NULL, 0, NULL, 0, 1, NULL, 0, NULL, 0, NULL, 0) == refused(MILECOPPER_NO_RECORD, 0), "no roll");
+    check(milecopper_correct(NULL, 0, roll, roll_len, 0, NULL, 0, NULL, 0, NULL, 0) == refused(MILECOPPER_NO_RECORD, 0), "record 0");
+    check(milecopper_correct(NULL, 0, roll, roll_len, MILECOPPER_MOST_ROLL_RECORDS + 1, NULL, 0, NULL, 0, NULL, 0) ==
+              refused(MILECOPPER_NO_RECORD, 0), "too high a number");
+    check(milecopper_correct(NULL, 0, roll, first - 1, 1, NULL, 0, NULL, 0, NULL, 0) == refused(MILECOPPER_NO_RECORD, 0),
+          "a record that is cut");
+    check(milecopper_correct(NULL, 0, roll, roll_len, 1, NULL, 0, NULL, 0, NULL, 0) == refused(MILECOPPER_TARIFF_MISSHAPEN, 0),
+          "no tariff to correct by");
+    check(milecopper_correct(tariff, tariff_len, roll, roll_len, 1, trip, first, NULL, 0, differences, all) ==
+              refused(MILECOPPER_NO_ROOM, 0), "no room for the statements");
+    check(milecopper_correct(tariff, tariff_len, roll, roll_len, 1, trip, first, statements, own_bytes - 1, differences, all) ==
+              refused(MILECOPPER_NO_ROOM, 0), "a byte too few for the statements");
+    check(milecopper_correct(tariff, tariff_len, roll, roll_len, 1, trip, first, statements, room, differences, all - 1) ==
+              refused(MILECOPPER_NO_ROOM, 0), "a byte too few for the differences");
+    check(statements[0] == 0 && differences[0] == 0, "a refused correction writes nothing");
+
+    memset(differences, 99, all + 1);
+    check(milecopper_correct(tariff, tariff_len, roll, roll_len, 1, trip, first, statements, own_bytes, differences, all + 1) ==
+              own_bytes, "a record for itself");
+    check(memcmp(statements, own, own_bytes) == 0, "the roll's own statements");
+    for (i = 0; i < MILECOPPER_PAYERS; i += 1)
+        check(milecopper_difference(differences, i) == 0, "no difference");
+    check(differences[all] == 99, "a byte behind the differences stays");
+
+    check(milecopper_correct(tariff, tariff_len, roll, roll_len, 1, NULL, 0, statements, room, differences, all) == rest_bytes,
+          "a trip that is cancelled");
+    check(memcmp(statements, rest, rest_bytes) == 0, "the statements of the others");
+    check(milecopper_differences_total(differences) != 0, "which cost something else");
+    check(milecopper_correct(tariff, tariff_len, roll, first, 1, NULL, 0, NULL, 0, differences, all) == 0, "the only trip cancelled");
+    check(milecopper_differences_total(differences) == -MILECOPPER_AS(int64_t, milecopper_record_total(own)),
+          "all of it is given back");
+}
+
 /* ---- The writers. */
 
 /* The fields that both kinds of area have. */
@@ -644,6 +705,7 @@ int main(int argc, char **argv)
     any_fields();
     members(tariff, tariff_len, trip, trip_len);
     ceilings(tariff, tariff_len, trip, trip_len);
+    corrections(tariff, tariff_len, roll, roll_len, trip, trip_len);
     all_again(tariff, tariff_len);
     all_again(roll, roll_len);
     editions(tariff, tariff_len, trip, trip_len);

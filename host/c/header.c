@@ -44,6 +44,15 @@ static void sizes(void)
     check(MILECOPPER_TRIP_CHECK_IN_AT + MILECOPPER_STAMP_BYTES == MILECOPPER_TRIP_CHECK_OUT_AT, "a trip's stamps");
     check(MILECOPPER_KEPT_MONTH_AT + 4 == MILECOPPER_KEPT_AMOUNT_AT && MILECOPPER_KEPT_AMOUNT_AT + 4 == MILECOPPER_KEPT_BYTES,
           "what is kept under a ceiling");
+    check(MILECOPPER_PAYERS == MILECOPPER_MOST_CHARGES &&
+              MILECOPPER_DIFFERENCES_BYTES == MILECOPPER_DIFFERENCE_BYTES * MILECOPPER_PAYERS, "the differences");
+    check(MILECOPPER_HOLDER_DIFFERENCE_AT + MILECOPPER_DIFFERENCE_BYTES == MILECOPPER_ADULTS_DIFFERENCES_AT &&
+              MILECOPPER_ADULTS_DIFFERENCES_AT + MILECOPPER_DIFFERENCE_BYTES * MILECOPPER_MOST_ADULTS ==
+                  MILECOPPER_CHILDREN_DIFFERENCES_AT &&
+              MILECOPPER_CHILDREN_DIFFERENCES_AT + MILECOPPER_DIFFERENCE_BYTES * MILECOPPER_MOST_CHILDREN ==
+                  MILECOPPER_BICYCLES_DIFFERENCES_AT &&
+              MILECOPPER_BICYCLES_DIFFERENCES_AT + MILECOPPER_DIFFERENCE_BYTES * MILECOPPER_MOST_BICYCLES ==
+                  MILECOPPER_DIFFERENCES_BYTES, "where the payers' differences stand");
 }
 
 /* Only the types are looked at; nothing is called. */
@@ -57,6 +66,8 @@ static void only_read(void)
     check(sizeof(milecopper_settle_member(read, 0, written, 0, 1, 1, read, 0, written, 0)) == 8, "a member's trip is only read");
     check(sizeof(milecopper_settle_month(1, written, 0, read, 0, written, 0, read, 0, written, 0, written, 0)) == 8,
           "under a ceiling the tariff and the trip are only read");
+    check(sizeof(milecopper_correct(read, 0, read, 0, 1, read, 0, written, 0, written, 0)) == 8,
+          "a correction's tariff, roll and replacement are only read");
     check(sizeof(milecopper_add(written, 0, 1, 1)) == 8 && sizeof(milecopper_close(written, 0, 1, 1)) == 8, "a page is written");
 }
 
@@ -79,6 +90,9 @@ static void answers(void)
     check(milecopper_refusal_of((uint64_t)20 << 32) == MILECOPPER_NO_PLACE, "no free place");
     check(milecopper_refusal_of((uint64_t)21 << 32) == MILECOPPER_WRONG_ASSOCIATION, "no such association");
     check(milecopper_refusal_of((uint64_t)24 << 32) == MILECOPPER_WRONG_CEILING, "a ceiling that is wrong");
+    check(milecopper_refusal_of((uint64_t)23 << 32) == MILECOPPER_NO_RECORD, "no record to correct");
+    check(milecopper_accepted(0) && milecopper_bytes_written(0) == 0, "a corrected roll without a statement");
+    check(milecopper_bytes_written(34864620) == 34864620, "the largest statements of a roll");
     check(milecopper_bytes_written(MILECOPPER_PLACE_BYTES) == MILECOPPER_PLACE_BYTES, "a member who was added");
     check(milecopper_bytes_written(MILECOPPER_BOOK_BYTES) == MILECOPPER_BOOK_BYTES, "a posted trip");
 }
@@ -162,6 +176,27 @@ static void months(void)
     check(milecopper_kept_amount(kept) == 0x040f4240, "the amount that is kept");
 }
 
+/* Differences of each payer, above 0 and below it, and at both ends. */
+static void differences(void)
+{
+    static uint8_t told[MILECOPPER_DIFFERENCES_BYTES];
+    unsigned i;
+    for (i = 0; i < MILECOPPER_PAYERS; i += 1) { /* payer i: -i where it is odd */
+        milecopper_put_number(told + 8 * i, 4, i % 2 == 0 ? i : 0u - i);
+        milecopper_put_number(told + 8 * i + 4, 4, i % 2 == 0 ? 0 : 0xFFFFFFFFu);
+    }
+    check(milecopper_holder_difference(told) == 0 && milecopper_difference(told, 0) == 0, "the holder's difference");
+    check(milecopper_adult_difference(told, 0) == -1 && milecopper_adult_difference(told, 9) == 10, "adults' differences");
+    check(milecopper_child_difference(told, 0) == -11 && milecopper_child_difference(told, 9) == 20, "children's differences");
+    check(milecopper_bicycle_difference(told, 0) == -21 && milecopper_bicycle_difference(told, 9) == 30, "bicycles' differences");
+    check(milecopper_adult_difference(told, 10) == 0 && milecopper_child_difference(told, 10) == 0 &&
+              milecopper_bicycle_difference(told, 10) == 0 && milecopper_difference(told, 31) == 0, "no such payer");
+    check(milecopper_differences_total(told) == 15, "the sum of the differences");
+    check(milecopper_signed_number((const uint8_t *)"\x00\x00\x00\x00\x01\x00\x00\x00") == 4294967296, "above 32 bits");
+    check(milecopper_signed_number((const uint8_t *)"\xff\xff\xff\xff\xff\xff\xff\x7f") == INT64_MAX, "the largest difference");
+    check(milecopper_signed_number((const uint8_t *)"\x00\x00\x00\x00\x00\x00\x00\x80") == INT64_MIN, "the least difference");
+}
+
 /* Fields as a reading tells them, of a record with an adult and a bicycle. */
 static void fields(void)
 {
@@ -220,6 +255,7 @@ int main(void)
     fields();
     books();
     months();
+    differences();
     pages();
     two_records();
     return faults == 0 ? 0 : 1;

@@ -1,7 +1,7 @@
 /*
  * Makes calls of the library on a painted stack, and writes how many bytes of it each function took at most: for an x86-64 that is emulated
- * (host/stack-check). On standard input comes call after call: the function's place in FUNCTIONS, a reading's offset, an association or a ceiling,
- * a member's number, the lengths of six slices, and their bytes.
+ * (host/stack-check). On standard input comes call after call: the function's place in FUNCTIONS, a reading's offset, an association, a ceiling or
+ * a record's number, a member's number, the lengths of six slices, and their bytes.
  * On standard output goes a number for each function. All numbers have 8 bytes.
  */
 typedef __UINT64_TYPE__ word;
@@ -17,16 +17,17 @@ word milecopper_add(void *, word, unsigned, unsigned);
 word milecopper_close(void *, word, unsigned, unsigned);
 word milecopper_settle_member(const void *, word, void *, word, unsigned, unsigned, const void *, word, void *, word);
 word milecopper_settle_month(unsigned, void *, word, const void *, word, void *, word, const void *, word, void *, word, void *, word);
+word milecopper_correct(const void *, word, const void *, word, unsigned, const void *, word, void *, word, void *, word);
 number read(int, void *, word);
 number write(int, const void *, word);
 
 /* As in host/src/stack.rs: each function, how many slices stand before its numbers, and how many these are. */
-enum { HEAD = 3, SLICES = 6, ALL = SLICES, LONGEST = 1 << 17, WORDS = 1 << 10 };
+enum { HEAD = 3, SLICES = 6, ALL = SLICES, LONGEST = 1 << 17, WORDS = 1 << 11 };
 static const struct { const void *start; int before, numbers; } FUNCTIONS[] = {
     { (const void *)milecopper_settle, ALL, 0 },       { (const void *)milecopper_quote, ALL, 0 }, { (const void *)milecopper_post, ALL, 0 },
     { (const void *)milecopper_check_tariff, ALL, 0 }, { (const void *)milecopper_read, 1, 1 },    { (const void *)milecopper_add, 1, 2 },
     { (const void *)milecopper_close, 1, 2 },          { (const void *)milecopper_settle_member, 2, 2 },
-    { (const void *)milecopper_settle_month, 0, 1 }
+    { (const void *)milecopper_settle_month, 0, 1 },   { (const void *)milecopper_correct, 2, 1 }
 };
 enum { MANY = sizeof FUNCTIONS / sizeof *FUNCTIONS };
 static unsigned char slices[SLICES][LONGEST];

@@ -1,4 +1,5 @@
-//! The number that settling, also under a ceiling, a quote, a posting, a reading and the calls on a page answer, taken apart.
+//! The number that settling, also under a ceiling, a quote, a posting, a reading, a correction and the calls on a page answer, taken
+//! apart.
 
 use std::fmt;
 
@@ -15,10 +16,11 @@ pub enum Answer {
 /// The refusals, in the order in which they are tried, in which 8, 9, 17, 10 and 22 stand between 6 and 7. Settling and a quote
 /// give those up to 12; a posting has 13 in the place of 12. A reading gives 14 to 16, and then 12. 18 to 20 are of a page of accounts
 /// alone, with 21 before them: adding gives these four, closing the first three of them, and settling a member those three between
-/// 3 and 4. Settling under a monthly ceiling gives 24, and then what settling gives.
+/// 3 and 4. Settling under a monthly ceiling gives 24, and then what settling gives. A correction gives 23, 1 to 3 and 12.
 #[derive(Clone, Copy, Debug, PartialEq, Eq)]
 pub enum Refusal {
     WrongCeiling = 24,
+    NoRecord = 23,
     TariffBroken = 1,
     TariffMisshapen = 2,
     TariffValue = 3,
@@ -56,8 +58,9 @@ impl Answer {
 }
 
 impl Refusal {
-    pub const ALL: [Refusal; 23] = [
+    pub const ALL: [Refusal; 24] = [
         Refusal::WrongCeiling,
+        Refusal::NoRecord,
         Refusal::TariffBroken,
         Refusal::TariffMisshapen,
         Refusal::TariffValue,
@@ -90,7 +93,8 @@ impl Refusal {
     pub fn of_settling() -> impl Iterator<Item = Refusal> {
         let last = Refusal::ALL.iter().position(|&refusal| refusal == Refusal::NoRoom);
         let up_to_it = Refusal::ALL.into_iter().take(1 + last.expect("one of them"));
-        up_to_it.filter(|&refusal| refusal != Refusal::WrongCeiling && !Refusal::OF_A_PAGE.contains(&refusal))
+        let others = [Refusal::WrongCeiling, Refusal::NoRecord];
+        up_to_it.filter(move |refusal| !others.contains(refusal) && !Refusal::OF_A_PAGE.contains(refusal))
     }
 
     /// The refusal with this number.
@@ -102,6 +106,7 @@ impl Refusal {
     pub fn text(self) -> &'static str {
         match self {
             Refusal::WrongCeiling => "ceiling or amount above the most, or the pair's length",
+            Refusal::NoRecord => "no nth record, or its frame broken",
             Refusal::TariffBroken => "tariff frame broken",
             Refusal::TariffMisshapen => "tariff misshapen",
             Refusal::TariffValue => "tariff value",
@@ -156,10 +161,10 @@ mod tests {
         assert_eq!(Answer::of(20 << 32), Some(Answer::Refused { refusal: Refusal::NoPlace, place: 0 }));
         assert_eq!(Answer::of(21 << 32), Some(Answer::Refused { refusal: Refusal::WrongAssociation, place: 0 }));
         assert_eq!(Answer::of(22 << 32), Some(Answer::Refused { refusal: Refusal::NoEdition, place: 0 }));
-        assert_eq!(Answer::of(23 << 32), None);
+        assert_eq!(Answer::of(23 << 32), Some(Answer::Refused { refusal: Refusal::NoRecord, place: 0 }));
         assert_eq!(Answer::of(24 << 32), Some(Answer::Refused { refusal: Refusal::WrongCeiling, place: 0 }));
         assert_eq!(Answer::of(25 << 32), None);
         assert_eq!(Answer::of(u64::MAX), None);
-        assert!((1..=22).chain([24]).all(|number| Refusal::of(number).is_some_and(|refusal| refusal as u64 == number)));
+        assert!((1..=24).all(|number| Refusal::of(number).is_some_and(|refusal| refusal as u64 == number)));
     }
 }

@@ -2,19 +2,21 @@
 //! every byte of the book and in every byte of the statement or the record; and they read the same charge records, and must agree
 //! in the answer and in every byte of the fields; and they add, settle and close members on the same pages, and must agree in the
 //! answer and in every byte of the page and the statement; and they settle the same trips under a monthly ceiling, and must agree
-//! in the answer and in every byte of what is kept, of book and statement and of what is due.
+//! in the answer and in every byte of what is kept, of book and statement and of what is due; and they correct the same rolls, and must
+//! agree in the answer and in every byte of the statements and the differences.
 //!
 //! A run has parts, which can be repeated one by one. Part 0 of a seed is a sweep ([`sweeps`]): two good cases, one with a
 //! broken trip, and all that lie one step away from them. Every other part is a chain ([`chains`]): trips settled one
 //! after another on one book, with damaged cases in between ([`damage`]). Beside many of them stand a quote and a posting
-//! ([`quotes`]), behind each part records are read ([`readings`]), and behind some there is a page ([`accounts`])
-//! or a ceiling ([`months`]). What is called on the library's side gets slices beside protected pages ([`guarded`]), so that a byte touched outside them is seen.
+//! ([`quotes`]), behind each part records are read ([`readings`]), and behind some there is a page ([`accounts`]),
+//! a ceiling ([`months`]) or a correction ([`corrections`]). What is called on the library's side gets slices beside protected pages ([`guarded`]), so that a byte touched outside them is seen.
 
 mod aachen;
 mod accounts;
 pub mod books;
 mod cases;
 mod chains;
+mod corrections;
 mod counts;
 mod cuts;
 mod damage;
@@ -43,8 +45,8 @@ pub mod trips;
 
 pub use counts::Counts;
 pub use functions::{
-    number_of, settle_by_the_model, ChangePage, Check, Functions, Post, Quote, Read, Settle, SettleMember, SettleMonth,
-    MODEL,
+    number_of, settle_by_the_model, ChangePage, Check, Correct, Functions, Post, Quote, Read, Settle, SettleMember,
+    SettleMonth, MODEL,
 };
 pub use options::{Options, USAGE};
 pub use run::Difference;
@@ -67,6 +69,10 @@ const PARTS_WITH_A_PAGE: u64 = 16;
 /// Likewise for those of a ceiling.
 const MONTHS: u64 = 3 << 32;
 const PARTS_WITH_A_CEILING: u64 = 8;
+
+/// And for those of a correction.
+const CORRECTIONS: u64 = 4 << 32;
+const PARTS_WITH_A_CORRECTION: u64 = 8;
 
 /// Compares these functions, of whoever is called `name`, with the model. Prints the seeds first and the counts at the end.
 /// An error is the first difference, or says what was met too seldom.
@@ -113,6 +119,13 @@ pub fn run_alike(name: &'static str, functions: Functions, options: &Options) ->
             }
             if part.is_multiple_of(PARTS_WITH_A_CEILING) {
                 months::chain(&mut random, &mut run)?;
+            }
+            let mut random = Random::of(seed, CORRECTIONS + part);
+            if part == 0 {
+                corrections::sweep(&mut random, &mut run)?;
+            }
+            if part.is_multiple_of(PARTS_WITH_A_CORRECTION) {
+                corrections::chain(&mut random, &mut run)?;
             }
         }
     }

@@ -1,6 +1,7 @@
 //! Examples, run on anything that settles, quotes and posts: samples/vectors.txt and samples/examples.txt, whose form
 //! [`crate::maker::cases`] tells. What is printed comes of these alone, and each call is looked at besides: a refusal leaves
-//! book and statement as they are, no byte behind the charge records is written, and under a ceiling a trip is settled as without it.
+//! book and statement as they are, no byte behind the charge records is written, and under a ceiling a trip is settled as without it,
+//! and the statements of a corrected roll are those of settling its trips one after another.
 
 use crate::answer::Answer;
 use crate::differential::Functions;
@@ -8,8 +9,10 @@ use crate::maker::bytes_of;
 use crate::maker::cases::{sections_of, Content, Section, Sort};
 use crate::model::book::BOOK_BYTES;
 use crate::model::clock::Date;
+use crate::model::correction::DIFFERENCES_BYTES;
 use crate::model::month::{Kept, DUE_BYTES, KEPT_BYTES};
 use crate::model::record::{record_at, Fields, KIND_AACHEN_AREA, KIND_AREA, KIND_EDITION};
+use crate::model::roll::records_of;
 use crate::model::statement::{number_of, ChargeRecord, LARGEST_STATEMENT};
 use crate::numbers::number;
 
@@ -111,6 +114,7 @@ impl Desk {
                 }
                 self.settled_in_a_month(content, room).unwrap_or_else(refused_line)
             }
+            Sort::Correct => self.corrected(content).unwrap_or_else(refused_line),
             Sort::Fresh => {
                 (self.book, self.kept) = (vec![0; BOOK_BYTES], vec![0; KEPT_BYTES]);
                 String::new()
@@ -175,6 +179,34 @@ impl Desk {
         Ok(format!("{}\ndue {due}, month {month} collected {amount}", record_lines(&records)))
     }
 
+    /// The lines of the corrected roll's charge records, and one of their bytes and the differences. A refusal writes nothing, and the
+    /// statements are those of settling the corrected roll's trips.
+    fn corrected(&self, content: &Content) -> Result<String, Refused> {
+        let Content { bytes: roll, nth, replacement, differences: size, room, .. } = content;
+        let (line, mut differences) = (self.line, vec![0x5b; *size]);
+        let mut trips: Vec<&[u8]> = records_of(roll).into_iter().flatten().collect();
+        let room = room.unwrap_or(LARGEST_STATEMENT * trips.len());
+        let call = |statements: &mut [u8]| {
+            (self.functions.correct)(&self.tariff, roll, *nth, replacement, statements, &mut differences)
+        };
+        // 0 where no trip of the corrected roll is accepted
+        let records = self.written_as(room, call, |desk, number| if number == 0 { Ok(0) } else { desk.answer(number) });
+        let (told, behind) = differences.split_at(if records.is_ok() { DIFFERENCES_BYTES } else { 0 });
+        assert!(behind.iter().all(|&byte| byte == 0x5b), "line {line}: a byte behind the differences was written");
+        let records = records?;
+        trips[*nth as usize - 1] = replacement;
+        let mut book = vec![0; BOOK_BYTES];
+        let one = |trip: &&[u8]| self.settled(&self.tariff, &mut book, trip, LARGEST_STATEMENT).unwrap_or_default();
+        let afresh: Vec<u8> = trips.iter().flat_map(one).collect();
+        assert_eq!(records, afresh, "line {line}: not the statements that settling gives");
+        let numbers = told.chunks(8).map(|bytes| i64::from_le_bytes(bytes.try_into().expect("8 bytes")));
+        let some = numbers.enumerate().filter(|&(_, difference)| difference != 0);
+        let some: String = some.map(|(payer, difference)| format!(" {payer}:{difference}")).collect();
+        let some = if some.is_empty() { " none" } else { &some };
+        let lines = if records.is_empty() { String::new() } else { record_lines(&records) + "\n" };
+        Ok(format!("{lines}bytes {}, differences{some}", records.len()))
+    }
+
     /// The bytes of the charge records.
     fn quoted(&self, tariff: &[u8], book: &[u8], trip: &[u8], room: usize) -> Result<Vec<u8>, Refused> {
         self.written(room, |statement| (self.functions.quote)(tariff, book, trip, statement))
@@ -193,9 +225,19 @@ impl Desk {
 
     /// What a call writes to a statement of this length; it writes nothing behind that, and nothing where it refuses.
     fn written(&self, room: usize, call: impl FnOnce(&mut [u8]) -> u64) -> Result<Vec<u8>, Refused> {
+        self.written_as(room, call, Desk::answer)
+    }
+
+    /// Likewise, of a call whose number stands for such an answer.
+    fn written_as(
+        &self,
+        room: usize,
+        call: impl FnOnce(&mut [u8]) -> u64,
+        answer: fn(&Desk, u64) -> Result<usize, Refused>,
+    ) -> Result<Vec<u8>, Refused> {
         let blank: Vec<u8> = (0..room).map(|place| 0x5b ^ place as u8).collect();
         let mut statement = blank.clone();
-        let answer = self.answer(call(&mut statement));
+        let answer = answer(self, call(&mut statement));
         let (records, behind) = statement.split_at(answer.unwrap_or(0));
         assert_eq!(behind, &blank[records.len()..], "line {}: a byte was written that is no record's", self.line);
         answer.map(|_| records.to_vec())

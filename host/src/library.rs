@@ -76,6 +76,20 @@ extern "C" {
         due: *mut u8,
         due_len: usize,
     ) -> u64;
+
+    pub(crate) fn milecopper_correct(
+        tariff: *const u8,
+        tariff_len: usize,
+        roll: *const u8,
+        roll_len: usize,
+        n: u32,
+        replacement: *const u8,
+        replacement_len: usize,
+        statements: *mut u8,
+        statements_len: usize,
+        differences: *mut u8,
+        differences_len: usize,
+    ) -> u64;
 }
 
 /// A faultless tariff's length, or the number that settling under it gives.
@@ -85,7 +99,7 @@ pub fn check_tariff(tariff: &[u8]) -> u64 {
     unsafe { milecopper_check_tariff(tariff.as_ptr(), tariff.len()) }
 }
 
-/// The nine functions, each with the answer's number as the library gives it.
+/// The ten functions, each with the answer's number as the library gives it.
 pub const LIBRARY: Functions = Functions {
     check: check_tariff,
     settle: settle_to_number,
@@ -96,6 +110,7 @@ pub const LIBRARY: Functions = Functions {
     close: close_to_number,
     settle_member: settle_member_to_number,
     settle_month: settle_month_to_number,
+    correct: correct_to_number,
 };
 
 pub fn settle_to_number(tariff: &[u8], book: &mut [u8], trip: &[u8], statement: &mut [u8]) -> u64 {
@@ -217,6 +232,32 @@ pub fn settle_month_to_number(
     }
 }
 
+pub fn correct_to_number(
+    tariff: &[u8],
+    roll: &[u8],
+    n: u32,
+    replacement: &[u8],
+    statements: &mut [u8],
+    differences: &mut [u8],
+) -> u64 {
+    // SAFETY: as above.
+    unsafe {
+        milecopper_correct(
+            tariff.as_ptr(),
+            tariff.len(),
+            roll.as_ptr(),
+            roll.len(),
+            n,
+            replacement.as_ptr(),
+            replacement.len(),
+            statements.as_mut_ptr(),
+            statements.len(),
+            differences.as_mut_ptr(),
+            differences.len(),
+        )
+    }
+}
+
 /// Settles one trip. Accepted: the book is replaced, and the charge records stand at the start of the statement. Refused:
 /// book and statement stay.
 pub fn settle(tariff: &[u8], book: &mut [u8], trip: &[u8], statement: &mut [u8]) -> Answer {
@@ -275,6 +316,23 @@ pub fn settle_month(
     due: &mut [u8],
 ) -> Answer {
     answer_of(settle_month_to_number(ceiling, kept, tariff, book, trip, statement, due))
+}
+
+/// Corrects one record of a roll, counted from 1. Accepted: the bytes of all statements of the corrected roll, which stand at the start
+/// of `statements`, and each payer's new sum less the old one at the start of `differences`. Nothing where no trip of it is accepted: then
+/// there is no statement, and the differences are written all the same. Refused: both stay.
+pub fn correct(
+    tariff: &[u8],
+    roll: &[u8],
+    n: u32,
+    replacement: &[u8],
+    statements: &mut [u8],
+    differences: &mut [u8],
+) -> Option<Answer> {
+    match correct_to_number(tariff, roll, n, replacement, statements, differences) {
+        0 => None,
+        number => Some(answer_of(number)),
+    }
 }
 
 fn answer_of(number: u64) -> Answer {

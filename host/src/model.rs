@@ -14,6 +14,7 @@
 //! - [`reading`]: charge records read off a statement that was kept;
 //! - [`page`]: twelve members' books on one page, six of each of two associations;
 //! - [`month`]: a monthly ceiling over settling;
+//! - [`correction`]: a roll with one record exchanged, and what that changes for each payer;
 //! - [`roll`]: what the program that settles a roll prints;
 //! - [`salvage`]: what is kept of a torn roll, and what the program that salvages rolls prints;
 //! - [`table`]: what the program that prints statements prints.
@@ -25,6 +26,7 @@ pub mod book;
 pub mod caps;
 pub mod charge;
 pub mod clock;
+pub mod correction;
 pub mod editions;
 pub mod fare;
 pub mod month;
@@ -42,6 +44,7 @@ pub mod trip;
 use book::{Book, TRIPS_IN_A_WINDOW};
 use charge::{costs_of, window_for, Costs};
 use clock::MINUTES_IN_A_DAY;
+pub use correction::correct;
 pub use editions::{read_file, File};
 use fare::Ride;
 pub use month::settle_month;

@@ -1,13 +1,13 @@
 //! The stack that a call of the library takes, by painting the stack that it runs on (c/painted.c). x86-64 and aarch64.
 
 use crate::library::{
-    milecopper_add, milecopper_check_tariff, milecopper_close, milecopper_post, milecopper_quote, milecopper_read,
-    milecopper_settle, milecopper_settle_member, milecopper_settle_month,
+    milecopper_add, milecopper_check_tariff, milecopper_close, milecopper_correct, milecopper_post, milecopper_quote,
+    milecopper_read, milecopper_settle, milecopper_settle_member, milecopper_settle_month,
 };
 
 /// What the library exports, and how many bytes of stack a call may take. Who raises a limit says why in docs/DECISIONS.md.
 /// c/painter.c has the functions in the same order.
-pub const FUNCTIONS: [Function; 9] = [
+pub const FUNCTIONS: [Function; 10] = [
     Function { name: "milecopper_settle", limit: 832, start: milecopper_settle as *const (), before: ALL, numbers: 0 },
     Function { name: "milecopper_quote", limit: 1_536, start: milecopper_quote as *const (), before: ALL, numbers: 0 },
     Function { name: "milecopper_post", limit: 2_048, start: milecopper_post as *const (), before: ALL, numbers: 0 },
@@ -35,6 +35,13 @@ pub const FUNCTIONS: [Function; 9] = [
         before: 0,
         numbers: 1,
     },
+    Function {
+        name: "milecopper_correct",
+        limit: 8_192,
+        start: milecopper_correct as *const (),
+        before: 2,
+        numbers: 1,
+    },
 ];
 
 /// Their places among them.
@@ -47,6 +54,7 @@ pub const ADD: usize = 5;
 pub const CLOSE: usize = 6;
 pub const SETTLE_MEMBER: usize = 7;
 pub const SETTLE_MONTH: usize = 8;
+pub const CORRECT: usize = 9;
 
 /// The most slices that a function takes, each a pointer and a length.
 const SLICES: usize = 6;
@@ -74,8 +82,8 @@ const WORDS: usize = 8 * 1_024;
 struct Stack([u64; WORDS]);
 
 /// What is lent to a call: tariff, book or page and trip, and a statement, or a posting's record; the statement and the fields of
-/// a reading; a page; or what is kept under a ceiling, tariff, book, trip, statement and what is due; and a reading's offset, an
-/// association and a member's number, or the ceiling. A function does not look at what it does not take.
+/// a reading; a page; what is kept under a ceiling, tariff, book, trip, statement and what is due; or tariff, roll, replacement,
+/// statements and differences; and a reading's offset, an association and a member's number, the ceiling, or a record's number. A function does not look at what it does not take.
 #[derive(Clone, Copy)]
 pub struct Call<'a> {
     slices: [&'a [u8]; SLICES],

@@ -129,6 +129,29 @@ fn are_under_a_ceiling(Functions { settle_month, .. }: Functions) {
     }
 }
 
+/// A roll of two trips: one is cancelled, and the other is moved so that the one behind it is refused.
+fn are_corrected(Functions { correct, .. }: Functions) {
+    let (tariff, roll) = (block("tariff"), [block("october-trip"), block("trip")].concat());
+    let [holder, child, bicycle] = ["holders-difference", "childs-difference", "bicycles-difference"].map(block);
+    let cancelled = [holder, vec![0; 80], child, vec![0; 72], bicycle.clone(), vec![0; 72]].concat();
+    let moved = [vec![0; 168], bicycle, vec![0; 72]].concat();
+    for (n, replacement, records, due) in
+        [(2, vec![], block("october-record"), cancelled), (1, block("ride-out-and-back"), block("two-records"), moved)]
+    {
+        let (mut statements, mut differences) = ([0xaa; 1_064], [0xaa; 250]);
+        let by = |statements: &mut [u8], differences: &mut [u8]| {
+            correct(&tariff, &roll, n, &replacement, statements, differences)
+        };
+        assert_eq!(by(&mut statements[..records.len() - 1], &mut differences), 12 << 32);
+        assert_eq!(by(&mut statements, &mut differences[..247]), 12 << 32);
+        assert_eq!(by(&mut statements, &mut differences), records.len() as u64);
+        assert_eq!(statements.to_vec(), [records.clone(), vec![0xaa; 1_064 - records.len()]].concat());
+        assert_eq!(differences.to_vec(), [due, vec![0xaa; 2]].concat());
+    }
+    assert_eq!(correct(&tariff, &roll, 3, &[], &mut [], &mut []), 23 << 32);
+    assert_eq!(correct(&tariff, &roll[..55], 2, &[], &mut [], &mut []), 23 << 32);
+}
+
 /// The table of the statement that the page puts together.
 #[test]
 fn the_table_that_is_printed() {
@@ -146,6 +169,7 @@ fn the_worked_example_by_the_model() {
     are_read(MODEL.read);
     are_on_a_page(MODEL);
     are_under_a_ceiling(MODEL);
+    are_corrected(MODEL);
 }
 
 #[cfg(feature = "library")]
@@ -158,6 +182,7 @@ fn the_worked_example_by_the_library() {
     are_read(milecopper_host::library::LIBRARY.read);
     are_on_a_page(milecopper_host::library::LIBRARY);
     are_under_a_ceiling(milecopper_host::library::LIBRARY);
+    are_corrected(milecopper_host::library::LIBRARY);
 }
 
 #[test]

@@ -10,7 +10,7 @@ fn planted(name: &str) -> (bool, String) {
 }
 
 /// Each planted error, and words of the difference that it makes.
-const FOUND: [(&str, &str); 61] = [
+const FOUND: [(&str, &str); 75] = [
     ("refusal_12_writes_the_book", "the copy refused, and changed the book"),
     ("stops_before_10", "by the model: refused 10 at 0 (before the last check-out)\n  by the copy: refused 7 at 0"),
     ("rounding_once_at_the_end", "of the statement is"),
@@ -77,6 +77,20 @@ const FOUND: [(&str, &str); 61] = [
     ("amount_lowered_with_the_ceiling", "of what is kept is"),
     ("ceiling_after_the_tariff", "by the model: refused 24 at 0"),
     ("room_for_what_is_due_first", "\n  by the copy: refused 12 at 0"),
+    ("bicycle_under_a_childs_number", "of the differences is"),
+    ("child_behind_the_last_adult", "of the differences is"),
+    ("corrected_roll_on_the_old_book", "by the model: accepted"),
+    ("old_sum_less_the_new_one", "of the differences is"),
+    ("differences_of_32_bits", "of the differences is ff by the model, 00 by the copy"),
+    ("record_counted_from_0", "by the model: refused 23 at 0"),
+    ("number_of_two_bytes", "by the model: refused 23 at 0"),
+    ("torn_record_exchanged", "by the model: refused 23 at 0"),
+    ("cancelled_roll_ends_there", "difference"),
+    ("replacement_cut_to_its_first_record", "difference"),
+    ("correction_after_the_tariff", "by the model: refused 23 at 0"),
+    ("differences_before_the_tariff", "\n  by the copy: refused 12 at 0"),
+    ("refused_correction_writes_statements", "the copy refused, and changed the statements"),
+    ("differences_behind_the_last", "of the differences is"),
     ("reads_past_the_trip", "signal 11 instead of an answer"),
 ];
 

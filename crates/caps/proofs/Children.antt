@@ -87,7 +87,7 @@ module _ {t : Tree} (tree : IsTree t) where
       go false e w above = sym (zero-add (cond w c 0))
 
   -- a ride within an area is its own, or within exactly one of the areas right below it
-  one-below :
+  pub one-below :
       (c a : ℕ) → a < t .size → (x : ℕ)
       → cond (within t a x) c 0 ≡ cond (eqb a x) c 0 + overChildren t x (λ y. cond (within t a y) c 0) (t .size)
   one-below c =

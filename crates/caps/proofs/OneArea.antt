@@ -71,6 +71,11 @@ pub capped-mono : (cap : Cap) {m n : ℕ} → m ≤ n → cappedBy cap m ≤ cap
 capped-mono NoCap h = h
 capped-mono (UpTo most) h = omega arith
 
+-- and adds nothing to a difference
+pub capped-within : (cap : Cap) {m : ℕ} (n k : ℕ) → m ≤ n + k → cappedBy cap m ≤ cappedBy cap n + k
+capped-within NoCap n k h = h
+capped-within (UpTo most) n k h = omega arith
+
 -- an amount cut to what a cap has left fills the cap, and so does whatever is then charged of it, if that is all of it
 left-full :
     (cap : Cap) (sum amount : ℕ) → AtMost sum cap → cappedBy (leftOf cap sum) amount < amount

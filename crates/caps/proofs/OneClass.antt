@@ -1,16 +1,28 @@
--- The promise about windows of one class: the charges add up to what totals alone give, so the order of the rides does not matter.
+-- The promise about windows of one class: the charges add up to what totals alone give, so the order of the rides does not matter, and a dearer
+-- price adds at most what it is dearer by.
 -- No total exceeds what totals alone give an area, since no cap is passed and no charge exceeds its price; and it reaches it where no
 -- cap above is full, since a charge is cut only by a full cap, and a full cap stays full. Above the state there is no cap.
 -- Assumes nothing.
 use Prim.Native.Nat.{ℕ, zero, suc, _+_, _≤_, _<_}
 use native.Mathlib.Nat.{le-refl}
 use native.Mathlib.Omega.{arith}
-use native.Mathlib.Decide.{ℕ-discrete}
+use native.Mathlib.Decide.{ℕ-discrete, decLt}
 use mathlib.Core.Path.{_≡_, refl, sym, ap, subst, _∙_}
 use mathlib.Core.Logic.{⊎-elim}
 use mathlib.Core.Bool.{Bool, true, false, cond, and-eq-true-iff}
-use mathlib.Core.List.{List, [], _∷_, List·Permᴰ, List·Permᴰ·nil, List·Permᴰ·cons, List·Permᴰ·swap, List·Permᴰ·trans}
-use borrow.Author.Tests.{eqb-true, eq-eqb}
+use mathlib.Core.List.{
+  List,
+  [],
+  _∷_,
+  _++_,
+  List·Permᴰ,
+  List·Permᴰ·nil,
+  List·Permᴰ·cons,
+  List·Permᴰ·swap,
+  List·Permᴰ·trans,
+  Permᴰ·middle,
+}
+use borrow.Author.Tests.{eqb-true, eq-eqb, ne-eqb}
 use lib.Dec.{eqb}
 use Rattle.units.specs.Caps.{cappedBy}
 use Rattle.units.proofs.Caps.{capped-most}
@@ -36,11 +48,12 @@ use Rattle.caps.specs.Rides.{
   oneClass,
   pricesOf,
   Reordered,
+  OneDearer,
 }
-use Rattle.caps.proofs.OneArea.{stays-full, smaller-full, full-or-not, fits-capped, full-capped, capped-mono}
+use Rattle.caps.proofs.OneArea.{stays-full, smaller-full, full-or-not, fits-capped, full-capped, capped-mono, capped-within}
 use Rattle.caps.proofs.Climb.{top-alone, within-cases, state-level}
 use Rattle.caps.proofs.Window.{no-more-than-price, no-cap-passed, cut-leaves-full, state-total}
-use Rattle.caps.proofs.Children.{child-is, over-mono, over-nothing, ownCharges, total-in-parts}
+use Rattle.caps.proofs.Children.{child-is, over-mono, over-add, over-nothing, one-below, ownCharges, total-in-parts}
 
 -- the latest ride and the rides before it are of the one class
 one-class-parts :
@@ -85,6 +98,40 @@ any-order x (List·Permᴰ·trans first second) = any-order x first ∙ any-orde
 -- The prices of each area's own rides are the same in any order.
 pub reordered-prices : (x : ℕ) (es fs : List ChargedRide) → Reordered es fs → ownPrices x es ≡ ownPrices x fs
 reordered-prices x es fs order = own-pairs x es ∙ any-order x order ∙ sym (own-pairs x fs)
+
+-- ---- A dearer price.
+
+-- Where one price is dearer, the prices of its area's own rides are as much more, and those of each other area the same.
+pub dearer-prices :
+    {increase : ℕ} (es fs : List ChargedRide) (dearer : OneDearer increase es fs) (x : ℕ)
+    → ownPrices x fs ≡ ownPrices x es + cond (eqb (dearer .area) x) increase 0
+unfolding pricesIn
+dearer-prices {increase} es fs dearer x =
+    omega (
+      arith,
+      own-pairs x es,
+      any-order x (dearer .old),
+      own-pairs x fs,
+      any-order x (dearer .new),
+      part (eqb (dearer .area) x),
+    )
+  where
+    part : (b : Bool) → cond b (dearer .price + increase) 0 ≡ cond b (dearer .price) 0 + cond b increase 0
+    part true = refl
+    part false = refl
+
+-- So it is of rides in the same order, of which one is dearer in its place.
+pub dearer-in-place :
+    (increase area price : ℕ) (later before : List (ℕ × ℕ)) (es fs : List ChargedRide) → pricesOf es ≡ later ++ (area, price) ∷ before
+    → pricesOf fs ≡ later ++ (area, price + increase) ∷ before → OneDearer increase es fs
+dearer-in-place increase area price later before es fs is is′ =
+    record {
+      area = area;
+      price = price;
+      others = later ++ before;
+      old = rw is (Permᴰ·middle (area, price) later before);
+      new = rw is′ (Permᴰ·middle (area, price + increase) later before);
+    }
 
 module _ {t : Tree} (tree : IsTree t) (class : ℕ) where
   -- ---- The one cap of each area that counts.
@@ -282,3 +329,43 @@ module _ {t : Tree} (tree : IsTree t) (class : ℕ) where
       {es fs : List ChargedRide} → ChargedInTurn t es → ChargedInTurn t fs → oneClass class es ≡ true → oneClass class fs ≡ true
       → Reordered es fs → charges es ≡ charges fs
   reordered-same {es} {fs} r s one two order = order-free r s one two (λ x h. reordered-prices x es fs order)
+
+  -- ---- A dearer price.
+
+  -- Where the prices of area a's own rides grow by d, an area's result grows by at most d, and not at all where a does not lie within it.
+  pub result-grows :
+      (es fs : List ChargedRide) (a d : ℕ) → a < t .size
+      → ((x : ℕ) → x < t .size → ownPrices x fs ≤ ownPrices x es + cond (eqb a x) d 0) → (depth x : ℕ) → x < t .size
+      → resultOf t class fs depth x ≤ resultOf t class es depth x + cond (within t a x) d 0
+  unfolding resultOf
+  result-grows es fs a d there prices zero x h =
+      capped-within (capOf t class x) (ownPrices x es) (cond (within t a x) d 0)
+      (omega (arith, prices x h, one-below tree d a there x))
+  result-grows es fs a d there prices (suc depth) x h =
+      capped-within (capOf t class x) (ownPrices x es + overChildren t x (resultOf t class es depth) (t .size)) (cond (within t a x) d 0)
+      (omega (
+        arith,
+        prices x h,
+        one-below tree d a there x,
+        over-add t x (resultOf t class es depth) (λ y. cond (within t a y) d 0) (t .size),
+        over-mono t x (resultOf t class fs depth) (λ y. resultOf t class es depth y + cond (within t a y) d 0) (t .size) λ y k child.
+            result-grows es fs a d there prices depth y k,
+      ))
+
+  -- So what totals alone give never falls, and grows by at most d. Where a is no area, nothing grows.
+  pub totals-grow :
+      (es fs : List ChargedRide) (a d : ℕ) → ((x : ℕ) → x < t .size → ownPrices x fs ≡ ownPrices x es + cond (eqb a x) d 0)
+      → (totalsAlone t class es ≤ totalsAlone t class fs) × (totalsAlone t class fs ≤ totalsAlone t class es + d)
+  totals-grow es fs a d prices =
+      (result-mono es fs (λ x h. omega (arith, prices x h)) 2 0 (tree .state), most (decLt a (t .size)))
+    where
+      whole : (b : Bool) → cond b d 0 ≤ d
+      whole true = le-refl d
+      whole false = omega arith
+
+      most : Dec (a < t .size) → totalsAlone t class fs ≤ totalsAlone t class es + d
+      most (yes there) =
+          omega (arith, result-grows es fs a d there (λ x h. omega (arith, prices x h)) 2 0 (tree .state), whole (within t a 0))
+      most (no out) =
+          let same : (x : ℕ) → x < t .size → cond (eqb a x) d 0 ≡ 0 = λ x h. rw (ne-eqb a x (λ e. omega arith)) in
+          omega (arith, result-mono fs es (λ x h. omega (arith, prices x h, same x h)) 2 0 (tree .state))

@@ -91,6 +91,16 @@ pricesOf (e ∷ es) = (e .area, e .price) ∷ pricesOf es
 abbrev pub Reordered : List ChargedRide → List ChargedRide → Type 0
 Reordered es fs = List·Permᴰ (pricesOf es) (pricesOf fs)
 
+-- ---- A dearer price.
+
+-- the same areas and prices in any order, but for one ride: in the same area its price is `increase` more
+pub record OneDearer (increase : ℕ) (es fs : List ChargedRide) : Type 0 where
+  pub area : ℕ
+  pub price : ℕ
+  pub others : List (ℕ × ℕ)
+  pub old : List·Permᴰ (pricesOf es) ((area, price) ∷ others)
+  pub new : List·Permᴰ (pricesOf fs) ((area, price + increase) ∷ others)
+
 -- ---- Promise 3.
 
 -- of one rider's rides in one window, the latest first, in the tree of areas with the rider's caps: no charge exceeds its price; no cap is

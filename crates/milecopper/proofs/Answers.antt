@@ -1,4 +1,4 @@
--- The exported number is the answer of the outcome, of the quote, of the posting, of a page's change and of a trip under a ceiling.
+-- The exported number is the answer of the outcome, of the quote, of the posting, of a page's change, of a trip under a ceiling and of a correction.
 -- Assumes nothing.
 use Prim.Native.Nat.{ℕ}
 use native.Mathlib.Omega.{arith}
@@ -16,6 +16,8 @@ use Rattle.page.specs.Pages.{Change, unchanged, changed}
 use Rattle.accounts.specs.Members.{changeAnswer, Changed}
 use Rattle.accounts.specs.Contracts.{toldChange, ChangeTold}
 use Rattle.ceiling.specs.Contracts.{MonthTold, MonthSettled}
+use Rattle.corrections.specs.Corrections.{Correction, uncorrected, corrected, correctionAnswer}
+use Rattle.corrections.specs.Contracts.{toldCorrection, CorrectionTold, Corrected}
 use Rattle.milecopper.specs.Contracts.{encodedAs, fillingAnswer, ReadTo}
 
 answer-is : (o : Outcome) → encodedAs (toldBy o) ≡ answerOf o
@@ -64,6 +66,21 @@ change-answer-is (changed new) = refl
 pub changed-told :
     {c : Change} {page page′ : List ℕ} {a : Answer} {r : ℕ} → ChangeTold c page page′ a → r ≡ encodedAs a → Changed c page page′ r
 changed-told {c} told is = record { answer = is ∙ ap encodedAs (told .answer) ∙ change-answer-is c; page-is = told .page-is }
+
+correction-answer-is : (c : Correction) → encodedAs (toldCorrection c) ≡ correctionAnswer c
+correction-answer-is (uncorrected number place) = refl
+correction-answer-is (corrected old new) = refl
+
+pub corrected-told :
+    {c : Correction} {statements statements′ differences differences′ : List ℕ} {a : Answer} {r : ℕ}
+    → CorrectionTold c statements statements′ differences differences′ a → r ≡ encodedAs a
+    → Corrected c statements statements′ differences differences′ r
+corrected-told {c} told is =
+    record {
+      answer = is ∙ ap encodedAs (told .answer) ∙ correction-answer-is c;
+      statements-is = told .statements-is;
+      differences-is = told .differences-is;
+    }
 
 -- A filling's answer, refused or not, as one number.
 refused-answer : (f : Filling) {n : ℕ} → filledAs f ≡ out.Refused n → encodedAs (Refused n 0) ≡ fillingAnswer f

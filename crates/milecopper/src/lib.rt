@@ -18,6 +18,7 @@ ghost use Rattle.milecopper.specs.Tariffs.{tariffAnswer};
 
 pub mod members;
 pub mod months;
+pub mod rolls;
 
 // An answer as one number. Written: the bytes, below 2^32. Refused: the refusal's number × 2^32 + its place.
 fn encoded(answer: Answer) -> u64

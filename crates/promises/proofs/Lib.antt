@@ -1,4 +1,5 @@
 pub mod Promises
+pub mod Dearer
 pub mod Members
 pub mod Rolls
 pub mod Bicycles

@@ -80,7 +80,7 @@ module _ (file : List ℕ) (editions : Editions) (read : ReadFile file editions)
   abbrev treeIn : ℕ → Tree
   treeIn edition = treeOf (tariffIn file editions edition) (countsIn editions edition) (isChild rider)
 
-  tree-is : (edition : ℕ) → IsTree (treeIn edition)
+  pub tree-is : (edition : ℕ) → IsTree (treeIn edition)
   tree-is edition = is-tree (faultless (tariffIn file editions edition) (countsIn editions edition) (edition-read file editions read edition)) (isChild rider)
 
   run-kept : (run : List Step) → KeptRun file editions rider (bookOf file run) (ridesOf file editions rider run) (windowsOf file editions rider run)

@@ -13,7 +13,8 @@ Writes the cases that the differential test has of this seed to standard output,
 0 checks a tariff, 1 settles, 2 quotes, 3 posts, 4 reads. Then come the slices that are lent, tariff, book, trip and statement or record, each
 with its length in 4 bytes; the answer, 8 bytes; and book and statement or record as they are then. A reading has the offset first, 8 bytes;
 it is lent kept records and fields, and the fields come again behind the answer. A slice with the length 4294967295 has no bytes: it is the
-last one of its name again. All numbers are little-endian. Calls on a page of accounts and under a ceiling are left out.";
+last one of its name again. All numbers are little-endian. Calls on a page of accounts, under a ceiling
+and corrections are left out.";
 
 /// The functions by number.
 const CHECK: u8 = 0;
@@ -36,7 +37,7 @@ type Named<'a> = (usize, &'a [u8]);
 
 static WRITER: Mutex<Option<Writer>> = Mutex::new(None);
 
-/// The model, with each call written, but for those on a page of accounts and under a ceiling.
+/// The model, with each call written, but for those on a page of accounts, under a ceiling and corrections.
 const WRITTEN: Functions = Functions {
     check: |tariff| {
         let answer = (MODEL.check)(tariff);

@@ -8,8 +8,8 @@ use milecopper_host::differential::{run_alike, Functions, Options};
 use milecopper_host::examples::{run, FILES};
 use milecopper_host::library::LIBRARY;
 use milecopper_host::stack::{
-    bytes_of, depth_of, Call, ADD, CHECK, CLOSE, FUNCTIONS, IS_PAINTED, POST, QUOTE, READ, SETTLE, SETTLE_MEMBER,
-    SETTLE_MONTH,
+    bytes_of, depth_of, Call, ADD, CHECK, CLOSE, CORRECT, FUNCTIONS, IS_PAINTED, POST, QUOTE, READ, SETTLE,
+    SETTLE_MEMBER, SETTLE_MONTH,
 };
 use milecopper_host::tool::{is_asked, misused};
 use std::io::{BufWriter, Read, Write};
@@ -68,6 +68,10 @@ const PAINTED: Functions = Functions {
     settle_month: |ceiling, kept, tariff, book, trip, statement, due| {
         paint(SETTLE_MONTH, &[kept, tariff, book, trip, statement, due], [ceiling as usize, 0]);
         (LIBRARY.settle_month)(ceiling, kept, tariff, book, trip, statement, due)
+    },
+    correct: |tariff, roll, n, replacement, statements, differences| {
+        paint(CORRECT, &[tariff, roll, replacement, statements, differences], [n as usize, 0]);
+        (LIBRARY.correct)(tariff, roll, n, replacement, statements, differences)
     },
 };
 

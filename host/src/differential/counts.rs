@@ -1,8 +1,9 @@
 //! How many settled cases ended in each refusal and in each kind of acceptance, and what quotes, postings, readings, calls on
-//! pages and calls under a ceiling came to.
+//! pages, calls under a ceiling and corrections came to.
 
 use super::accounts::Accounts;
 use super::cases::Case;
+use super::corrections::Corrections;
 use super::kinds::{is_rare, kinds_of, KINDS};
 use super::months::Months;
 use super::offers::Offers;
@@ -25,6 +26,7 @@ pub struct Counts {
     pub readings: Reads,
     pub accounts: Accounts,
     pub months: Months,
+    pub corrections: Corrections,
     /// Tariffs checked alone, those with a fault and those without.
     tariffs: [u64; 2],
 }
@@ -60,7 +62,8 @@ impl Counts {
     /// Everything that was called.
     fn cases(&self) -> u64 {
         let settled = self.accepted + self.refused();
-        settled + self.quotes.calls() + self.readings.calls() + self.accounts.calls() + self.months.calls()
+        let over_it = self.accounts.calls() + self.months.calls() + self.corrections.calls();
+        settled + self.quotes.calls() + self.readings.calls() + over_it
     }
 
     /// Each kind with its count.
@@ -84,6 +87,7 @@ impl Counts {
         all.extend(self.readings.too_few());
         all.extend(self.accounts.too_few());
         all.extend(self.months.too_few());
+        all.extend(self.corrections.too_few());
         if self.tariffs.contains(&0) {
             all.push("tariffs checked alone".to_string());
         }
@@ -116,6 +120,7 @@ impl fmt::Display for Counts {
         }
         let [faulty, faultless] = self.tariffs;
         writeln!(out, "tariffs checked alone: {faultless} without and {faulty} with a fault")?;
-        write!(out, "{}{}{}{}cases {}", self.quotes, self.readings, self.accounts, self.months, self.cases())
+        write!(out, "{}{}{}{}", self.quotes, self.readings, self.accounts, self.months)?;
+        write!(out, "{}cases {}", self.corrections, self.cases())
     }
 }

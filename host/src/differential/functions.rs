@@ -26,6 +26,9 @@ pub type SettleMember = fn(&[u8], &mut [u8], u32, u32, &[u8], &mut [u8]) -> u64;
 /// Settles under a monthly ceiling: ceiling, what is kept, tariff, book, trip, statement, what is due, and the answer's number.
 pub type SettleMonth = fn(u32, &mut [u8], &[u8], &mut [u8], &[u8], &mut [u8], &mut [u8]) -> u64;
 
+/// Corrects: tariff, roll, the record's number, replacement, statements, differences, and the answer's number.
+pub type Correct = fn(&[u8], &[u8], u32, &[u8], &mut [u8], &mut [u8]) -> u64;
+
 #[derive(Clone, Copy)]
 pub struct Functions {
     pub check: Check,
@@ -37,6 +40,7 @@ pub struct Functions {
     pub close: ChangePage,
     pub settle_member: SettleMember,
     pub settle_month: SettleMonth,
+    pub correct: Correct,
 }
 
 /// The model, called as the library is.
@@ -53,6 +57,9 @@ pub const MODEL: Functions = Functions {
     },
     settle_month: |ceiling, kept, tariff, book, trip, statement, due| {
         number_of(model::settle_month(ceiling, kept, tariff, book, trip, statement, due))
+    },
+    correct: |tariff, roll, n, replacement, statements, differences| {
+        number_of(model::correct(tariff, roll, n, replacement, statements, differences))
     },
 };
 

@@ -41,6 +41,7 @@ pub fn asked_in_words(asked: &Asked) -> String {
 pub fn answer_in_words(number: u64) -> String {
     match Answer::of(number) {
         Some(answer) => answer.to_string(),
+        None if number == 0 => "0 bytes written, which a correction alone answers".to_string(),
         None => format!("{number:#x}, which stands for nothing"),
     }
 }

@@ -22,16 +22,18 @@ pub struct Run {
     pub(super) tariff: Guarded,
     pub(super) book: Guarded,
     pub(super) trip: Guarded,
-    /// The statement, a posting's record, or the fields of a reading.
+    /// The statement, a posting's record, the fields of a reading, or the statements of a corrected roll.
     pub(super) fourth: Guarded,
     /// A statement that is read.
     kept: Guarded,
     /// A page of accounts, and the number that the last call on one answered.
     pub(super) accounts: Guarded,
     pub(super) answer: u64,
-    /// What is kept under a ceiling, and what is due.
+    /// What is kept under a ceiling, and what is due, or the differences of a correction.
     pub(super) pair: Guarded,
     pub(super) due: Guarded,
+    /// A roll that is corrected.
+    pub(super) roll: Guarded,
     /// What was settled in this part of the run.
     settled: Vec<Vec<u8>>,
     /// The last tariff that was checked alone.
@@ -62,7 +64,7 @@ impl Outcome {
 
 impl Run {
     pub fn of(name: &'static str, functions: Functions, print: bool) -> Run {
-        let [tariff, book, trip, fourth, kept, accounts, pair, due] = [(); 8].map(|_| Guarded::new());
+        let [tariff, book, trip, fourth, kept, accounts, pair, due, roll] = [(); 9].map(|_| Guarded::new());
         let (settled, checked, counts) = (Vec::new(), Vec::new(), Counts::default());
         let (answer, seed, part, case) = (0, 0, 0, 0);
         Run {
@@ -77,6 +79,7 @@ impl Run {
             answer,
             pair,
             due,
+            roll,
             settled,
             checked,
             counts,

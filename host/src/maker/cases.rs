@@ -47,11 +47,20 @@
 //! trip ..
 //! = open 526860 area 2 km 3 min 8 cents 221 off 0 by 255 0
 //! = due 221, month 12 collected 221
+//! correct:       # the records that follow are a roll, of which one is corrected
+//! nth 2          # which one, from 1
+//! by ..          # the record that takes its place, as `trip` or `bytes`; nothing unless given
+//! differences 9  # bytes for the differences; 248 unless given
+//! trip ..
+//! trip ..
+//! = open 526860 area 2 km 3 min 8 cents 221 off 0 by 255 0
+//! = bytes 26, differences 0:-100
 //! roll:          # the records that follow are a roll
 //! trip ..
 //! ```
 //!
-//! A fresh book has nothing kept beside it; `kept` takes `length`, too, which gives it as many bytes. A broken trip has two lines,
+//! Of the differences those are told that are not 0, by payer: 0 is the account holder, 1 to 10 are adults, 11 to 20 children, 21 to 30
+//! bicycles. A correction leaves the book. A fresh book has nothing kept beside it; `kept` takes `length`, too, which gives it as many bytes. A broken trip has two lines,
 //! one for each part. `but` offers the section once more with texts of it replaced, instead
 //! of it: on the tariff and the book that it found, and without a trace. `then` offers it after what stands before. Each
 //! text stands once in the section. Of the answer to these only the end is given, with ` / ` between two lines, or
@@ -61,6 +70,7 @@ use super::records::Records;
 use super::words::Words;
 use super::{bytes_of, lines_of, without_comment, Fault};
 use crate::model::book::BOOK_BYTES;
+use crate::model::correction::DIFFERENCES_BYTES;
 use crate::model::month::{Kept, DUE_BYTES};
 use crate::numbers::put;
 use crate::offered::Offered;
@@ -75,13 +85,14 @@ pub enum Sort {
     Quote,
     Post,
     Month,
+    Correct,
     Fresh,
     Book,
     Words,
     Roll,
 }
 
-const SORTS: [(&str, Sort); 11] = [
+const SORTS: [(&str, Sort); 12] = [
     ("tariff:", Sort::Tariff),
     ("sample:", Sort::Sample),
     ("price:", Sort::Price),
@@ -89,6 +100,7 @@ const SORTS: [(&str, Sort); 11] = [
     ("quote:", Sort::Quote),
     ("post:", Sort::Post),
     ("month:", Sort::Month),
+    ("correct:", Sort::Correct),
     ("fresh:", Sort::Fresh),
     ("book:", Sort::Book),
     ("words:", Sort::Words),
@@ -134,12 +146,26 @@ pub struct Content {
     pub ceiling: u32,
     pub kept: Option<Vec<u8>>,
     pub due: usize,
+    /// Of a correction: the record's number, what takes its place, and the bytes for the differences.
+    pub nth: u32,
+    pub replacement: Vec<u8>,
+    pub differences: usize,
 }
 
 /// That of no lines.
 impl Default for Content {
     fn default() -> Content {
-        Content { bytes: Vec::new(), room: None, offered: Offered::Whole, ceiling: 0, kept: None, due: DUE_BYTES }
+        Content {
+            bytes: Vec::new(),
+            room: None,
+            offered: Offered::Whole,
+            ceiling: 0,
+            kept: None,
+            due: DUE_BYTES,
+            nth: 0,
+            replacement: Vec::new(),
+            differences: DIFFERENCES_BYTES,
+        }
     }
 }
 
@@ -229,13 +255,18 @@ fn content_of(sort: Sort, line: usize, lines: &[(usize, String)]) -> Result<Cont
     }
     for (line, text) in lines {
         match (sort, text.split_once(' ')) {
-            (Sort::Settle | Sort::Quote | Sort::Month, Some(("room", bytes))) => {
+            (Sort::Settle | Sort::Quote | Sort::Month | Sort::Correct, Some(("room", bytes))) => {
                 content.room = Some(numbers(*line, bytes, ["room"])?[0]);
             }
             (Sort::Post, Some(("quote", words))) => content.offered = offered_of(*line, words)?,
             (Sort::Month, Some(("ceiling", cents))) => content.ceiling = numbers(*line, cents, ["ceiling"])?[0] as u32,
             (Sort::Month, Some(("kept", words))) => content.kept = Some(kept_of(*line, words)?),
             (Sort::Month, Some(("due", bytes))) => content.due = numbers(*line, bytes, ["due"])?[0],
+            (Sort::Correct, Some(("nth", number))) => content.nth = numbers(*line, number, ["nth"])?[0] as u32,
+            (Sort::Correct, Some(("differences", bytes))) => {
+                content.differences = numbers(*line, bytes, ["differences"])?[0];
+            }
+            (Sort::Correct, Some(("by", record))) => content.replacement = replacement_of(*line, record)?,
             _ => records.take(*line, text)?,
         }
     }
@@ -260,6 +291,13 @@ fn offered_of(line: usize, text: &str) -> Result<Offered, Fault> {
         ("swapped", "") => Ok(Offered::Swapped),
         _ => Err(Fault { line, text: format!("'{text}' makes nothing of a quote") }),
     }
+}
+
+/// The bytes of the record that takes another one's place.
+fn replacement_of(line: usize, text: &str) -> Result<Vec<u8>, Fault> {
+    let mut record = Records::default();
+    record.take(line, text)?;
+    record.finish()
 }
 
 /// A month and an amount, or so many zeros.

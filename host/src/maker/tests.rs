@@ -552,6 +552,9 @@ fn faults_of_a_case_file() {
         ("month:\nkept 321\nrecord 3", "line 2: the amount is missing"),
         ("month:\nceiling 1", "line 1: month: has no record"),
         ("settle:\nceiling 1\nrecord 3", "line 2: 'ceiling' is no sort of line"),
+        ("correct:\nnth x\nrecord 3", "line 2: nth 'x' is not a number"),
+        ("correct:\nby route\nrecord 3", "line 2: 'route' is no sort of line"),
+        ("roll:\nnth 1\nrecord 3", "line 2: 'nth' is no sort of line"),
         ("book:\nrecord 3", "line 2: 'record' is no line of a book"),
         ("book:\nword 1368 1", "line 2: a book has no word 1368"),
         ("book:\nword 3 7 7", "line 2: '7' is one word too many"),
@@ -599,6 +602,17 @@ fn months() {
     let Content { ceiling, kept, due, room, .. } = first.content.clone();
     assert_eq!((ceiling, kept, due, room), (15_000, Some(vec![65, 1, 0, 0, 2, 1, 0, 0]), 3, Some(9)));
     assert_eq!((second.content.ceiling, second.content.kept.clone(), second.content.due), (0, Some(vec![0; 7]), 4));
+}
+
+#[test]
+fn corrections() {
+    let text = "correct:\nnth 2\nby record 3 07\ndifferences 9\nroom 8\nrecord 3\nrecord 4\ncorrect:\nrecord 3";
+    let [first, second] = &sections_of(text).expect("a case file")[..] else { panic!("two sections") };
+    let Content { bytes, nth, replacement, differences, room, .. } = first.content.clone();
+    assert_eq!((nth, replacement, differences, room), (2, vec![3, 0, 3, 0, 7], 9, Some(8)));
+    assert_eq!(bytes, [2, 0, 3, 0, 2, 0, 4, 0]);
+    let Content { nth, replacement, differences, .. } = second.content.clone();
+    assert_eq!((nth, replacement, differences), (0, vec![], 248));
 }
 
 #[test]

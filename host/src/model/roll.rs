@@ -7,7 +7,7 @@ use super::statement::{ChargeRecord, LARGEST_STATEMENT};
 use super::{read_file, settle, Cents};
 
 /// The run stops after so many records.
-pub const MOST_RECORDS: u64 = 65_535;
+pub const MOST_RECORDS: usize = 65_535;
 
 /// The text that the program prints for this tariff and this roll.
 pub fn settle_roll(tariff: &[u8], roll: &[u8]) -> String {
@@ -16,20 +16,16 @@ pub fn settle_roll(tariff: &[u8], roll: &[u8]) -> String {
     }
     let mut book = vec![0; BOOK_BYTES];
     let mut text = String::from("trip area km min open cents\n");
-    let mut number = 0;
     let (mut accepted, mut refused, mut total) = (0, 0, 0);
-    let mut place = 0;
-    while place < roll.len() && number < MOST_RECORDS {
-        number += 1;
-        // A broken frame is refused with 5, counts as a record and ends the run.
-        let Some(record) = record_at(roll, place) else {
+    for (record, number) in records_of(roll).into_iter().zip(1..) {
+        // A broken frame is refused with 5.
+        let Some(record) = record else {
             text += &refused_line(number, 5);
             refused += 1;
-            break;
+            continue;
         };
-        let next = place + record.size();
         let mut statement = [0; LARGEST_STATEMENT];
-        match settle(tariff, &mut book, &roll[place..next], &mut statement) {
+        match settle(tariff, &mut book, record, &mut statement) {
             Ok(written) => {
                 let records = ChargeRecord::read_all(&statement[..written]).expect("settling writes charge records");
                 for charge in &records {
@@ -43,9 +39,23 @@ pub fn settle_roll(tariff: &[u8], roll: &[u8]) -> String {
                 refused += 1;
             }
         }
-        place = next;
     }
     text + &tail(accepted, refused, total)
+}
+
+/// The records of a roll, at most so many. A broken frame counts as one, which has no bytes, and is the last.
+pub fn records_of(roll: &[u8]) -> Vec<Option<&[u8]>> {
+    let mut records = Vec::new();
+    let mut place = 0;
+    while place < roll.len() && records.len() < MOST_RECORDS {
+        let record = record_at(roll, place).map(|record| &roll[place..place + record.size()]);
+        records.push(record);
+        match record {
+            Some(record) => place += record.len(),
+            None => break,
+        }
+    }
+    records
 }
 
 fn accepted_line(number: u64, charge: &ChargeRecord) -> String {

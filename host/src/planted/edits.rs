@@ -7,7 +7,7 @@ pub struct Planted {
     pub edits: &'static [(&'static str, &'static str, &'static str)],
 }
 
-pub const PLANTED: [Planted; 60] = [
+pub const PLANTED: [Planted; 74] = [
     // Promise 1: a refusal changes nothing, and the refusals are tried in their order.
     Planted {
         name: "refusal_12_writes_the_book",
@@ -449,5 +449,98 @@ pub const PLANTED: [Planted; 60] = [
             "unless(DUE_BYTES <= due.len(), 12)?;
              let (new_book, charge_records) = outcome(tariff, book, trip, room)?;",
         )],
+    },
+    // A corrected roll: who pays, from which book, and which refusal goes first.
+    Planted {
+        name: "bicycle_under_a_childs_number",
+        edits: &[(
+            "correction.rs",
+            "[1, 1 + MOST_CARRIED, 1 + 2 * MOST_CARRIED]",
+            "[1, 1 + MOST_CARRIED, 1 + MOST_CARRIED + children]",
+        )],
+    },
+    Planted {
+        name: "child_behind_the_last_adult",
+        edits: &[(
+            "correction.rs",
+            "[1, 1 + MOST_CARRIED, 1 + 2 * MOST_CARRIED]",
+            "[1, 1 + adults, 1 + 2 * MOST_CARRIED]",
+        )],
+    },
+    Planted {
+        name: "corrected_roll_on_the_old_book",
+        edits: &[
+            ("correction.rs", "let mut book = vec![0; BOOK_BYTES];", ""),
+            ("correction.rs", "fn of(tariff: &[u8], trips: &[&[u8]])", "fn of(tariff: &[u8], book: &mut [u8], trips: &[&[u8]])"),
+            ("correction.rs", "settle(tariff, &mut book, trip, &mut statement)", "settle(tariff, book, trip, &mut statement)"),
+            (
+                "correction.rs",
+                "let (before, after) = (Outcome::of(tariff, &old), Outcome::of(tariff, &new));",
+                "let mut book = vec![0; BOOK_BYTES];
+                 let (before, after) = (Outcome::of(tariff, &mut book, &old), Outcome::of(tariff, &mut book, &new));",
+            ),
+        ],
+    },
+    Planted {
+        name: "old_sum_less_the_new_one",
+        edits: &[("correction.rs", "new as i64 - *old as i64", "*old as i64 - new as i64")],
+    },
+    Planted {
+        name: "differences_of_32_bits",
+        edits: &[("correction.rs", "&(new as i64 - *old as i64).to_le_bytes()", "&u64::from((new as u32).wrapping_sub(*old as u32)).to_le_bytes()")],
+    },
+    Planted {
+        name: "record_counted_from_0",
+        edits: &[("correction.rs", "(n as usize).checked_sub(1)", "Some(n as usize)")],
+    },
+    Planted {
+        name: "number_of_two_bytes",
+        edits: &[("correction.rs", "(n as usize).checked_sub(1)", "(n as usize % 65_536).checked_sub(1)")],
+    },
+    Planted {
+        name: "torn_record_exchanged",
+        edits: &[("correction.rs", "unless(!old[exchanged].is_empty(), 23)?;", "")],
+    },
+    Planted {
+        name: "cancelled_roll_ends_there",
+        edits: &[(
+            "correction.rs",
+            "new[exchanged] = replacement;",
+            "new[exchanged] = replacement;
+             if replacement.is_empty() { new.truncate(exchanged); }",
+        )],
+    },
+    Planted {
+        name: "replacement_cut_to_its_first_record",
+        edits: &[(
+            "correction.rs",
+            "new[exchanged] = replacement;",
+            "new[exchanged] = records_of(replacement).first().copied().flatten().unwrap_or(replacement);",
+        )],
+    },
+    Planted {
+        name: "correction_after_the_tariff",
+        edits: &[("correction.rs", "let old = records_of(roll);", "read_file(tariff)?; let old = records_of(roll);")],
+    },
+    Planted {
+        name: "differences_before_the_tariff",
+        edits: &[(
+            "correction.rs",
+            "read_file(tariff)?;",
+            "unless(DIFFERENCES_BYTES <= differences.len(), 12)?; read_file(tariff)?;",
+        )],
+    },
+    Planted {
+        name: "refused_correction_writes_statements",
+        edits: &[(
+            "correction.rs",
+            "let written = after.statements.len();",
+            "let written = after.statements.len();
+             if written <= statements.len() { statements[..written].copy_from_slice(&after.statements); }",
+        )],
+    },
+    Planted {
+        name: "differences_behind_the_last",
+        edits: &[("correction.rs", "Ok(written)", "differences[DIFFERENCES_BYTES..].fill(0); Ok(written)")],
     },
 ];

@@ -1,0 +1,11 @@
+pub mod Paid
+pub mod Totals
+pub mod Differences
+pub mod Records
+pub mod Alone
+pub mod Rooms
+pub mod Rests
+pub mod Turns
+pub mod Outcomes
+pub mod Corrected
+pub mod Ranges

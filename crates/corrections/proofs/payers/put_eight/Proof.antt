@@ -1,0 +1,39 @@
+-- `corrections::payers::put_eight` meets its contract: the lower four bytes are put first, and the upper four behind them.
+-- Assumes nothing.
+use borrow.Author.Needs.{needs}
+use Rattle.corrections.proofs.Differences.{put-two}
+use Rattle.corrections.proofs.payers.put_eight.Statement.{statement}
+use Rattle.corrections.proofs.payers.put_eight.Tie as tie
+
+cast-put-four : tie.Need-cast-put-four
+cast-put-four c = search needs
+
+put-four-requires : tie.Need-put-four-requires
+put-four-requires c κs = search needs
+
+add-put-four : tie.Need-add-put-four
+add-put-four c = search needs
+
+cast-put-four-2 : tie.Need-cast-put-four-2
+cast-put-four-2 c = search needs
+
+put-four-requires-2 : tie.Need-put-four-requires-2
+put-four-requires-2 c κs = search needs
+
+same-length : tie.Need-same-length
+same-length c = search needs
+
+returns : tie.Need-returns
+returns c = put-two _ _ _ (c .before .before .before .before .before .before .put-four .ensures) (c .before .before .put-four2 .ensures)
+
+pub put-eight-spec : {M : Type 1} → statement M
+put-eight-spec =
+    tie.close
+    (tie.spec
+    cast-put-four
+    put-four-requires
+    add-put-four
+    cast-put-four-2
+    put-four-requires-2
+    same-length
+    returns)

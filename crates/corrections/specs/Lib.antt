@@ -1,0 +1,3 @@
+pub mod Corrections
+pub mod Contracts
+pub mod Replaced
