@@ -81,7 +81,7 @@ const TEXTS = {
     },
     quote: {
         de: () => 'ein Anführungszeichen beginnt hier und ist nicht geschlossen, oder dahinter steht noch Text',
-        en: () => 'a quotation mark begins here and is not closed, or text stands behind it',
+        en: () => 'a quotation mark opens here and is not closed, or text follows it',
     },
     columnMissing: {
         de: ({ column }) => `die Spalte '${column}' fehlt`,
@@ -96,8 +96,8 @@ const TEXTS = {
         en: ({ column, near }) => `column '${column}': no such column${meant.en(near)}`,
     },
     columnUnknown: {
-        de: ({ column }) => `Spalte '${column}': unbekannt, wird nicht gelesen`,
-        en: ({ column }) => `column '${column}': not known, not read`,
+        de: ({ column }) => `Spalte '${column}': unbekannt, wird ignoriert`,
+        en: ({ column }) => `column '${column}': unknown, ignored`,
     },
     fieldCount: {
         de: ({ found, due }) =>
@@ -139,16 +139,16 @@ const TEXTS = {
             `${column} '${value}': diese Uhrzeit gibt es in dieser Nacht zweimal; ` +
             `zu schreiben als ${value}${first} (Sommerzeit) oder ${value}${second} (Winterzeit)`,
         en: ({ column, value, offsets: [first, second] }) =>
-            `${column} '${value}': this time is there twice in this night; ` +
+            `${column} '${value}': this time comes twice in this night; ` +
             `write it as ${value}${first} (summer time) or ${value}${second} (winter time)`,
     },
     hourNever: {
         de: ({ column, value }) =>
             `${column} '${value}': diese Uhrzeit gab es an diesem Tag nicht; die Uhr wurde vorgestellt`,
-        en: ({ column, value }) => `${column} '${value}': this time never was on this day; the clock was put on`,
+        en: ({ column, value }) => `${column} '${value}': this time did not exist on this day; the clock went forward`,
     },
     hourOffset: {
-        de: ({ column, value, offsets }) => `${column} '${value}': die Uhr war der Weltzeit da um ${offsets[0]} voraus`,
+        de: ({ column, value, offsets }) => `${column} '${value}': zu dieser Zeit galt UTC${offsets[0]}`,
         en: ({ column, value, offsets }) => `${column} '${value}': the clock was ${offsets[0]} ahead of UTC then`,
     },
     endsBefore: {
@@ -291,7 +291,7 @@ const TEXTS = {
     },
     oddYear: {
         de: ({ year }) => `kein anderer Tag liegt im Jahr ${year}; stimmt das Jahr?`,
-        en: ({ year }) => `no other day is of the year ${year}; is the year right?`,
+        en: ({ year }) => `there is no other day in the year ${year}; is the year right?`,
     },
     tripTwice: {
         de: (other) => `dieselbe Fahrt wie in ${place.de(other)}; doppelt eingetragen?`,
@@ -303,18 +303,18 @@ const TEXTS = {
     },
     nearMembers: {
         de: ({ value, near, ...other }) =>
-            `member '${value}': dieselbe Person wie '${near}' in ${place.de(other)}? Hier sind es zwei`,
+            `member '${value}': dieselbe Person wie '${near}' in ${place.de(other)}? Sie zählen als zwei`,
         en: ({ value, near, ...other }) =>
-            `member '${value}': the same person as '${near}' in ${place.en(other)}? Here they are two`,
+            `member '${value}': the same person as '${near}' in ${place.en(other)}? They count as two`,
     },
     nearBook: {
-        de: ({ value, near }) => `member '${value}': dieselbe Person wie '${near}' in den Büchern? Hier sind es zwei`,
-        en: ({ value, near }) => `member '${value}': the same person as '${near}' in the books? Here they are two`,
+        de: ({ value, near }) => `member '${value}': dieselbe Person wie '${near}' in den Büchern? Sie zählen als zwei`,
+        en: ({ value, near }) => `member '${value}': the same person as '${near}' in the books? They count as two`,
     },
     // the books
     booksBroken: {
-        de: () => 'das sind keine Bücher, wie das Abschließen sie schreibt',
-        en: () => 'these are not books as closing writes them',
+        de: () => 'das sind keine Bücher, wie sie beim Abschließen entstehen',
+        en: () => 'these are not books as they are written when a month is closed',
     },
     booksTwice: {
         de: ({ period, name, other }) =>
@@ -362,7 +362,7 @@ const TEXTS = {
     editionLate: {
         de: ({ from, closed }) =>
             `die Fassung des Tarifs ab ${dateText(from, 'de')} war noch nicht da, als ${monthText(closed, 'de')} ` +
-            'abgeschlossen wurde: dessen Fahrten sind alle nach der Fassung davor berechnet',
+            'abgeschlossen wurde: alle Fahrten bis dahin sind nach der Fassung davor berechnet',
         en: ({ from, closed }) =>
             `the tariff's edition from ${dateText(from, 'en')} was not there yet when ${monthText(closed, 'en')} was ` +
             'closed: all trips up to then are priced by the edition before it',
@@ -378,7 +378,8 @@ const TEXTS = {
     booksPrices: {
         de: ({ open, moved }) =>
             'seit dem Abschließen haben Gebiete andere Preise oder Deckel, oder neue kamen dazu' +
-            `${moved ? ', oder die zweite Fassung hat einen anderen Tag' : ''}. Ist das gewollt: --new-tariff. ` +
+            `${moved ? ', oder die zweite Fassung hat einen anderen Tag' : ''}. ` +
+            'Wenn das so gewollt ist: --new-tariff, auf der Seite der Knopf dafür. ' +
             mixed.de(open),
         en: ({ open, moved }) =>
             'since the closing areas have other prices or caps, or new ones were added' +
@@ -399,10 +400,10 @@ const TEXTS = {
     },
     inBooks: {
         de: ({ count, closed }) =>
-            `abgeschlossen bis ${closed}: was davor liegt, steht in den Büchern und wird nicht noch einmal berechnet ` +
-            `(Fahrten: ${count}, die erste hier)`,
+            `abgeschlossen bis einschließlich ${closed}: Fahrten bis dahin stehen in den Büchern und werden nicht ` +
+            `noch einmal berechnet (Fahrten: ${count}, die erste hier)`,
         en: ({ count, closed }) =>
-            `closed to ${closed}: what lies before is in the books and is not priced again ` +
+            `closed up to and including ${closed}: trips up to then are in the books and are not priced again ` +
             `(trips: ${count}, the first here)`,
     },
     lateTrip: {
@@ -473,9 +474,9 @@ const TEXTS = {
         de: ({ names, month, before, cents }) =>
             `vom ${monthText(before, 'de')} sind weder Fahrten noch Bücher da, und in den ersten 24 Stunden des ` +
             `${monthText(month, 'de')} fahren schon ${listed.de(names)}. War ein Fenster vom Vormonat noch offen, so ` +
-            'beginnt es hier neu, und seine Deckel werden zweimal bezahlt: von diesen Fahrten für ' +
-            `${moneyText(cents, 'de')} kann manches zu viel sein. Zu vermeiden mit books-${before}.json oder den ` +
-            'Fahrten des Vormonats',
+            'beginnt es hier neu, und seine Deckel werden zweimal bezahlt: diese Fahrten kosten zusammen ' +
+            `${moneyText(cents, 'de')}, und ein Teil davon kann zu viel sein. Das lässt sich vermeiden: ` +
+            `books-${before}.json oder die Fahrten des Vormonats dazugeben`,
         en: ({ names, month, before, cents }) =>
             `of ${monthText(before, 'en')} there are neither trips nor books, and in the first 24 hours of ` +
             `${monthText(month, 'en')} these ride already: ${listed.en(names)}. Where a window of the month before ` +
@@ -527,13 +528,13 @@ const TEXTS = {
     // what is no longer told one by one
     further: {
         de: ({ kind, count }) => `und ${count} weitere ${KINDS.de[kind]} in dieser Datei, nicht einzeln genannt`,
-        en: ({ kind, count }) => `and ${count} more ${KINDS.en[kind]} in this file, not told one by one`,
+        en: ({ kind, count }) => `and ${count} more ${KINDS.en[kind]} in this file, not listed`,
     },
     // what the desk finds of itself
     disagreement: {
         de: ({ member, what }) =>
             `die Summen von '${member}' stimmen nicht mit dem Buch überein (${what}); nichts wird ausgegeben`,
-        en: ({ member, what }) => `the sums of '${member}' do not agree with the book (${what}); nothing is put out`,
+        en: ({ member, what }) => `the sums of '${member}' do not agree with the book (${what}); nothing is written`,
     },
 };
 

@@ -148,7 +148,7 @@ export const WORDS = {
         unbuilt: 'the engine was not built',
         engineless: (why) => `the engine cannot be loaded: ${why}`,
         versionless: (why) => `the version's number in include/milecopper.h cannot be read: ${why}`,
-        unprinted: (why) => `what is put out cannot be written: ${why}`,
+        unprinted: (why) => `the output cannot be written: ${why}`,
         unwritten: (folder, why) => `cannot write in ${folder}: ${why}`,
         trips: (files) => `trips: ${files.join(', ')}`,
         books: (file) => `books: ${file}`,

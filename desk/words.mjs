@@ -12,7 +12,7 @@ const REFUSALS = {
     },
     2: {
         de: 'Der Tarif ist falsch aufgebaut: ein Datensatz fehlt, ist zu viel oder steht an der falschen Stelle.',
-        en: 'The tariff is not made as it should be: a record is missing, one too many or in the wrong place.',
+        en: 'The tariff is put together wrongly: a record is missing, is one too many or stands in the wrong place.',
     },
     3: {
         de: 'Im Tarif steht ein Wert, der nicht erlaubt ist.',
@@ -32,11 +32,11 @@ const REFUSALS = {
     },
     7: {
         de: 'Eine Haltestelle der Fahrt steht nicht im Tarif.',
-        en: 'The tariff lacks a stop of the trip.',
+        en: 'The trip has a stop that the tariff does not have.',
     },
     8: {
         de: 'Datum oder Uhrzeit der Fahrt gibt es nicht.',
-        en: 'There is no such date or time as the trip has.',
+        en: 'The trip has a date or a time that does not exist.',
     },
     9: {
         de: 'Die Fahrt endet, bevor sie beginnt, oder dauert länger als 24 Stunden.',
@@ -47,8 +47,8 @@ const REFUSALS = {
         en: 'The trip begins before the last one ended.',
     },
     11: {
-        de: 'In diesem 24-Stunden-Fenster sind schon 256 Fahrten.',
-        en: 'There are 256 trips in this 24-hour window already.',
+        de: 'Mit dieser Fahrt wären es mehr als 256 Fahrten in diesem 24-Stunden-Fenster.',
+        en: 'With this trip there would be more than 256 trips in this 24-hour window.',
     },
     12: {
         de: 'Für die Abrechnung der Fahrt ist zu wenig Platz.',
@@ -56,22 +56,22 @@ const REFUSALS = {
     },
     13: {
         de: 'Die Fahrt hat inzwischen einen anderen Preis als angeboten.',
-        en: 'The trip has another price by now than was quoted.',
+        en: 'The trip now costs something else than was quoted.',
     },
     14: {
         de: 'Die Abrechnung ist beschädigt: ein Datensatz ist unvollständig.',
         en: 'The statement is damaged: a record of it is incomplete.',
     },
     15: {
-        de: 'In der Abrechnung steht ein Datensatz, der keiner über Kosten ist.',
-        en: 'A record of the statement is none of charges.',
+        de: 'In der Abrechnung steht ein Datensatz, der nicht dorthin gehört.',
+        en: 'The statement has a record that is not about charges.',
     },
     16: {
         de: 'In der Abrechnung steht ein Wert, der nicht möglich ist.',
         en: 'A value in the statement is not possible.',
     },
     17: {
-        de: 'Eingecheckt und gleich wieder aus, an einer Haltestelle in weniger als drei Minuten; das kostet nichts.',
+        de: 'Ein- und gleich wieder ausgecheckt, an derselben Haltestelle in unter drei Minuten; das kostet nichts.',
         en: 'Checked in and straight out again, at one stop in less than three minutes; it costs nothing.',
     },
     22: {
@@ -79,7 +79,7 @@ const REFUSALS = {
         en: 'The trip opens a 24-hour window before the tariff is valid.',
     },
     24: {
-        de: 'Monatsdeckel oder schon eingezogener Betrag sind zu groß, oder was davon aufgehoben ist, ist beschädigt.',
+        de: 'Der Monatsdeckel oder der schon eingezogene Betrag ist zu hoch, oder die Angaben dazu sind beschädigt.',
         en: 'The monthly ceiling or the amount collected already is too large, or what is kept of it is damaged.',
     },
 };

@@ -11,7 +11,7 @@
  * For C99 and later and C++11 and later. `host/install PREFIX` in the source's folder builds and installs this file, a
  * static and a shared library and a file for pkg-config below the folder PREFIX. Then:
  *
- *     PKG_CONFIG_PATH=PREFIX/lib/pkgconfig
+ *     export PKG_CONFIG_PATH=PREFIX/lib/pkgconfig
  *     cc app.c $(pkg-config --cflags --libs milecopper)
  *
  *     static uint8_t book[MILECOPPER_BOOK_BYTES];            // all zero: a fresh book, one for each account
@@ -98,23 +98,24 @@
  *     only read, and so are a quote's `book`, a posting's `record` and a reading's `statement`. Else `book`, `page`, `statement`,
  *     `fields`, `kept`, `due`, `statements` and `differences` may be written within their lengths, and only there.
  *   - The slices of a call do not overlap, not even in part.
- *   - A pointer beside a length of 0 is not looked at. It may be null, as that of an empty std::vector is.
+ *   - A pointer beside a length of 0 is ignored. It may be null, as that of an empty std::vector is.
  *   - A tariff has at most MILECOPPER_LARGEST_TARIFF_BYTES bytes, a trip MILECOPPER_LARGEST_TRIP_BYTES, a book exactly
- *     MILECOPPER_BOOK_BYTES and a page MILECOPPER_PAGE_BYTES; others may be offered, and are refused. A statement of
+ *     MILECOPPER_BOOK_BYTES and a page MILECOPPER_PAGE_BYTES; other lengths may be offered, and are refused. A statement of
  *     MILECOPPER_LARGEST_STATEMENT_BYTES has room for every trip, and fields of MILECOPPER_LARGEST_FIELDS_BYTES for every
- *     record. What is kept under a ceiling has exactly MILECOPPER_KEPT_BYTES, and MILECOPPER_DUE_BYTES have room for what is due. For
- *     a corrected roll MILECOPPER_LARGEST_STATEMENT_BYTES for each of its records are enough, and MILECOPPER_DIFFERENCES_BYTES for the
- *     differences. Any length that a size_t holds may be given, any offset, any ceiling, and any number of an association, of a
- *     member or of a record.
+ *     record. What is kept under a ceiling has exactly MILECOPPER_KEPT_BYTES, and MILECOPPER_DUE_BYTES have room for what is
+ *     due. For a corrected roll MILECOPPER_LARGEST_STATEMENT_BYTES for each of its records are enough, and
+ *     MILECOPPER_DIFFERENCES_BYTES for the differences. Any length that a size_t holds may be given, any offset, any ceiling,
+ *     and any number of an association, of a member or of a record.
  *   - A fresh book is MILECOPPER_BOOK_BYTES bytes, all zero. From then on only this library writes into it. Each
  *     account has a book of its own, and the caller keeps it from one trip to the next. An account's trips are
  *     settled or posted in the order in which they were ridden.
  *   - A new page is MILECOPPER_PAGE_BYTES bytes, all zero, and from then on only this library writes into it. Each association
- *     gives its members numbers, 1 to MILECOPPER_LARGEST_MEMBER, whatever the other's are, and keeps one while that member has an
- *     account on the page. Who is closed loses the book with its open window: a member who is added again begins with a fresh one.
- *   - What is kept under a ceiling belongs to its book: fresh it is MILECOPPER_KEPT_BYTES bytes, all zero, and from then on only this
- *     library writes into it. The caller keeps both from one trip to the next, and settles all trips of the book that count with
- *     milecopper_settle_month.
+ *     gives its members numbers, 1 to MILECOPPER_LARGEST_MEMBER, whatever the other's are, and keeps one while that member has
+ *     an account on the page. Closing a member discards the book, open window included: a member who is added again begins with
+ *     a fresh one.
+ *   - What is kept under a ceiling belongs to its book: fresh it is MILECOPPER_KEPT_BYTES bytes, all zero, and from then on
+ *     only this library writes into it. The caller keeps both from one trip to the next, and settles all trips of the book that
+ *     count with milecopper_settle_month.
  *   - During a call no other thread writes any of its slices, and none reads its book or its statement, unless the call
  *     only reads them. Calls on different books may run at the same time, on any threads, and so may quotes on one book and
  *     readings of one statement. They may share one tariff. A page is one slice, so calls on one page do not run at the same
@@ -136,22 +137,23 @@
  *     slices belong to the caller before, during and after the call. It reads no clock and no file and prints nothing.
  *   - It sets no errno, raises and handles no signal, takes no lock and never waits, so it may be called in a signal
  *     handler, too. It always comes back: every call ends, and never with exit, abort or longjmp.
- *   - A trip that is refused changes no byte of the book or the statement. One that is accepted replaces the book, but
- *     not in a quote, and writes its charge records one after another at the start of the statement, but not in a
- *     posting; the statement's further bytes stay as they were. The parts of a broken trip are accepted together or
- *     refused together. A record that is refused changes no byte of the fields; of one that is read the fields stand at their
- *     start, and the further bytes stay as they were. Under a ceiling a refusal changes no byte of what is kept and of what is due
- *     either; an accepted trip writes all of the first, and the first MILECOPPER_DUE_BYTES bytes of the second. A correction that is
+ *   - A trip that is refused changes no byte of the book or the statement. One that is accepted replaces the book, but not in a
+ *     quote, and writes its charge records one after another at the start of the statement, but not in a posting; the
+ *     statement's further bytes stay as they were. The parts of a broken trip are accepted together or refused together. A
+ *     record that is refused changes no byte of the fields; of one that is read the fields stand at their start, and the
+ *     further bytes stay as they were. Under a ceiling a refusal changes no byte of what is kept and of what is due either; an
+ *     accepted trip writes all of the first, and the first MILECOPPER_DUE_BYTES bytes of the second. A correction that is
  *     refused changes no byte of statements and differences; one that is accepted writes both at their starts.
- *   - A call on a page that is refused changes no byte of the page. One that is accepted changes the bytes of that member's place
- *     alone: all of them in adding and closing, its book in settling. What stands in other places, in free ones too, stays as it is.
+ *   - A call on a page that is refused changes no byte of the page. One that is accepted changes the bytes of that member's
+ *     place alone: all of them in adding and closing, its book in settling. What stands in other places, in free ones too,
+ *     stays as it is.
  *   - It tells an association nothing of the other. For the same call, pages that agree in the association's own places give the
  *     same answer, "no room" included, the same charge records and the same places afterwards, whatever the other association's
- *     places hold. That is said of answers: who must not read the other's bytes must not be lent the page.
- *   - It does not find every damage. A book is refused (4) where its words cannot stand together; one with another sum in
- *     it mostly can. A charge record is refused (16) where a number is none that settling writes; one with another charge in
- *     it mostly has none such. A page is refused (18) by its length and the numbers in the association's places; of its books only
- *     the one that is settled on is looked at. What is kept under a ceiling is refused (24) by its length and by an amount above the
+ *     places hold. This is about answers: whoever must not read the other's bytes must not be given the page.
+ *   - It does not find every damage. A book is refused (4) where its words contradict each other; a wrong sum mostly does not.
+ *     A charge record is refused (16) where a number is none that settling writes; one with another charge in it mostly has
+ *     none such. A page is refused (18) by its length and the numbers in the association's places; of its books only the one
+ *     that is settled on is looked at. What is kept under a ceiling is refused (24) by its length and by an amount above the
  *     most; any month may stand in it. Keep a checksum of your own beside a book, a page or a statement that is stored or sent.
  *
  * Another tariff
@@ -163,13 +165,15 @@
  *   belongs to the open window that of the book (milecopper_book_edition), else the one in force at its check-in.
  *
  *   A tariff has two editions at most. To drop the first one, once no book has a window open under it, take its bytes out of the
- *   tariff; then in every book whose last word, at MILECOPPER_BOOK_EDITION_AT, is 2 make it 1, and make a book in which it is 1
- *   fresh, all zero, since its window was of the edition that is gone. Now there is room for the next edition.
+ *   tariff. Then go through all books once, by the last word, at MILECOPPER_BOOK_EDITION_AT, that each has by then: a book in which
+ *   it is 1 becomes fresh, all zero, since its window was of the edition that is gone; where it is 2, it becomes 1, and the book is
+ *   else left alone. Now there is room for the next edition. Nowhere else does the caller write into a book.
  *
- *   A book knows areas by their numbers and its edition's number, and no tariff. Where an edition itself is changed while a window is
- *   open under it, the trips from then on have the new prices, and its caps are compared with what was charged before in the area
- *   of the same number. A bicycle that was carried in an area which the book's edition lacks now makes the book unsound (4), also
- *   for a trip that would open the next window. What is promised of caps is promised under one tariff: leave an edition as it is.
+ *   A book knows areas by their numbers and its edition's number, and no tariff. Where an edition itself is changed while a
+ *   window is open under it, the trips from then on have the new prices, and its caps are compared with what was charged before
+ *   in the area of the same number. A bicycle that was carried in an area which the book's edition lacks now makes the book
+ *   unsound (4), also for a trip that would open the next window. What is promised of caps is promised under one tariff: leave
+ *   an edition as it is.
  *
  * Storing book and statement, so that a power cut loses neither
  *
@@ -177,7 +181,7 @@
  *   they are of, and replace it as a whole:
  *
  *   1. Read the file ACCOUNT, and settle the next trip on its book in memory, or quote and post it. Refused: there is
- *      nothing to store.
+ *      nothing to store; tell why, and take the trip off your list.
  *   2. Write trip number, new book and charge records to a file beside it, ACCOUNT.new; fsync it, and close it.
  *   3. Rename ACCOUNT.new to ACCOUNT, which replaces it at once or not at all; fsync the folder.
  *   4. Now tell what was charged, put the records into whatever else keeps them, and only then take the trip off your
@@ -198,7 +202,7 @@
  * milecopper_version and what the scripts say all come from these lines. */
 #define MILECOPPER_VERSION_MAJOR 0
 #define MILECOPPER_VERSION_MINOR 18
-#define MILECOPPER_VERSION_PATCH 0
+#define MILECOPPER_VERSION_PATCH 1
 #define MILECOPPER_VERSION_AS_TEXT(major, minor, patch) #major "." #minor "." #patch
 #define MILECOPPER_VERSION_AS_WRITTEN(major, minor, patch) MILECOPPER_VERSION_AS_TEXT(major, minor, patch)
 #define MILECOPPER_VERSION \
@@ -427,9 +431,9 @@
 #define MILECOPPER_MOST_TRIPS_IN_A_WINDOW 256
 
 /* Why a trip, a record or a page was refused. Where several apply, the answer is the first of them in this order. Settling and a
- * quote give 1 to 12, 17 and 22, a posting 1 to 11, 17, 22 and 13, a reading 14 to 16 and then 12; adding gives 21 and 18 to 20, closing
- * 21, 18 and 19, and settling a member 1 to 3, 21, 18, 19, and then what settling gives. Settling under a ceiling gives 24, and then
- * what settling gives. A correction gives 23, 1 to 3 and 12. */
+ * quote give 1 to 12, 17 and 22, a posting 1 to 11, 17, 22 and 13, a reading 14 to 16 and then 12; adding gives 21 and 18 to
+ * 20, closing 21, 18 and 19, and settling a member 1 to 3, 21, 18, 19, and then what settling gives. Settling under a ceiling
+ * gives 24, and then what settling gives. A correction gives 23, 1 to 3 and 12. */
 enum milecopper_refusal {
     MILECOPPER_NOT_REFUSED = 0,
     MILECOPPER_WRONG_CEILING = 24,    /* ceiling: it or the amount that is kept is above 1,000,000; or what is kept has
@@ -495,8 +499,8 @@ uint64_t milecopper_settle(const uint8_t *tariff, size_t tariff_len,
  *
  * Accepted: the number of bytes written to the statement, as by milecopper_settle. A statement of
  * MILECOPPER_LARGEST_STATEMENT_BYTES has room for every trip. Refused: as by milecopper_settle, by 1 to 12, 17 or 22, and the
- * statement stays as it was. A quote answers whatever settling would answer. A trip may be quoted as often as one likes,
- * and a quote need not be posted.
+ * statement stays as it was. A quote answers whatever settling would answer. A trip may be quoted any number of times, and a
+ * quote need not be posted.
  */
 uint64_t milecopper_quote(const uint8_t *tariff, size_t tariff_len,
                           const uint8_t *book, size_t book_len,
@@ -524,7 +528,7 @@ uint64_t milecopper_post(const uint8_t *tariff, size_t tariff_len,
 
 /*
  * Reads the charge record that begins `at` bytes behind the statement's start: one of kind 6, which settling writes, or of
- * kind 4, which it wrote before. The statement is only read, and what stands behind the record is not looked at.
+ * kind 4, which it wrote before. The statement is only read, and what comes after the record is ignored.
  *
  * Accepted: the record's length in bytes, so that the next begins at `at` and this. Its fields stand at the start of `fields`;
  * milecopper_fields_charge and the others give them. Refused, times 2^32: by 14, MILECOPPER_RECORD_BROKEN, also where
@@ -532,8 +536,8 @@ uint64_t milecopper_post(const uint8_t *tariff, size_t tariff_len,
  * 12, MILECOPPER_NO_ROOM, where `fields` is shorter than what is told: MILECOPPER_FIELDS_CHARGES_AT bytes and
  * MILECOPPER_FIELDS_EACH_BYTES for each charge. A refusal leaves the fields as they were.
  *
- * What settling or a quote wrote is never refused by 14 to 16, and the fields are those that it was written of. After 15 and
- * 16 one may go on behind the record, whose length stands in its head; after 14 there is nothing to go on by.
+ * What settling or a quote wrote is never refused by 14 to 16, and the fields are those that it was written from. After 15 and
+ * 16 the caller may go on after the record, whose length stands in its head; after 14 it cannot.
  */
 uint64_t milecopper_read(const uint8_t *statement, size_t statement_len, size_t at,
                          uint8_t *fields, size_t fields_len);
@@ -552,8 +556,8 @@ uint64_t milecopper_read(const uint8_t *statement, size_t statement_len, size_t 
 uint64_t milecopper_add(uint8_t *page, size_t page_len, uint32_t association, uint32_t member);
 
 /*
- * Closes a member's account: the whole place is cleared, number and book, and is free from then on. An open window is lost with
- * it, and it is not asked whether the book is sound.
+ * Closes a member's account: the whole place is cleared, number and book, and is free from then on. An open window is discarded
+ * with it, and whether the book is sound is not checked.
  *
  * Accepted: the number of bytes written, MILECOPPER_PLACE_BYTES. Refused, times 2^32: by 21 and 18 as milecopper_add is, and by 19
  * where the association has no such member. A refusal leaves the page as it was.
@@ -565,8 +569,9 @@ uint64_t milecopper_close(uint8_t *page, size_t page_len, uint32_t association, 
  * milecopper_settle would give on that book by itself; no other byte of the page changes, and no other member's book is looked at.
  *
  * Accepted: the number of bytes written to the statement, as by milecopper_settle. Refused: by 1 to 3, then by 21 and 18 as
- * milecopper_add is and by 19 where the association has no such member, and then by 4 to 12, 17 and 22, as by milecopper_settle; page
- * and statement stay as they were. A trip is quoted and posted on the book in a place (milecopper_book_in) as on any other.
+ * milecopper_add is and by 19 where the association has no such member, and then by 4 to 12, 17 and 22, as by
+ * milecopper_settle; page and statement stay as they were. A trip is quoted and posted on the book in a place
+ * (milecopper_book_in) as on any other.
  */
 uint64_t milecopper_settle_member(const uint8_t *tariff, size_t tariff_len,
                                   uint8_t *page, size_t page_len, uint32_t association, uint32_t member,
@@ -574,22 +579,22 @@ uint64_t milecopper_settle_member(const uint8_t *tariff, size_t tariff_len,
                                   uint8_t *statement, size_t statement_len);
 
 /*
- * Settles one trip under a monthly ceiling, in cents. Answer, charge records and book are milecopper_settle's: a ceiling cuts no charge
- * and no record, and the caps of a window count what is charged. What is cut is what is collected: `due` is the sum of all charges of
- * the trip, of both records, with carried persons and bicycles, as far as the ceiling leaves room for it over the amount that was
- * collected in the month before; 0 where the ceiling is reached, or passed since it was lowered.
+ * Settles one trip under a monthly ceiling, in cents. Answer, charge records and book are milecopper_settle's: a ceiling cuts
+ * no charge and no record, and the caps of a window count what is charged. What is cut is what is collected: `due` is the sum
+ * of all charges of the trip, of both records, with carried persons and bicycles, as far as the ceiling leaves room for it over
+ * the amount that was already collected in that month; 0 where the ceiling is reached, or passed since it was lowered.
  *
- * The month is that of the check-in, also of a broken trip, and months are those of UTC: a trip that is checked in on the first of a
- * month at 00:30 winter time belongs to the month before. `kept` is MILECOPPER_KEPT_BYTES bytes, all zero at first: a month, in months
- * since January 2000, and the amount collected in it (milecopper_kept_month, milecopper_kept_amount). Where the trip's month is not the
- * one that is kept, be it an earlier one, the month's amount starts at 0. Afterwards `kept` is the trip's month and its amount with
- * what is due, also where nothing is due.
+ * The month is that of the check-in, also of a broken trip, and months are those of UTC: a trip that is checked in on the first
+ * of a month at 00:30 winter time belongs to the month before. `kept` is MILECOPPER_KEPT_BYTES bytes, all zero at first: a
+ * month, in months since January 2000, and the amount collected in it (milecopper_kept_month, milecopper_kept_amount). Where
+ * the trip's month is not the one that is kept, be it an earlier one, the month's amount starts at 0. Afterwards `kept` is the
+ * trip's month and its amount with what is due, also where nothing is due.
  *
- * Accepted: the number of bytes written to the statement, as by milecopper_settle; what is due stands in the first MILECOPPER_DUE_BYTES
- * bytes of `due` (milecopper_number), and further ones stay as they were. Refused: first by 24, MILECOPPER_WRONG_CEILING, where the ceiling
- * or the amount in `kept` is above MILECOPPER_LARGEST_CEILING or `kept` has not MILECOPPER_KEPT_BYTES bytes; then as by milecopper_settle,
- * in the same order, and by 12 also where `due` has fewer than MILECOPPER_DUE_BYTES bytes. A refusal changes no byte of `kept`, book,
- * statement and `due`.
+ * Accepted: the number of bytes written to the statement, as by milecopper_settle; what is due stands in the first
+ * MILECOPPER_DUE_BYTES bytes of `due` (milecopper_number), and further ones stay as they were. Refused: first by 24,
+ * MILECOPPER_WRONG_CEILING, where the ceiling or the amount in `kept` is above MILECOPPER_LARGEST_CEILING or `kept` has not
+ * MILECOPPER_KEPT_BYTES bytes; then as by milecopper_settle, in the same order, and by 12 also where `due` has fewer than
+ * MILECOPPER_DUE_BYTES bytes. A refusal changes no byte of `kept`, book, statement and `due`.
  *
  * There is no quote, no posting and no page under a ceiling. What would be due is told by a call on copies of book and `kept`. A
  * member's book on a page is lent where it stands (milecopper_book_in), with what is kept for that member.
@@ -602,31 +607,33 @@ uint64_t milecopper_settle_month(uint32_t ceiling, uint8_t *kept, size_t kept_le
                                  uint8_t *due, size_t due_len);
 
 /*
- * Corrects one record of a roll: the roll is settled afresh with `replacement` in the place of its nth record, and compared with the
- * roll as it was.
+ * Corrects one record of a roll: the roll is settled afresh with `replacement` in the place of its nth record, and compared
+ * with the roll as it was.
  *
- * The roll is trip records one after another, of one account, and its first trip is settled on a fresh book. It ends with its last
- * record, with a broken frame, which counts as a record, or after MILECOPPER_MOST_ROLL_RECORDS records; what stands behind that is not
- * looked at. `n` counts from 1. The nth record may be of any kind, and need not be a trip that was accepted.
+ * The roll is trip records one after another, of one account, and its first trip is settled on a fresh book. It ends with its
+ * last record, with a broken frame, which counts as a record, or after MILECOPPER_MOST_ROLL_RECORDS records; what stands behind
+ * that is not looked at. `n` counts from 1. The nth record may be of any kind, and need not be a trip that was accepted.
  *
- * The replacement takes its place as it is, whatever its length. Where it is no whole trip record it is refused there with 5 and charges
- * nothing, and the others are settled all the same: so an empty one, of 0 bytes, cancels the trip. Both rolls are settled from fresh
- * books, so a change may move later windows and their charges, too, and a trip may be accepted in one of them and refused in the other,
- * with 10 for instance. No such refusal ends the call, and none is told: it leaves no charge record.
+ * The replacement takes its place as it is, whatever its length. Where it is no whole trip record it is refused there with 5
+ * and charges nothing, and the others are settled all the same: so an empty one, of 0 bytes, cancels the trip. Both rolls are
+ * settled from fresh books, so a change may move later windows and their charges, too, and a trip may be accepted in one of
+ * them and refused in the other, with 10 for instance. No such refusal ends the call, and none is told: it leaves no charge
+ * record.
  *
- * Accepted: the bytes of all statements of the corrected roll. They stand at the start of `statements`, one behind another, in the
- * order of the roll, and are read as one statement is (milecopper_record_bytes). It may be 0, where no trip of the corrected roll is
- * accepted. MILECOPPER_LARGEST_STATEMENT_BYTES for each record of the roll are always enough. The first MILECOPPER_DIFFERENCES_BYTES bytes
- * of `differences` become for each payer the sum of all its charges in the corrected roll less that in the roll as it was, in cents: below
- * 0 where less is charged now (milecopper_holder_difference and the others). Who rides in only one of them has the sum 0 in the other.
- * Further bytes of both stay as they were.
+ * Accepted: the bytes of all statements of the corrected roll. They stand at the start of `statements`, one behind another, in
+ * the order of the roll, and are read as one statement is (milecopper_record_bytes). It may be 0, where no trip of the
+ * corrected roll is accepted. MILECOPPER_LARGEST_STATEMENT_BYTES for each record of the roll are always enough. The first
+ * MILECOPPER_DIFFERENCES_BYTES bytes of `differences` become for each payer the sum of all its charges in the corrected roll
+ * less that in the roll as it was, in cents: below 0 where less is charged now (milecopper_holder_difference and the others).
+ * Who rides in only one of them has the sum 0 in the other. Further bytes of both stay as they were.
  *
  * Refused, in this order: by 23, MILECOPPER_NO_RECORD, where the roll has no nth record, n being 0 or above
- * MILECOPPER_MOST_ROLL_RECORDS or beyond the last one, or where the nth one's frame is broken; by 1 to 3 with the place; by 12 where not all
- * statements fit or `differences` has fewer than MILECOPPER_DIFFERENCES_BYTES bytes. A refusal writes nothing.
+ * MILECOPPER_MOST_ROLL_RECORDS or beyond the last one, or where the nth one's frame is broken; by 1 to 3 with the place; by 12
+ * where not all statements fit or `differences` has fewer than MILECOPPER_DIFFERENCES_BYTES bytes. A refusal writes nothing.
  *
- * The roll is settled three times: it takes as long as so many calls of milecopper_settle. No byte of the roll is copied or changed. What
- * the account's book is after the corrected roll is not told: settle the roll on a fresh book with milecopper_settle.
+ * The roll is settled three times: it takes as long as so many calls of milecopper_settle. No byte of the roll is copied or
+ * changed. What the account's book is after the corrected roll is not told: settle the roll on a fresh book with
+ * milecopper_settle.
  */
 uint64_t milecopper_correct(const uint8_t *tariff, size_t tariff_len,
                             const uint8_t *roll, size_t roll_len, uint32_t n,
@@ -644,7 +651,7 @@ uint64_t milecopper_correct(const uint8_t *tariff, size_t tariff_len,
 /* ---- The answer ----
  *
  * `answer` is one that milecopper_settle, milecopper_quote, milecopper_post, milecopper_read, milecopper_add, milecopper_close,
- * milecopper_settle_member, milecopper_settle_month or milecopper_correct gave.
+ * milecopper_settle_member, milecopper_settle_month, milecopper_correct or milecopper_check_tariff gave.
  */
 
 /* 1 if the trip was accepted, the record read, the member added or closed, or the roll corrected, else 0. */
@@ -788,8 +795,8 @@ static inline uint32_t milecopper_kept_amount(const uint8_t *kept)
 
 /* ---- The differences of a correction ----
  *
- * `differences` has MILECOPPER_DIFFERENCES_BYTES bytes, as milecopper_correct has written them. Carried persons and bicycles are counted
- * from 0, as in a charge record.
+ * `differences` has MILECOPPER_DIFFERENCES_BYTES bytes, as milecopper_correct has written them. Carried persons and bicycles
+ * are counted from 0, as in a charge record.
  */
 
 /* The number of 8 bytes, in two's complement, that starts at `bytes`. */

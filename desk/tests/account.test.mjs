@@ -54,7 +54,7 @@ test('books of a closed month, of another form or damaged are errors', () => {
     for (const text of ['', '{}', '[]', ...others]) {
         assert.deepEqual(
             said(run(TRIPS + MORNING, { books: text })),
-            ['books:1: these are not books as closing writes them'],
+            ['books:1: these are not books as they are written when a month is closed'],
         );
     }
     const [first] = books.match(/\[1,\d+\]/);
@@ -70,8 +70,8 @@ test("a trip that begins before the books' last check-out, and a member spelt ot
     const early = 'Anna Berg,2026-11-01,00:30,01:45,Bielefeld Hbf,Münster Hbf,,,,,,\n';
     assert.deepEqual(said(run(TRIPS + early + MORNING.replace('Anna Berg', 'ANNA BERG'), { books })), [
         'trips.csv:2: warning: begins before the last check-out in the books (2026-11-01 00:55); refused (10)',
-        "trips.csv:3: warning: member 'ANNA BERG': the same person as 'Anna Berg' in line 2? Here they are two",
-        "trips.csv:3: warning: member 'ANNA BERG': the same person as 'Anna Berg' in the books? Here they are two",
+        "trips.csv:3: warning: member 'ANNA BERG': the same person as 'Anna Berg' in line 2? They count as two",
+        "trips.csv:3: warning: member 'ANNA BERG': the same person as 'Anna Berg' in the books? They count as two",
     ]);
 });
 

@@ -98,7 +98,7 @@ test('of the older form of books only the count is told', () => {
     const books = older(closedOf(OCTOBER, '2026-10'));
     const late = 'Anna Berg,2026-10-14,12:00,12:30,Hamm Hbf,Hamm Betriebshof,,,,,,\n';
     assert.deepEqual(said(run(TRIPS + EVENING + late + MORNING, { books })), [
-        'trips.csv:2: warning: closed to 2026-10: what lies before is in the books and is not priced again ' +
+        'trips.csv:2: warning: closed up to and including 2026-10: trips up to then are in the books and are not priced again ' +
             '(trips: 2, the first here)',
     ]);
 });
@@ -112,7 +112,7 @@ test("an older month's late trips are known where that month's books are given t
     const [told, ...more] = said(run(trips, { books: [first, second] }));
     assert.match(told, /^trips\.csv:3: warning: 'Cem', late or changed: .* September 2026, .*\(books-2026-09\.json\)/);
     assert.deepEqual(more, []);
-    assert.match(said(run(trips, { books: [second] }))[0], /^trips\.csv:2: warning: closed to 2026-10: .*\(trips: 2,/);
+    assert.match(said(run(trips, { books: [second] }))[0], /^trips\.csv:2: warning: closed up to and including 2026-10: .*\(trips: 2,/);
     const whole = file('books-2026-10.json', closedOf(september + EVENING, '2026-10'));
     assert.match(said(run(trips, { books: [whole] }))[0], /^trips\.csv:3: warning: 'Cem', late or changed/);
 });
@@ -127,7 +127,7 @@ test('books whose kept trips are damaged are not books', () => {
         assert.ok(books.includes(old), old);
         assert.deepEqual(
             said(run(TRIPS + MORNING, { books: books.replace(old, now) })),
-            ['books:1: these are not books as closing writes them'],
+            ['books:1: these are not books as they are written when a month is closed'],
             change,
         );
     }
@@ -152,7 +152,7 @@ test('of several books those before the period count, and two of one month are a
     ]);
     assert.deepEqual(result.wages, []);
     const broken = run(trips, { books: [october, file('books-x.json', '{"form": "milecopper books 3"}')] });
-    assert.deepEqual(said(broken), ['books-x.json:1: these are not books as closing writes them']);
+    assert.deepEqual(said(broken), ['books-x.json:1: these are not books as they are written when a month is closed']);
 });
 
 test('what speaks against closing: the future, months left open, a later one closed, closed already', () => {
@@ -317,7 +317,7 @@ test('in books from before there were editions a window is under the first', () 
         assert.deepEqual(words(fresh), []);
         const said1367 = JSON.stringify({ ...rest, members: [{ ...anna, words: [...anna.words, [1367, 1]] }] });
         assert.deepEqual(said(run(TRIPS + MORNING, { books: said1367 })), [
-            'books:1: these are not books as closing writes them',
+            'books:1: these are not books as they are written when a month is closed',
         ]);
     }
     const result = run(TRIPS + EVENING + MORNING, { books: beforeEditions(text) });

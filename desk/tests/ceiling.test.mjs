@@ -204,7 +204,7 @@ test('books whose ceiling or kept month cannot be are no books', () => {
         const [old, now] = change.split('>');
         assert.ok(books.includes(old), old);
         const result = run(TRIPS + NEXT, { books: books.replace(old, now), ceiling: 3000 });
-        assert.deepEqual(said(result), ['books:1: these are not books as closing writes them'], change);
+        assert.deepEqual(said(result), ['books:1: these are not books as they are written when a month is closed'], change);
     }
 });
 

@@ -381,7 +381,7 @@ test('books whose editions are damaged are not books', () => {
         const [old, now] = change.split('>');
         assert.ok(books.includes(old), old);
         const result = said(two(july, { books: books.replace(old, now), period: '2026-07' }));
-        assert.deepEqual(result, ['books:1: these are not books as closing writes them'], change);
+        assert.deepEqual(result, ['books:1: these are not books as they are written when a month is closed'], change);
     }
     const unsound = said(two(july, { books: books.replace('[1367,2]', '[1367,3]'), period: '2026-07' }));
     assert.deepEqual(unsound, ["books:1: the book of 'Anna' is damaged (4)"]);

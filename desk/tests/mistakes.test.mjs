@@ -95,7 +95,7 @@ test('missing, doubled, misspelt and unknown columns', () => {
         "trips.csv:1: the column 'via' is there twice",
     ]);
     assert.deepEqual(head('member,date,depart,arrive,from,to,via,class,level,adults,children,remark\n'), [
-        "trips.csv:1: warning: column 'remark': not known, not read",
+        "trips.csv:1: warning: column 'remark': unknown, ignored",
     ]);
 });
 
@@ -117,7 +117,7 @@ test('a wrong encoding, an empty file, a missing one, an open quote, a field too
     assert.deepEqual(said(run(undefined)), ['trips.csv:1: the file is missing']);
     assert.deepEqual(
         trip('"Anna,2026-10-31\n'),
-        ['trips.csv:2: a quotation mark begins here and is not closed, or text stands behind it'],
+        ['trips.csv:2: a quotation mark opens here and is not closed, or text follows it'],
     );
     assert.deepEqual(trips('Berg, Anna,2026-10-31,23:50,00:21,Münster Hbf,Hamm Hbf,,,,,,\n'), [
         '13 fields instead of 12 as in the header; a comma within a field needs quotation marks',
@@ -153,11 +153,11 @@ test('fields that must not be empty', () => {
 
 test('the hour that is there twice, and the one that never was', () => {
     assert.deepEqual(trips('Anna Berg,2026-10-25,01:30,02:50,Münster Hbf,Hamm Hbf,,,,,,\n'), [
-        "arrive '02:50': this time is there twice in this night; " +
+        "arrive '02:50': this time comes twice in this night; " +
             'write it as 02:50+02:00 (summer time) or 02:50+01:00 (winter time)',
     ]);
     assert.deepEqual(trips('Anna Berg,2026-03-29,02:30,03:10,Münster Hbf,Hamm Hbf,,,,,,\n'), [
-        "depart '02:30': this time never was on this day; the clock was put on",
+        "depart '02:30': this time did not exist on this day; the clock went forward",
     ]);
     assert.deepEqual(trips('Anna Berg,2026-10-31,23:50+02:00,00:21,Münster Hbf,Hamm Hbf,,,,,,\n'), [
         "depart '23:50+02:00': the clock was +01:00 ahead of UTC then",
@@ -216,7 +216,7 @@ test('two spellings of a member', () => {
     const result = run(TRIPS + GOOD + GOOD.replace('Anna Berg', 'anna  berg').replace('10-31', '10-30'));
     assert.deepEqual(
         said(result),
-        ["trips.csv:3: warning: member 'anna berg': the same person as 'Anna Berg' in line 2? Here they are two"],
+        ["trips.csv:3: warning: member 'anna berg': the same person as 'Anna Berg' in line 2? They count as two"],
     );
     assert.equal(result.members.length, 2);
 });
@@ -236,8 +236,8 @@ test('of more than 1,000 errors the others are only counted, and warnings by the
     const result = run(TRIPS + GOOD.replace('2026-10-31', '2026-10-32').repeat(1500) + GOOD.repeat(1200));
     assert.deepEqual([result.errors, result.warnings, result.mistakes.length], [1500, 1199, 2002]);
     const lines = said(result);
-    assert.equal(lines[1000], 'trips.csv:1002: and 500 more errors in this file, not told one by one');
-    assert.equal(lines[2001], 'trips.csv:2503: warning: and 199 more warnings in this file, not told one by one');
+    assert.equal(lines[1000], 'trips.csv:1002: and 500 more errors in this file, not listed');
+    assert.equal(lines[2001], 'trips.csv:2503: warning: and 199 more warnings in this file, not listed');
     assert.deepEqual(result.members, []);
     const german = said(run(TRIPS + 'x\n'.repeat(1002), { language: 'de' }));
     assert.equal(german.at(-1), 'trips.csv:1002: und 2 weitere Fehler in dieser Datei, nicht einzeln genannt');

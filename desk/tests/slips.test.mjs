@@ -44,7 +44,7 @@ test('very many duplicates take no longer than their number', () => {
 
 test('a year that no other day has', () => {
     const october = ['05', '06', '07'].map((day) => ride(`2026-10-${day}`, '08:00', '08:20'));
-    const odd = (line, year) => `${line}: warning: no other day is of the year ${year}; is the year right?`;
+    const odd = (line, year) => `${line}: warning: there is no other day in the year ${year}; is the year right?`;
     assert.deepEqual(warned(...october, ride('2025-10-08', '08:00', '08:20')), [odd(5, 2025)]);
     const both = [ride('2062-10-08', '08:00', '08:20'), ride('2062-10-08', '16:00', '16:20')]; // there and back
     assert.deepEqual(warned(both[0], ...october, both[1]), [odd(2, 2062), odd(6, 2062)]);
@@ -75,7 +75,7 @@ test('a member whose name is near another’s: a letter, swapped names, an initi
     ];
     for (const [one, other] of apart) assert.ok(!near(one, other) && !near(other, one), `${one}, ${other}`);
     assert.deepEqual(warned(ride('2026-10-05', '08:00', '08:20'), ride('2026-10-06', '08:00', '08:20', 'A. Berg')), [
-        "3: warning: member 'A. Berg': the same person as 'Anna Berg' in line 2? Here they are two",
+        "3: warning: member 'A. Berg': the same person as 'Anna Berg' in line 2? They count as two",
     ]);
 });
 
@@ -83,7 +83,7 @@ test('a member whose name is near one of the books', () => {
     const books = booksText(run(TRIPS + ride('2026-10-05', '08:00', '08:20'), { period: '2026-10' }));
     const next = run(TRIPS + ride('2026-11-05', '08:00', '08:20', 'Ana Berg'), { period: '2026-11', books });
     assert.deepEqual(said(next), [
-        "trips.csv:2: warning: member 'Ana Berg': the same person as 'Anna Berg' in the books? Here they are two",
+        "trips.csv:2: warning: member 'Ana Berg': the same person as 'Anna Berg' in the books? They count as two",
     ]);
 });
 

@@ -35,10 +35,10 @@ test('German names that are misspelt, missing or there twice are told', () => {
     assert.deepEqual(said(run(header)), [
         "trips.csv:1: the column 'class' is there twice",
         "trips.csv:1: column 'Abfart': no such column; did you mean 'Abfahrt'?",
-        "trips.csv:1: warning: column 'Notiz': not known, not read",
+        "trips.csv:1: warning: column 'Notiz': unknown, ignored",
     ]);
     assert.deepEqual(said(run('Mitglied;Datum;Abfahrt;von;nach;Preis\n')), [
-        "trips.csv:1: warning: column 'Preis': not known, not read",
+        "trips.csv:1: warning: column 'Preis': unknown, ignored",
         "trips.csv:1: the column 'arrive' is missing",
     ]);
 });

@@ -144,7 +144,7 @@ test('a mistap costs nothing, leaves the window and says why; a minute more, and
     const [member] = result.members;
     assert.deepEqual(member.entries.map(({ accepted, refusal }) => (accepted ? 0 : refusal.number)), [0, 17, 0]);
     const words = LANGUAGES.map((language) => textsOf(result, language)[0].replace(/\s+/g, ' '));
-    assert.match(words[0], /Abgelehnt: Eingecheckt und gleich wieder aus, .*; das kostet nichts\. \(Zeile 3 der Fahrten\)/);
+    assert.match(words[0], /Abgelehnt: Ein- und gleich wieder ausgecheckt, .*; das kostet nichts\. \(Zeile 3 der Fahrten\)/);
     assert.match(words[1], /Refused: Checked in and straight out again, .*; it costs nothing\. \(line 3 of the trips\)/);
     assert.deepEqual(settled([BACK, mistap]).members[0].book, settled([BACK]).members[0].book);
 });

@@ -161,7 +161,7 @@ test('books that keep no trips: a correction of their month is a mistake that sa
     assert.deepEqual(more, []);
     const tolerant = corrected(trips, 'line,cancel\n2,yes\n', { books, tolerant: true });
     assert.deepEqual([tolerant.errors, lines(tolerant, 'supplementUnkept'), wages(tolerant).length], [0, [2], 1]);
-    assert.match(said(corrected(trips + LATE, undefined, { books }))[0], /closed to 2026-10: .*\(trips: 2, the first/);
+    assert.match(said(corrected(trips + LATE, undefined, { books }))[0], /closed up to and including 2026-10: .*\(trips: 2, the first/);
 });
 
 test('the books before are needed, and all trips since then, as they were', () => {

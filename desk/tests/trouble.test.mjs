@@ -132,7 +132,7 @@ test('what is put out has nowhere to go: a reader that left, a full disk, a clos
     };
     const full = shell('RUN >/dev/full');
     assert.equal(full.status, 2);
-    assert.match(full.stderr, /^\.\/milecopper: .* \/ what is put out cannot be written: no space left\n$/);
+    assert.match(full.stderr, /^\.\/milecopper: .* \/ the output cannot be written: no space left\n$/);
     const left = shell('set -o pipefail; RUN | true');
     assert.deepEqual([left.status, left.stderr], [0, '']);
     for (const line of ['RUN >&-', 'RUN 2>&-', 'RUN <&-']) assert.equal(shell(line).status, 0, line);

@@ -43,16 +43,20 @@ mod sweeps;
 mod tariffs;
 pub mod trips;
 
+pub use corrections::correction_met;
 pub use counts::Counts;
 pub use functions::{
     number_of, settle_by_the_model, ChangePage, Check, Correct, Functions, Post, Quote, Read, Settle, SettleMember,
     SettleMonth, MODEL,
 };
+pub use months::month_met;
 pub use options::{Options, USAGE};
+pub use particulars::{edition_of, particulars_met};
 pub use run::Difference;
 
 use random::Random;
 use run::Run;
+use std::ops::RangeInclusive;
 use std::process::ExitCode;
 use std::time::Instant;
 
@@ -95,42 +99,61 @@ pub fn run_alike(name: &'static str, functions: Functions, options: &Options) ->
     let mut run = Run::of(name, functions, options.part.is_some());
     for &seed in &options.seeds {
         for part in options.part.map_or(0..1 + options.longer * CHAINS, |part| part..part + 1) {
-            run.start_part(seed, part);
-            let mut random = Random::of(seed, part);
-            match part {
-                0 => sweeps::sweep(&mut random, &mut run)?,
-                _ => chains::chain(&mut random, &mut run)?,
-            }
-            let mut random = Random::of(seed, READINGS + part);
-            if part == 0 {
-                readings::sweep(&mut random, &mut run)?;
-            }
-            readings::readings(&mut random, &mut run)?;
-            let mut random = Random::of(seed, ACCOUNTS + part);
-            if part == 0 {
-                accounts::sweep(&mut random, &mut run)?;
-            }
-            if part.is_multiple_of(PARTS_WITH_A_PAGE) {
-                accounts::chain(&mut random, &mut run)?;
-            }
-            let mut random = Random::of(seed, MONTHS + part);
-            if part == 0 {
-                months::sweep(&mut random, &mut run)?;
-            }
-            if part.is_multiple_of(PARTS_WITH_A_CEILING) {
-                months::chain(&mut random, &mut run)?;
-            }
-            let mut random = Random::of(seed, CORRECTIONS + part);
-            if part == 0 {
-                corrections::sweep(&mut random, &mut run)?;
-            }
-            if part.is_multiple_of(PARTS_WITH_A_CORRECTION) {
-                corrections::chain(&mut random, &mut run)?;
-            }
+            run_part(&mut run, seed, part)?;
         }
     }
     signals::unset_alarm();
     Ok(run.counts)
+}
+
+/// Has both answer the cases of these parts of a seed. An error is the first difference.
+pub fn run_parts(
+    name: &'static str,
+    functions: Functions,
+    seed: u64,
+    parts: RangeInclusive<u64>,
+) -> Result<(), Difference> {
+    signals::tell_signals();
+    let mut run = Run::of(name, functions, false);
+    let ran = parts.into_iter().try_for_each(|part| run_part(&mut run, seed, part));
+    signals::unset_alarm();
+    ran
+}
+
+fn run_part(run: &mut Run, seed: u64, part: u64) -> Result<(), Difference> {
+    run.start_part(seed, part);
+    let mut random = Random::of(seed, part);
+    match part {
+        0 => sweeps::sweep(&mut random, run)?,
+        _ => chains::chain(&mut random, run)?,
+    }
+    let mut random = Random::of(seed, READINGS + part);
+    if part == 0 {
+        readings::sweep(&mut random, run)?;
+    }
+    readings::readings(&mut random, run)?;
+    let mut random = Random::of(seed, ACCOUNTS + part);
+    if part == 0 {
+        accounts::sweep(&mut random, run)?;
+    }
+    if part.is_multiple_of(PARTS_WITH_A_PAGE) {
+        accounts::chain(&mut random, run)?;
+    }
+    let mut random = Random::of(seed, MONTHS + part);
+    if part == 0 {
+        months::sweep(&mut random, run)?;
+    }
+    if part.is_multiple_of(PARTS_WITH_A_CEILING) {
+        months::chain(&mut random, run)?;
+    }
+    let mut random = Random::of(seed, CORRECTIONS + part);
+    if part == 0 {
+        corrections::sweep(&mut random, run)?;
+    }
+    if part.is_multiple_of(PARTS_WITH_A_CORRECTION) {
+        corrections::chain(&mut random, run)?;
+    }
+    Ok(())
 }
 
 /// The status with which a program that compares ends; an error is printed.

@@ -9,12 +9,16 @@
 //! - `library` (feature `library`) is what the library offers, in safe Rust.
 //! - [`examples`] runs the examples of samples/ on anything that offers the same.
 //! - [`differential`] compares the library with the model on many cases.
+//! - [`conformance`] makes the conformance suite, and answers its cases.
+//! - [`drawing`] draws which crate uses which.
 //! - `stack` (feature `library`) paints the stack that a call of the library runs on.
 //! - [`tool`] is what every program says of itself.
 //! - `planted` (feature `planted`) holds copies of the model with an error in each, to show that the comparison finds it.
 
 pub mod answer;
+pub mod conformance;
 pub mod differential;
+pub mod drawing;
 pub mod examples;
 #[cfg(feature = "library")]
 pub mod library;

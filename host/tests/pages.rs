@@ -1,5 +1,5 @@
 //! What the pages show is what comes of it: the worked examples of docs/FORMAT.md, by the model and by the library, the
-//! texts of docs/TEXT.md, and the sample that README.md prints.
+//! texts of docs/TEXT.md, and the sample that docs/TOUR.md prints.
 
 use milecopper_host::differential::{settle_by_the_model, Functions, Read, Settle, MODEL};
 use milecopper_host::maker::checked_bytes_of;
@@ -7,9 +7,11 @@ use milecopper_host::model::book::BOOK_BYTES;
 use milecopper_host::model::page::{PAGE_BYTES, PLACE_BYTES};
 use milecopper_host::model::settle_roll;
 use milecopper_host::model::table::print_statement;
+use std::fs;
+use std::path::{Path, PathBuf};
 
 const FORMAT: &str = include_str!("../../docs/FORMAT.md");
-const README: &str = include_str!("../../README.md");
+const TOUR: &str = include_str!("../../docs/TOUR.md");
 
 /// The bytes of the block that begins with three backticks and this name.
 fn block(name: &str) -> Vec<u8> {
@@ -189,7 +191,7 @@ fn the_worked_example_by_the_library() {
 fn the_sample_that_is_printed() {
     let (tariff, roll) =
         (include_bytes!("../../samples/tariff.bin").as_slice(), include_bytes!("../../samples/roll.bin").as_slice());
-    let printed: Vec<&str> = README.lines().skip_while(|line| *line != "    trip area km min open cents").collect();
+    let printed: Vec<&str> = TOUR.lines().skip_while(|line| *line != "    trip area km min open cents").collect();
     let printed: Vec<&str> = printed.iter().map_while(|line| line.strip_prefix("    ")).collect();
     assert_eq!(settle_roll(tariff, roll).lines().collect::<Vec<&str>>(), printed);
 }
@@ -199,14 +201,14 @@ fn the_sample_that_is_printed() {
 fn the_statement_that_is_printed() {
     let table = print_statement(include_bytes!("../../samples/statement.bin"));
     let first: String = table.lines().take(3).map(|line| format!("    {line}\n")).collect();
-    assert!(README.contains(&format!("\n\n{first}\n")));
+    assert!(TOUR.contains(&format!("\n\n{first}\n")));
 }
 
 /// The words of the C example, which tests/night.rs and c/check look at.
 #[test]
 fn the_night_in_words() {
     let night: String = include_str!("../c/expected.txt").lines().map(|line| format!("    {line}\n")).collect();
-    assert!(README.contains(&format!("\n\n{night}\n")));
+    assert!(TOUR.contains(&format!("\n\n{night}\n")));
 }
 
 /// What the header says of the stack of any call is the most of what it says of each.
@@ -238,4 +240,37 @@ trip 2026-03-01T00:00+01:00 to 2026-03-01T00:10+01:00 class 3 level 0 adults 0 c
     let faults = checked_bytes_of(&wrong, &stops_of).expect_err("mistakes");
     let told: String = faults.iter().map(|fault| format!("roll.txt: {fault}\n")).collect();
     assert_eq!(block("mistakes"), told + "roll.bin, which was there before, was removed\n");
+}
+
+/// The pages, by their paths: those at the top, but for the changelog, and those of docs/ and docs/claims/.
+fn pages() -> Vec<PathBuf> {
+    let root = Path::new(env!("CARGO_MANIFEST_DIR")).join("..");
+    let within =
+        |folder: &str| fs::read_dir(root.join(folder)).expect("a folder").map(|entry| entry.expect("an entry").path());
+    let pages =
+        within("docs").chain(within("docs/claims")).filter(|path| path.extension().is_some_and(|end| end == "md"));
+    pages.chain(["README.md", "CONTRIBUTING.md"].map(|name| root.join(name))).collect()
+}
+
+#[test]
+fn every_link_leads_to_a_file() {
+    let mut lost = Vec::new();
+    for path in pages() {
+        let page = fs::read_to_string(&path).expect("a page");
+        let links = page.split("](").skip(1).filter_map(|rest| rest.split(')').next());
+        let links =
+            links.filter(|link| !link.starts_with("http")).map(|link| link.split('#').next().unwrap_or_default());
+        let folder = path.parent().expect("a folder");
+        lost.extend(
+            links.filter(|link| !folder.join(link).exists()).map(|link| format!("{link}, in {}", path.display())),
+        );
+    }
+    assert!(lost.is_empty(), "links that lead nowhere: {lost:#?}");
+}
+
+/// It is read in two minutes.
+#[test]
+fn the_readme_is_short() {
+    let lines = include_str!("../../README.md").lines().count();
+    assert!(lines <= 110, "README.md has {lines} lines");
 }

@@ -46,6 +46,14 @@ fn some_case(random: &mut Random, rolled: &Rolled) -> CorrectionCase {
     case
 }
 
+/// What a correction of the nth record met, in words, given tariff, roll and replacement and so much room for the statements and for the
+/// differences.
+pub fn correction_met(n: u32, given: [&[u8]; 3], [room, differences]: [usize; 2]) -> Vec<&'static str> {
+    let [tariff, roll, replacement] = given.map(<[u8]>::to_vec);
+    let call = CorrectionCase { tariff, roll, n, replacement, room, differences, story: Vec::new() };
+    counts::met(&call, &run::by_the_model(&call, &vec![0; room], &vec![0; differences]))
+}
+
 /// The bytes of all statements; 0 where it is refused.
 fn needed(case: &CorrectionCase) -> usize {
     let mut statements = vec![0; LARGEST_STATEMENT * (1 + case.roll.len() / 4)];
@@ -71,7 +79,7 @@ fn damage(random: &mut Random, case: &mut CorrectionCase) {
 
 fn other_number(random: &mut Random, n: u32) -> u32 {
     let many = random.below(14) as u32;
-    random.pick(&[0, 0, n + 1, many, many, 65_535, 65_536, 65_536 + n, 1 << 31, u32::MAX])
+    random.pick(&[0, 0, n.wrapping_add(1), many, many, 65_535, 65_536, n.wrapping_add(65_536), 1 << 31, u32::MAX])
 }
 
 /// A tariff cut short, with a byte more, or with some bits that are others.

@@ -121,6 +121,15 @@ fn some_ceiling(random: &mut Random) -> u32 {
     random.pick(&[0, 1, few, few, few, 5_000, 15_000, 100_000, any, MOST as u32 - 1, MOST as u32])
 }
 
+/// What a call under this ceiling with this pair met, in words, given tariff, book and trip and so much room for the statement and for
+/// what is due.
+pub fn month_met(ceiling: u32, kept: &[u8], given: [&[u8]; 3], [room, due]: [usize; 2]) -> Vec<&'static str> {
+    let [tariff, book, trip] = given.map(<[u8]>::to_vec);
+    let call =
+        MonthCase { ceiling, kept: kept.to_vec(), due, case: Case { tariff, book, trip, room, story: Vec::new() } };
+    counts::met(&call, &run::by_the_model(&call, &vec![0; room], &vec![0; due]))
+}
+
 /// What lies one step away from a trip and from a broken one, both of the sample's tariff.
 pub fn sweep(random: &mut Random, run: &mut Run) -> Result<(), Difference> {
     for stops in [vec![0, 1], broken_stops()] {

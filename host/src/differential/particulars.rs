@@ -25,6 +25,13 @@ pub fn particulars() -> impl Iterator<Item = Particular> {
     PARTICULARS.into_iter().chain(editions::PARTICULARS)
 }
 
+/// The ways in which a refusal of settling with this number came about, given tariff, book, trip and so much room.
+pub fn particulars_met(refusal: u32, tariff: &[u8], book: &[u8], trip: &[u8], room: usize) -> Vec<&'static str> {
+    let [tariff, book, trip] = [tariff, book, trip].map(<[u8]>::to_vec);
+    let case = Case { tariff, book, trip, room, story: Vec::new() };
+    particulars().filter(|(number, _, is_met)| *number == refusal && is_met(&case)).map(|(_, way, _)| way).collect()
+}
+
 const PARTICULARS: [Particular; 28] = [
     (2, "kind 8 with the body of kind 1", |case| is_faulty(case, |fault| fault.is(KIND_AACHEN_AREA, 25))),
     (2, "kind 1 with the body of kind 8", |case| is_faulty(case, |fault| fault.is(KIND_AREA, 38))),
@@ -93,15 +100,16 @@ const PARTICULARS: [Particular; 28] = [
 /// Whether all that the trip asks for is in range, so that it is refused for a town: that which contains all of its stops,
 /// or one that contains a part alone.
 fn is_in_a_town(case: &Case, is_whole: bool) -> bool {
-    let (Some(tariff), Some(trip)) = (tariff_of(case), Trip::read(&case.trip)) else { return false };
+    let found = (edition_of(&case.tariff, &case.book, &case.trip), Trip::read(&case.trip));
+    let (Some((_, tariff)), Some(trip)) = found else { return false };
     trip.counts_are_in_range() && tariff.areas[tariff.area_of_stops(&trip.stops)].is_marked_town() == is_whole
 }
 
-/// That of the edition under which the trip is settled.
-fn tariff_of(case: &Case) -> Option<Tariff> {
-    let (file, trip, book) = (read_file(&case.tariff).ok()?, Trip::read(&case.trip)?, Book::read(&case.book)?);
+/// The edition under which the trip is settled on this book, its number and its tariff.
+pub fn edition_of(tariff: &[u8], book: &[u8], trip: &[u8]) -> Option<(usize, Tariff)> {
+    let (file, trip, book) = (read_file(tariff).ok()?, Trip::read(trip)?, Book::read(book)?);
     let window = window_for(book, &file, trip.check_in.minute_number()?, trip.check_out.minute_number()?)?;
-    Some(file.tariff(window.edition()).clone())
+    Some((window.edition(), file.tariff(window.edition()).clone()))
 }
 
 /// Whether the trip has so many minutes.

@@ -67,7 +67,7 @@ impl Run {
     }
 }
 
-fn by_the_model(case: &CorrectionCase, statements: &[u8], differences: &[u8]) -> Left {
+pub fn by_the_model(case: &CorrectionCase, statements: &[u8], differences: &[u8]) -> Left {
     let (mut statements, mut differences) = (statements.to_vec(), differences.to_vec());
     let CorrectionCase { tariff, roll, n, replacement, .. } = case;
     let answer = model::correct(tariff, roll, *n, replacement, &mut statements, &mut differences);

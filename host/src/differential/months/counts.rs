@@ -162,6 +162,20 @@ fn has_room(call: &MonthCase) -> bool {
     call.case.room >= LARGEST_STATEMENT
 }
 
+/// What a call met, in words: of what an accepted one may meet, or of the ways to its refusal.
+pub fn met(call: &MonthCase, left: &Left) -> Vec<&'static str> {
+    match left.answer {
+        Ok(written) => {
+            let of = Accepted::of(call, left, written);
+            ACCEPTED.iter().filter(|(_, is_so)| is_so(&of)).map(|(way, _)| *way).collect()
+        }
+        Err(refusal) => {
+            let ways = REFUSED.iter().filter(|(number, ..)| *number == refusal.number as usize);
+            ways.filter(|(.., is_so)| is_so(call)).map(|(_, way, _)| *way).collect()
+        }
+    }
+}
+
 #[derive(Default)]
 pub struct Months {
     /// Those that were accepted at 0, and those refused by number.

@@ -84,7 +84,7 @@ impl Run {
     }
 }
 
-fn by_the_model(case: &MonthCase, statement: &[u8], due: &[u8]) -> Left {
+pub fn by_the_model(case: &MonthCase, statement: &[u8], due: &[u8]) -> Left {
     let (mut kept, mut book) = (case.kept.clone(), case.case.book.clone());
     let (mut statement, mut due) = (statement.to_vec(), due.to_vec());
     let (tariff, trip) = (&case.case.tariff, &case.case.trip);
