@@ -13,7 +13,7 @@ use units::{DAY, Minutes};
 pub mod moments;
 
 // The date and clock time are local; the offset is the hours that they are ahead of UTC.
-#[derive(Drop)]
+#[derive(Clone, Copy)]
 pub struct Stamp {
     pub year: u16,
     pub month: u8,
@@ -24,7 +24,7 @@ pub struct Stamp {
 }
 
 // A date and clock time in UTC.
-#[derive(Drop)]
+#[derive(Clone, Copy)]
 pub struct Moment {
     pub year: u16,
     pub month: u8,
@@ -34,7 +34,7 @@ pub struct Moment {
 }
 
 // What the maker answers: the stamp, or that the fields are none.
-#[derive(Drop)]
+#[derive(Clone, Copy)]
 pub enum Made {
     Good(Stamp),
     Refused,

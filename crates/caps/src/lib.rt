@@ -5,28 +5,28 @@ ghost use Rattle.caps.specs.Clauses.{limit_of, LeftBy, RestWith, rest_here, unca
 use units::{Cap, Cents};
 
 // An area's second-class cap and its all-classes cap, for an adult or a child.
-#[derive(Drop)]
+#[derive(Clone, Copy)]
 pub struct Caps {
     pub second: Cap,
     pub all: Cap,
 }
 
 // The name of a cap: its area, and 2 for a second-class cap, 1 for an all-classes cap.
-#[derive(Drop)]
+#[derive(Clone, Copy)]
 pub struct Name {
     pub area: u8,
     pub class: u8,
 }
 
 // What the caps looked at so far leave of a price, and the one that leaves the least.
-#[derive(Drop)]
+#[derive(Clone, Copy)]
 pub struct Rest {
     pub amount: Cents,
     pub name: Name,
 }
 
 // What caps took off one person's price: how much, and the area and class of the cap that left the least.
-#[derive(Drop)]
+#[derive(Clone, Copy)]
 pub struct Cut {
     pub reduction: Cents,
     pub area: u8,
@@ -39,7 +39,7 @@ pub const NO_AREA: u8 = 255;
 pub const NO_CLASS: u8 = 0;
 
 // Cents in 64 bits, among which is a number larger than any amount and any sum together.
-#[derive(Drop)]
+#[derive(Clone, Copy)]
 struct WideCents(u64);
 
 const NO_LIMIT: u64 = 8_589_934_592;

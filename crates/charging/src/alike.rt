@@ -16,7 +16,7 @@ use units::Cents;
 use wire::eight_at;
 
 // What a rider is charged who paid so much for an earlier part, and the number of the rider behind that one.
-#[derive(Drop)]
+#[derive(Clone, Copy)]
 pub struct Last {
     pub next: usize,
     pub paid: u32,

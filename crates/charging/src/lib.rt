@@ -13,7 +13,7 @@ pub mod rest;
 pub mod state;
 
 // Riders who are charged alike, adults or children: `count` of them from number `first` on.
-#[derive(Drop)]
+#[derive(Clone, Copy)]
 pub struct Riders {
     pub child: bool,
     pub first: usize,
@@ -21,7 +21,7 @@ pub struct Riders {
 }
 
 // What a person is charged, and what caps took off.
-#[derive(Drop)]
+#[derive(Clone, Copy)]
 pub struct Person {
     pub amount: Cents,
     pub cut: Cut,

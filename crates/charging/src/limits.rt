@@ -13,7 +13,7 @@ use trip::Earlier;
 use units::{Cap, raised, reduced};
 
 // An area of a chain, with its caps, and whether its sums lack the charges of an earlier part of the trip.
-#[derive(Drop)]
+#[derive(Clone, Copy)]
 pub struct Link {
     pub area: usize,
     pub caps: Caps,
@@ -22,7 +22,7 @@ pub struct Link {
 
 // The areas whose caps hold for a ride: its own, the one above it and the one above that. The state is its own parent, so in a shorter
 // chain it stands again, and what its caps have cut they do not cut again.
-#[derive(Drop)]
+#[derive(Clone, Copy)]
 pub struct Chain {
     pub own: Link,
     pub above: Link,

@@ -26,7 +26,7 @@ use wire::{Frame, HEAD, frame_at};
 
 // How far a run over a roll has come: where the next record stands, how many more are settled at most, and how many there are up to the one that is
 // exchanged, that one included; 0 where none is.
-#[derive(Drop)]
+#[derive(Clone, Copy)]
 pub struct Cursor {
     pub next: usize,
     pub left: u32,
@@ -34,7 +34,7 @@ pub struct Cursor {
 }
 
 // What a turn comes to: the roll's end, or a record settled, whose statement has so many bytes; that of a refused one has none.
-#[derive(Drop)]
+#[derive(Clone, Copy)]
 pub enum Turn {
     End,
     Settled { size: usize, cursor: Cursor },

@@ -18,7 +18,7 @@ pub const MOST_RECORDS: u64 = 18_446_744_073_709_551_615;
 const BROKEN_FRAME: u8 = 14;
 
 // What a turn comes to.
-#[derive(Drop)]
+#[derive(Clone, Copy)]
 pub enum Turn {
     // no whole record has come yet, and more can come
     More,

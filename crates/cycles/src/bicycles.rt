@@ -95,7 +95,7 @@ pub fn charge_bicycle(
 }
 
 // A bicycle's two words: 1 + its covering area's number, or 0 for none, and its payments.
-#[derive(Drop)]
+#[derive(Clone, Copy)]
 pub struct Words {
     pub cover: usize,
     pub paid: Cents,

@@ -12,7 +12,7 @@ use trip::Earlier;
 use units::Cents;
 
 // A bicycle's two words as they were found, and its charge.
-#[derive(Drop)]
+#[derive(Clone, Copy)]
 pub struct Found {
     pub cover: usize,
     pub paid: Cents,
@@ -20,7 +20,7 @@ pub struct Found {
 }
 
 // A bicycle's two words as they were found, and as a ride leaves them.
-#[derive(Drop)]
+#[derive(Clone, Copy)]
 pub struct Changed {
     pub cover: usize,
     pub paid: Cents,

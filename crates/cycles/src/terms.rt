@@ -9,7 +9,7 @@ use layout::Counts;
 use units::Cents;
 
 // Whether the area is of kind 8; its flat, or in kind 8 the cap in a window; and in kind 8 its price per trip.
-#[derive(Drop)]
+#[derive(Clone, Copy)]
 pub struct Terms {
     pub aachen: bool,
     pub flat: Cents,

@@ -15,7 +15,7 @@ use ledger::Window;
 use trip::Trip;
 
 // The first refusal whose row holds; or that none does, and what writing needs.
-#[derive(Drop)]
+#[derive(Clone, Copy)]
 pub enum Decision {
     Refused(Refusal),
     Clear(Trip, Window, Breaking),

@@ -23,7 +23,7 @@ use trip::{
 use units::Minutes;
 
 // What a trip record says besides its stamps.
-#[derive(Drop)]
+#[derive(Clone, Copy)]
 pub struct Fields {
     pub class: u8,
     pub level: u8,
@@ -31,38 +31,38 @@ pub struct Fields {
     pub stops: usize,
 }
 
-#[derive(Drop)]
+#[derive(Clone, Copy)]
 pub enum Formed {
     Refused(Refusal),
     As(Fields),
 }
 
-#[derive(Drop)]
+#[derive(Clone, Copy)]
 pub enum Placed {
     Refused(Refusal),
     Broken(Breaking),
 }
 
 // From check-in to check-out.
-#[derive(Drop)]
+#[derive(Clone, Copy)]
 pub struct Span {
     pub checkin: Minutes,
     pub checkout: Minutes,
 }
 
-#[derive(Drop)]
+#[derive(Clone, Copy)]
 pub enum Timed {
     Refused(Refusal),
     Over(Span),
 }
 
-#[derive(Drop)]
+#[derive(Clone, Copy)]
 pub enum Opened {
     Refused(Refusal),
     In(Window),
 }
 
-#[derive(Drop)]
+#[derive(Clone, Copy)]
 pub enum Roomed {
     Refused(Refusal),
     Enough,

@@ -8,7 +8,7 @@ use editions::{Editions, FileReading, counts_in, many_of, read_file};
 use ledger::sound::{covers_within, is_sound_alone};
 use ledger::words::{EDITION, get};
 
-#[derive(Drop)]
+#[derive(Clone, Copy)]
 pub enum Readiness {
     Refused { number: u8, place: usize },
     Ready(Editions),

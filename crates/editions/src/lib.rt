@@ -20,20 +20,20 @@ pub mod openings;
 pub const DECIDING_BYTES: usize = 30_088;
 
 // An edition: the first minute in UTC from which it is valid, and its tariff's counts.
-#[derive(Drop)]
+#[derive(Clone, Copy)]
 pub struct Edition {
     pub since: Minutes,
     pub counts: Counts,
 }
 
-#[derive(Drop)]
+#[derive(Clone, Copy)]
 pub enum Editions {
     One(Edition),
     Two(Edition, Edition),
 }
 
 // What reading a file comes to: the first faulty record's refusal and offset in the file, or its editions.
-#[derive(Drop)]
+#[derive(Clone, Copy)]
 pub enum FileReading {
     Fault { number: u8, at: usize },
     Faultless(Editions),

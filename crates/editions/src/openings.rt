@@ -13,7 +13,7 @@ const OPENING_BODY: usize = 4;
 pub const OPENING_SIZE: usize = HEAD + OPENING_BODY;
 
 // What stands where an edition has to begin: a fault (1, 2 or 3), or the first minute from which it is valid.
-#[derive(Drop)]
+#[derive(Clone, Copy)]
 pub enum Opening {
     Faulty(u8),
     Since(Minutes),

@@ -11,7 +11,7 @@ pub mod rides;
 pub mod towns;
 
 // Where a trip is broken: at a change, which is a stop between the first and the last, by its place in the trip; or nowhere.
-#[derive(Drop)]
+#[derive(Clone, Copy)]
 pub enum Breaking {
     Unbroken,
     At(usize),

@@ -62,7 +62,7 @@ const TOWN: usize = 41;
 pub const NO_DAY_CAP: u16 = 65_535;
 
 // An area record's numbers as they stand in its bytes.
-#[derive(Drop)]
+#[derive(Clone, Copy)]
 pub struct AreaFields {
     pub level: u8,
     pub parent: u8,
@@ -82,7 +82,7 @@ pub struct AreaFields {
 }
 
 // What a record of kind 8 has behind them.
-#[derive(Drop)]
+#[derive(Clone, Copy)]
 pub struct LongFields {
     pub child1: u16,
     pub child2: u16,
@@ -93,7 +93,7 @@ pub struct LongFields {
     pub town: u8,
 }
 
-#[derive(Drop)]
+#[derive(Clone, Copy)]
 pub struct StopFields {
     pub area: u8,
     pub x: u32,

@@ -12,7 +12,7 @@ pub mod rules;
 pub mod starts;
 
 // The sort of trip cap that an area has: none, flat up to some minutes, or by ticket level.
-#[derive(Drop)]
+#[derive(Clone, Copy)]
 pub enum TripCap {
     NoCap,
     Flat(Cents, Minutes),
@@ -20,7 +20,7 @@ pub enum TripCap {
 }
 
 // What a ride inside a town is priced without: nothing, the base price, or the price per km.
-#[derive(Drop)]
+#[derive(Clone, Copy)]
 pub enum Town {
     Unmarked,
     BaseDropped,
@@ -28,7 +28,7 @@ pub enum Town {
 }
 
 // The kind of an area, by its record. The Aachen kind has child tickets of the trip cap's sort, a bicycle price per trip and a town mark.
-#[derive(Drop)]
+#[derive(Clone, Copy)]
 pub enum Kind {
     Common,
     Aachen {
@@ -39,7 +39,7 @@ pub enum Kind {
 }
 
 // In an area of the Aachen kind the bicycle flat is the bicycle's cap per window.
-#[derive(Drop)]
+#[derive(Clone, Copy)]
 pub struct Area {
     pub level: u8,
     pub parent: u8,
@@ -55,7 +55,7 @@ pub struct Area {
 }
 
 // What an area's caps are made of: its day cap, the surcharge of first class and a child's reduction.
-#[derive(Drop)]
+#[derive(Clone, Copy)]
 pub struct Limits {
     pub day_cap: Cap,
     pub surcharge: u8,
@@ -63,13 +63,13 @@ pub struct Limits {
 }
 
 // When a trip is broken in two: its factor, and whether trips wholly inside one city are left whole (mark 1).
-#[derive(Drop)]
+#[derive(Clone, Copy)]
 pub struct Factor {
     pub factor: u8,
     pub mark: u8,
 }
 
-#[derive(Drop)]
+#[derive(Clone, Copy)]
 pub struct Stop {
     pub area: u8,
     pub x: Metres,
@@ -77,7 +77,7 @@ pub struct Stop {
 }
 
 // How many areas, factor records and stops a faultless tariff has; bit i of `longs` says that area i has the longer record, kind 8.
-#[derive(Drop)]
+#[derive(Clone, Copy)]
 pub struct Counts {
     pub areas: u8,
     pub factors: u8,
@@ -86,7 +86,7 @@ pub struct Counts {
 }
 
 // What stands at a place of the tariff: its end, a faultless area of some kind, factor record or stop, or a record with a fault (1, 2 or 3).
-#[derive(Drop)]
+#[derive(Clone, Copy)]
 pub enum Entry {
     End,
     Area(u16),
@@ -96,7 +96,7 @@ pub enum Entry {
 }
 
 // What reading a tariff comes to: the first faulty record's refusal and offset, or the counts.
-#[derive(Drop)]
+#[derive(Clone, Copy)]
 pub enum Reading {
     Fault { number: u8, at: usize },
     Faultless(Counts),

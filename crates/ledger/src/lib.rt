@@ -15,7 +15,7 @@ pub mod zeros;
 
 // The window that a trip falls into: the one that the book has open, or the next, opened at the trip's check-in; and the trips that it has
 // before this one. Its edition is the one in force when it was opened.
-#[derive(Drop)]
+#[derive(Clone, Copy)]
 pub struct Window {
     pub current: bool,
     pub opening: Minutes,

@@ -6,7 +6,7 @@ ghost use Rattle.lines.specs.Clauses.{Counting, Counted};
 use roll::Line;
 
 // The records so far, and the sum of their charges.
-#[derive(Drop)]
+#[derive(Clone, Copy)]
 pub struct Tally {
     pub accepted: u32,
     pub refused: u32,

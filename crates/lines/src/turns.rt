@@ -14,7 +14,7 @@ use roll::{Line, MOST_RECORDS, Step, next};
 pub const ROOM: usize = 384;
 
 // What a turn comes to.
-#[derive(Drop)]
+#[derive(Clone, Copy)]
 pub enum Turn {
     // the record is not whole yet, and more can come
     More,

@@ -8,7 +8,7 @@ use crate::{PAGE_SIZE, Spot, lowest_with, number_at};
 const MOST_NUMBER: u32 = 999_999_999;
 
 // What looking for a member comes to: 18, or whether the member is there and in which place.
-#[derive(Drop)]
+#[derive(Clone, Copy)]
 pub enum Account {
     WrongPage,
     Absent,

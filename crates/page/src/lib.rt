@@ -23,7 +23,7 @@ pub const PLACES: usize = 12;
 pub const PAGE_SIZE: usize = PLACES * PLACE_SIZE;
 
 // The first of some places with a number, or none.
-#[derive(Drop)]
+#[derive(Clone, Copy)]
 pub enum Spot {
     Nowhere,
     At(usize),

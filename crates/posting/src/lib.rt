@@ -76,7 +76,7 @@ fn add_here(book: &mut [u8], rider: usize, class: u8, at: usize, amount: Cents)
 
 // The areas in whose sums a ride's charges count: its own and, as its level says, the one above it and the state, which is area 0. They are the
 // same for each rider, so they are read off the tariff once.
-#[derive(Drop)]
+#[derive(Clone, Copy)]
 pub struct Way {
     pub own: usize,
     pub above: usize,

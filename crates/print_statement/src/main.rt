@@ -9,14 +9,14 @@ use streams::flow::{Flow, Flowed, INPUT, OUTPUT, make_room, read_more};
 use streams::output::write;
 
 // How far a run has come: its buffers, and the records so far.
-#[derive(Drop)]
+#[derive(Clone, Copy)]
 pub struct Run {
     pub flow: Flow,
     pub number: u64,
 }
 
 // What comes after a turn.
-#[derive(Drop)]
+#[derive(Clone, Copy)]
 pub enum Next {
     // another one
     On(Run),

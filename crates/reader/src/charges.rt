@@ -30,7 +30,7 @@ const MOST_CARRIED: u8 = 10;
 pub const LAST_AREA: u8 = 31;
 
 // Whose the charges are; or another kind, or a length that fits no party.
-#[derive(Drop)]
+#[derive(Clone, Copy)]
 pub enum Fit {
     Fits(Whose),
     Unfit,

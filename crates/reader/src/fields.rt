@@ -24,7 +24,7 @@ const EACH: usize = 10;
 const NO_ROOM: u8 = 12;
 
 // What reading into a slice comes to: a refusal's number, 14 to 16 or 12; or the record's bytes.
-#[derive(Drop)]
+#[derive(Clone, Copy)]
 pub enum Filled {
     Refused(u8),
     Record(usize),

@@ -13,7 +13,7 @@ pub mod fields;
 pub mod records;
 
 // What stands in a record of either kind before its charges: the window's opening, the ride's area, its kilometres and its minutes.
-#[derive(Drop)]
+#[derive(Clone, Copy)]
 pub struct Head {
     pub opening: Minutes,
     pub area: u8,
@@ -22,21 +22,21 @@ pub struct Head {
 }
 
 // Whose a record's charges are. Kind 4 has so many and does not say; in kind 6 they are a party's: account holder, adults, children, bicycles.
-#[derive(Drop)]
+#[derive(Clone, Copy)]
 pub enum Whose {
     Unsaid { charges: usize },
     Of(Party),
 }
 
 // One charge, and what caps took off it: nothing, and no cap named, for a bicycle and in a record of kind 4.
-#[derive(Drop)]
+#[derive(Clone, Copy)]
 pub struct Amount {
     pub charge: Cents,
     pub cut: Cut,
 }
 
 // What reading at a place comes to: a refusal's number, 14 to 16; or a record, with its bytes, so that the next stands so far behind it.
-#[derive(Drop)]
+#[derive(Clone, Copy)]
 pub enum Read {
     Refused(u8),
     Record {

@@ -17,7 +17,7 @@ use wire::{Frame, frame_at, two_at};
 pub const MOST_RECORDS: u32 = 65_535;
 
 // The numbers of a part's charge record; the cents are all its charges.
-#[derive(Drop)]
+#[derive(Clone, Copy)]
 pub struct Entry {
     pub area: u8,
     pub km: u16,
@@ -27,7 +27,7 @@ pub struct Entry {
 }
 
 // What a line says of a record.
-#[derive(Drop)]
+#[derive(Clone, Copy)]
 pub enum Line {
     // accepted as one part
     Charged(Entry),
@@ -38,7 +38,7 @@ pub enum Line {
 }
 
 // What stands at the start of a piece of a roll.
-#[derive(Drop)]
+#[derive(Clone, Copy)]
 pub enum Step {
     // nothing, and no more comes
     End,

@@ -23,14 +23,14 @@ const RUN_AND_RECORD: usize = 29;
 pub const LINES: usize = LINE * ROLL / RUN_AND_RECORD + LINE + 2;
 
 // What comes of a roll: it is too long, or so many bytes are kept, at its front. What is printed of it ends at a place of the lines.
-#[derive(Drop)]
+#[derive(Clone, Copy)]
 pub enum Salvaged {
     TooLong { end: usize },
     Kept { bytes: usize, end: usize },
 }
 
 // How far a pass has come: the place that is looked at, the place from which on bytes are dropped, the bytes that are kept, and the lines' end.
-#[derive(Drop)]
+#[derive(Clone, Copy)]
 pub struct Pass {
     pub at: usize,
     pub from: usize,

@@ -18,7 +18,7 @@ use layout::rules::{place_right, wide_with};
 use wire::four_at;
 
 // Where the areas so far end, with how many factor records are due for them.
-#[derive(Drop)]
+#[derive(Clone, Copy)]
 pub struct Run {
     pub at: usize,
     pub so_far: Counts,

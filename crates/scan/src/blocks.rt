@@ -24,7 +24,7 @@ const STOP_HEAD: u32 = 131_083;
 
 // The two words of a stop, or of several joined: the one of its length, kind and area, with the three bytes before them, and the one of its x
 // and y; and both moved.
-#[derive(Drop)]
+#[derive(Clone, Copy)]
 pub struct Sums {
     pub head: u64,
     pub point: u64,

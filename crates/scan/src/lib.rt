@@ -30,7 +30,7 @@ pub mod price_words;
 
 // Where the reading of a tariff stops: at its end, with its counts; at its first faulty record behind a tariff that is faultless alone, with
 // that one's counts; or amid a tariff, while an area or a factor record is still due.
-#[derive(Drop)]
+#[derive(Clone, Copy)]
 pub enum Halt {
     End(Counts),
     Behind {

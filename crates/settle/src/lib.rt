@@ -21,7 +21,7 @@ pub mod records;
 pub mod state;
 
 // What settling, a quote or a posting comes to: a refusal's number and place, or the bytes written.
-#[derive(Drop)]
+#[derive(Clone, Copy)]
 pub enum Answer {
     Refused { number: u8, place: usize },
     Written(usize),

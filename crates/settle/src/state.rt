@@ -17,7 +17,7 @@ use units::Minutes;
 
 // What stating a trip comes to: the refusal that it meets; or the bytes written, and what posting them asks. The tariff of the window's edition
 // stands in the file between two places; that it is looked up once keeps settling's stack small.
-#[derive(Drop)]
+#[derive(Clone, Copy)]
 pub enum Stated {
     Refused(Refusal),
     Records {

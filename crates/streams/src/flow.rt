@@ -12,7 +12,7 @@ pub const OUTPUT: usize = 8_192;
 
 // How far a run has come: the bytes read and not used yet stand from `from` to `to` in the input, more may come or not, and the output has
 // bytes up to `end` that are not written yet.
-#[derive(Drop)]
+#[derive(Clone, Copy)]
 pub struct Flow {
     pub from: usize,
     pub to: usize,
@@ -21,7 +21,7 @@ pub struct Flow {
 }
 
 // What comes after bytes are read, or put. Nothing is written here: the loop does, as it is told.
-#[derive(Drop)]
+#[derive(Clone, Copy)]
 pub enum Flowed {
     // another turn
     On(Flow),

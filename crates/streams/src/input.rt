@@ -5,7 +5,7 @@ ghost use Rattle.streams.specs.Clauses.{Came, Kept};
 use libc::STDIN_FILENO;
 
 // What reading came to: how many bytes, or a failure, which was told on standard error.
-#[derive(Drop)]
+#[derive(Clone, Copy)]
 pub struct Got {
     pub failed: bool,
     pub bytes: usize,

@@ -11,7 +11,7 @@ use crate::behind::put_text;
 use crate::digits::put_before;
 
 // The digits of two numbers, a word for each.
-#[derive(Drop)]
+#[derive(Clone, Copy)]
 pub struct Fours {
     pub front: u64,
     pub back: u64,

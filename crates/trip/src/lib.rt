@@ -38,7 +38,7 @@ const COUNT: usize = PARTY + 3;
 const MISTAP_END: u32 = 3;
 
 // Those whom the account holder carries.
-#[derive(Drop)]
+#[derive(Clone, Copy)]
 pub struct Party {
     pub adults: u8,
     pub children: u8,
@@ -46,7 +46,7 @@ pub struct Party {
 }
 
 // A trip that meets none of 5 to 9. Class and level are the account holder's and all those carried.
-#[derive(Drop)]
+#[derive(Clone, Copy)]
 pub struct Trip {
     pub checkin: Minutes,
     pub checkout: Minutes,
@@ -57,7 +57,7 @@ pub struct Trip {
 }
 
 // What is priced: in which area, how far, how long, in which class, with which ticket level, and for whom.
-#[derive(Drop)]
+#[derive(Clone, Copy)]
 pub struct Ride {
     pub area: usize,
     pub km: Km,
@@ -68,28 +68,28 @@ pub struct Ride {
 }
 
 // What goes before a ride in its trip without being in the book yet: nothing, or a part of the trip, of the same class and party.
-#[derive(Drop)]
+#[derive(Clone, Copy)]
 pub enum Earlier {
     Nothing,
     Part(Ride),
 }
 
 // A trip record, with its number of stops, or none.
-#[derive(Drop)]
+#[derive(Clone, Copy)]
 pub enum Shape {
     Stops(usize),
     NoTrip,
 }
 
 // The minute that a stamp stands for, or none.
-#[derive(Drop)]
+#[derive(Clone, Copy)]
 pub enum Moment {
     At(Minutes),
     NoMoment,
 }
 
 // Check-in and check-out, or none where one of the stamps is wrong.
-#[derive(Drop)]
+#[derive(Clone, Copy)]
 pub enum Times {
     Of(Minutes, Minutes),
     NoTimes,

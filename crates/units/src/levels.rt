@@ -5,7 +5,7 @@ ghost use Rattle.units.specs.Levels.{level_cap};
 use crate::Cents;
 
 // What a ticket level picks of an area's five amounts.
-#[derive(Drop)]
+#[derive(Clone, Copy)]
 pub enum LevelCap {
     NoCap,
     UpTo(Cents),

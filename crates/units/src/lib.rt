@@ -8,16 +8,16 @@ ghost use Rattle.units.specs.Rounding.{divided_up, hundredths_of, roundable, Rai
 
 pub mod levels;
 
-#[derive(Drop)]
+#[derive(Clone, Copy)]
 pub struct Cents(pub u32);
 
-#[derive(Drop)]
+#[derive(Clone, Copy)]
 pub struct Km(pub u32);
 
-#[derive(Drop)]
+#[derive(Clone, Copy)]
 pub struct Metres(pub u32);
 
-#[derive(Drop)]
+#[derive(Clone, Copy)]
 pub struct Minutes(pub u32);
 
 // Every day has 1,440 minutes.
@@ -27,7 +27,7 @@ pub const DAY: u32 = 1_440;
 pub const MOST_PRICE: u32 = 3_790_000;
 
 // A limit on an amount, where there is one.
-#[derive(Drop)]
+#[derive(Clone, Copy)]
 pub enum Cap {
     NoCap,
     UpTo(Cents),

@@ -13,7 +13,7 @@ const MOST_LENGTH: usize = 1_024;
 pub const LONGEST_RECORD: usize = 2 + MOST_LENGTH;
 
 // What stands at a place: a whole record of a kind, with its body's length, or a broken frame.
-#[derive(Drop)]
+#[derive(Clone, Copy)]
 pub enum Frame {
     Whole { kind: u16, body: usize },
     Broken,
