@@ -4,6 +4,8 @@
 // associations.rt  the functions for an association, on its own places
 //
 // Decide first, write last: a refusal changes no byte. Nothing is copied: settling is lent the book where it stands on the page.
+#![tactic(auto)]
+
 ghost use Rattle.std.specs.Prelude.{◌≡◌, ◌+◌, ◌≤◌};
 ghost use Rattle.editions.specs.Reading.{ReadFile};
 ghost use Rattle.settle.specs.declared.Answer.TheVariants.{Refused};

@@ -1,6 +1,8 @@
 // Areas and stops by number, of a faultless tariff; the areas above an area, and the smallest that contains two.
 //
 // factors.rt  the factor record that holds for an area
+#![tactic(auto)]
+
 ghost use Rattle.std.specs.Prelude.{◌≡◌, true, ◌≤◌, ◌<◌, length};
 ghost use Rattle.layout.specs.Layout.{kind_at, area_end};
 ghost use Rattle.layout.specs.Fields.{long_fields};

@@ -2,6 +2,8 @@
 // 2000-01-01 00:00 UTC.
 // The file moments.rt has the way back, from a minute number to its date and clock time in UTC.
 // Every day has 1,440 minutes. The days before each month stand as a table, one row for common and one for leap years.
+#![tactic(auto)]
+
 ghost use Rattle.std.specs.Prelude.{◌≡◌, true, false, ◌≤◌, leb};
 ghost use Rattle.calendar.specs.Days.{leap, month_days, DaysBefore, DayNumber};
 ghost use Rattle.calendar.specs.Clauses.{row, entry_at, from_zero, midnight_of};

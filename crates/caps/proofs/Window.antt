@@ -62,6 +62,7 @@ module _ {t : Tree} (tree : IsTree t) where
 
   -- So it is for every ride of the window.
   pub each_no_more_than_price : {es : List ChargedRide} {e : ChargedRide} → ChargedInTurn t es → Memᴰ e es → e.charge ≤ e.price
+  each_no_more_than_price none x = elim x [ ]
   each_no_more_than_price (more r there is) (Memᴰ.head same) = rw same (no_more_than_price (more r there is))
   each_no_more_than_price (more r there is) (Memᴰ.tail m) = each_no_more_than_price r m
 

@@ -1,4 +1,6 @@
 // Caps and what they have left. Nothing here knows of bytes, tariffs or how a price is made.
+#![tactic(auto)]
+
 ghost use Rattle.std.specs.Prelude.{◌≡◌, ◌≤◌};
 ghost use Rattle.caps.specs.Clauses.{limit_of, LeftBy, RestWith, rest_here, uncapped_at, name_of};
 

@@ -2,6 +2,8 @@
 // was collected is kept beside the book, as 8 bytes: a month, and the amount collected in it.
 //
 // Decide first, write last: a refusal changes no byte of what is kept, of book, of statement or of what is due.
+#![tactic(auto)]
+
 ghost use Rattle.std.specs.Prelude.{◌≡◌, ◌≤◌, length};
 ghost use Rattle.calendar.specs.Stamps.{last_minute};
 ghost use Rattle.trip.specs.Moments.{checkin_of};

@@ -4,6 +4,8 @@
 // rest.rt    what the caps leave of a price, and what they took off
 // alike.rt   a fast way for riders who have travelled together
 // state.rt   a ride's record: each of the party charged and written down
+#![tactic(auto)]
+
 use caps::Cut;
 use units::Cents;
 

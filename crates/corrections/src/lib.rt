@@ -4,6 +4,8 @@
 // runs.rt    a roll settled afresh, record by record
 //
 // Decide first, write last: both rolls are settled before anything is written, and a refusal changes no byte of statements and differences.
+#![tactic(auto)]
+
 ghost use Rattle.std.specs.Prelude.{◌≡◌, true, length};
 ghost use Rattle.editions.specs.Reading.{ReadFile};
 ghost use Rattle.corrections.specs.Corrections.{has_record, correction_of};

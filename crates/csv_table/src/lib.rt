@@ -4,6 +4,8 @@
 // rows.rt     header, the line of a charge, and that of a refused record
 // records.rt  all lines of a record
 // turns.rt    what stands at the start of the bytes that have come, read and put
+#![tactic(auto)]
+
 mod columns;
 mod records;
 pub mod rows;

@@ -171,6 +171,7 @@ later_decides (r ∷ rest) more e = go r.test e (later_decides rest more)
 module _ (holds : Refusal → Type 0) where
   -- the condition of the first to hold does
   pub first_holds : (table : List Row) {why : Refusal} → First holds why table → holds why
+  first_holds [] x = elim x [ ]
   first_holds (r ∷ rest) (here same h) = h
   first_holds (r ∷ rest) (later not-here after) = first_holds rest after
 
@@ -209,6 +210,7 @@ module _ (holds : Refusal → Type 0) where
 
   first_back : (table : List Row) {why : Refusal} → Tells table → First holds why table → first_of table ≡ found why
   unfolding first_of
+  first_back [] _ x = elim x [ ]
   first_back (r ∷ rest) (more law laws) (here same h) = rw (law.1 (rw same h), same)
   first_back (r ∷ rest) {why} (more law laws) (later not-here after) = go r.test refl (first_back rest laws after)
     where

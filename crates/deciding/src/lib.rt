@@ -5,6 +5,8 @@
 // groups.rt   the table's rows in five groups
 // decide.rt   the groups one after another: what is decided of a trip
 
+#![tactic(auto)]
+
 pub mod decide;
 pub mod groups;
 pub mod ready;

@@ -2,6 +2,8 @@
 // offered as a file is read as, which edition is in force at a minute, and where an edition's tariff stands.
 //
 // openings.rt  the record that opens an edition
+#![tactic(auto)]
+
 ghost use Rattle.std.specs.Prelude.{◌≡◌, ◌+◌, ◌≤◌, length};
 ghost use Rattle.calendar.specs.Stamps.{last_minute};
 ghost use Rattle.editions.specs.Openings.{opening_size};

@@ -5,6 +5,8 @@
 // parts.rt       where a trip that comes back is broken, and the rides that its two parts are
 // towns.rt       whether first class is refused in a marked town
 
+#![tactic(auto)]
+
 mod kilometres;
 pub mod parts;
 pub mod rides;

@@ -147,6 +147,7 @@ module _ (sort k a b c d : ℕ) where
   amounts_levels (later (later (here w))) = inl (inl (inr w))
   amounts_levels (later (later (later (here w)))) = inl (inr w)
   amounts_levels (later (later (later (later (here w))))) = inr w
+  amounts_levels (later (later (later (later (later x))))) = elim x [ ]
 
   not_levels : (sort ≡ 2 → ⊥) → LevelsWrong
   not_levels never = inl (inl (inl (inl (inl never))))
@@ -170,6 +171,7 @@ module _ (f : AreaFields) where
   zeros_last (here w) = inl (inl w)
   zeros_last (later (here w)) = inl (inr w)
   zeros_last (later (later (here w))) = inr w
+  zeros_last (later (later (later x))) = elim x [ ]
 
   -- what the test of each sort fails for: another sort, or one of its fields
   abbrev NoneWrong : Type 0
@@ -273,6 +275,7 @@ module _ (f : AreaFields) (g : LongFields) where
   zeros_rest (later (here w)) = inl (inl (inr w))
   zeros_rest (later (later (here w))) = inl (inr w)
   zeros_rest (later (later (later (here w)))) = inr w
+  zeros_rest (later (later (later (later x)))) = elim x [ ]
 
   -- what the test of each sort fails for: another sort, or one of its tickets
   abbrev NoTicketWrong : Type 0

@@ -5,6 +5,8 @@
 // fields.rt  where a record's fields stand, and the fields of a record at a place
 // rules.rt   which values a record may have
 // starts.rt  where a record starts, by its number
+#![tactic(auto)]
+
 use units::{Cap, Cents, Metres, Minutes};
 
 pub mod fields;

@@ -5,6 +5,8 @@
 // zeros.rt     whether a book has any bit set
 // gaps.rt      a fast way to see that all pairs are sound
 // windows.rt   the window that a trip belongs to, and 10
+#![tactic(auto)]
+
 use units::Minutes;
 
 pub mod gaps;

@@ -6,6 +6,8 @@
 // tally.rt   the records so far, and the sum of their charges
 // texts.rt   header, lines, tail, and a refused tariff's one line, behind a place
 // turns.rt   what stands at the start of the bytes that have come, settled, counted and put
+#![tactic(auto)]
+
 mod short;
 mod spaced;
 pub mod tally;

@@ -1,4 +1,6 @@
 // What C is offered: each exported function takes plain byte strings, has the library do the work, and answers one number.
+#![tactic(auto)]
+
 ghost use Rattle.std.specs.Prelude.{◌≡◌, length};
 ghost use Rattle.settle.specs.Outcome.{quoted, settled, Settled, Quoted};
 ghost use Rattle.settle.specs.Posting.{posting_of, Posted};

@@ -3,6 +3,8 @@
 //
 // checks.rt  what is refused before anything else of the page is looked at, and where a member stands; only reads
 // clear.rt   a place cleared, or written for a new member
+#![tactic(auto)]
+
 ghost use Rattle.std.specs.Prelude.{◌≡◌};
 ghost use Rattle.wire.specs.Number.{Number};
 ghost use Rattle.page.specs.Pages.{start_of, lowest_with};

@@ -1,5 +1,7 @@
 // The window opened, the charges added to the sums, the bicycles' covering areas and payments: all that is ever written to a book. Of a ride
 // this reads what its record says.
+#![tactic(auto)]
+
 ghost use Rattle.std.specs.Prelude.{◌≡◌, ◌≤◌, ◌<◌, length};
 ghost use Rattle.layout.specs.Scan.{Read};
 ghost use Rattle.ledger.specs.Words.{book_size, fresh_book};

@@ -1,5 +1,7 @@
 // The price of a ride, each step in its own units. All prices use the ride's own area, and its kind decides between two ways: the four steps
 // of kind 1, and those of kind 8, where adults and children part.
+#![tactic(auto)]
+
 ghost use Rattle.std.specs.Prelude.{◌≡◌, ◌*◌, ◌≤◌};
 ghost use Rattle.units.specs.Day.{day_minutes};
 ghost use Rattle.units.specs.Plane.{most_km};

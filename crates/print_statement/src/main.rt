@@ -1,5 +1,7 @@
 // Prints a statement, charge records of kinds 4 and 6 from standard input, as a table of comma-separated values on standard output.
 // This program only reads, takes turns and writes; what a turn does, and what it prints, is the library's.
+#![tactic(auto)]
+
 ghost use Rattle.std.specs.Prelude.{◌≡◌};
 ghost use Rattle.print_statement.specs.Clauses.{Running, went_on, StepTaken, Begun};
 

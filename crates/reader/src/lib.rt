@@ -4,6 +4,8 @@
 // records.rt   one record at a place: the refusals in their order, or its fields
 // charges.rt   whose a record's charges are, and each of them
 // fields.rt    a record's fields as plain bytes, for callers that take no struct
+#![tactic(auto)]
+
 use caps::Cut;
 use trip::Party;
 use units::{Cents, Km, Minutes};

@@ -1,5 +1,7 @@
 // A roll of trips, settled one record after another on one book, piece by piece: whoever reads the roll hands over what has come so far,
 // and is told what stands at its start and how many bytes that took.
+#![tactic(auto)]
+
 ghost use Rattle.std.specs.Prelude.{◌≡◌};
 ghost use Rattle.statement.specs.Clauses.{RecordAt};
 ghost use Rattle.deciding.specs.Clauses.{Ready};

@@ -1,5 +1,7 @@
 // A torn roll: records that are whole are kept, and moved to the front of the roll that is lent; of each longest run of other bytes a line is put
 // together. Neither tariff nor book is asked, and no stop, stamp or order: what is kept may still be refused when it is settled.
+#![tactic(auto)]
+
 ghost use Rattle.std.specs.Prelude.{◌≡◌, ◌+◌, ◌≤◌, [], ◌∷◌, ◌++◌, length};
 ghost use Rattle.text.specs.Texts.{decimal};
 ghost use Rattle.text.specs.Clauses.{Behind};

@@ -3,6 +3,8 @@
 //
 // input.rt   the roll's bytes
 // files.rt   kept.bin: an earlier one removed, a new one made
+#![tactic(auto)]
+
 ghost use Rattle.std.specs.Prelude.{◌≡◌, length};
 ghost use Rattle.salvage.specs.Clauses.{room_size};
 

@@ -5,6 +5,8 @@
 // cap_words.rt    an area's caps at once, and what kind 8 has besides
 // factor_run.rt   factor records one after another, as the areas
 // blocks.rt       stops one after another, all with one test
+#![tactic(auto)]
+
 ghost use Rattle.std.specs.Prelude.{◌≡◌, ◌+◌, ◌-◌, ◌/◌, ◌≤◌, min, length};
 ghost use Rattle.layout.specs.Layout.{stop_size, most_stops};
 ghost use Rattle.layout.specs.Rules.{factors_due};

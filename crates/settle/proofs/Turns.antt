@@ -48,7 +48,8 @@ module _ {tariff : List ℕ} {counts : Counts} {checkout : Minutes} {class : ℕ
 
   within_end : {book : List ℕ} {window : Window} {place : ℕ} (rides : List Ride) → RidesPostable tariff counts checkout class statement end book window place rides → place ≤ end
   within_end [] (over there) = le_of_eq there
-  within_end (ride ∷ rest) (then ok more) = omega (arith, within_end rest more)
+  within_end {book = book} {window = window} {place = place} (ride ∷ rest) (then ok more) =
+      omega (arith, within_end {book = posted tariff counts book window checkout.0 ride} rest more)
 
   pub turn_postable :
       {book : List ℕ} {window : Window} {place : ℕ} {rides : List Ride} → RidesPostable tariff counts checkout class statement end book window place rides

@@ -6,6 +6,8 @@
 // quotes.rt   a quote, and the posting of a quote
 //
 // Decide first, write last: only where all conditions are clear are book and statement written.
+#![tactic(auto)]
+
 ghost use Rattle.editions.specs.Reading.{ReadFile};
 ghost use Rattle.deciding.specs.Clauses.{Ready};
 ghost use Rattle.settle.specs.Clauses.{NextSettled, UnderSettled, TripSettled};

@@ -3,6 +3,8 @@
 //
 // input.rt   the tariff's first bytes
 // run.rt     the roll, turn by turn
+#![tactic(auto)]
+
 use editions::{DECIDING_BYTES, FileReading, read_file};
 use input::load_tariff;
 use lines::texts::put_fault;

@@ -3,6 +3,8 @@
 //
 // writing.rt   a part's record, put together by a writer that holds the lent statement
 // reading.rt   the fields of a record, and what its charges add up to
+#![tactic(auto)]
+
 ghost use Rattle.std.specs.Prelude.{◌≡◌};
 ghost use Rattle.statement.specs.Record.{record_size};
 

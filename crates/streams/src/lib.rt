@@ -3,6 +3,8 @@
 // input.rt    bytes read, and those kept for the next read
 // output.rt   bytes written
 // flow.rt     the two buffers of a run
+#![tactic(auto)]
+
 pub mod flow;
 pub mod input;
 pub mod output;

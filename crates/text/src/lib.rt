@@ -3,6 +3,8 @@
 // digits.rt  numbers in decimal, in front of a place
 // fours.rt   numbers of 32 bits, behind a place
 // behind.rt  words and numbers, behind a place
+#![tactic(auto)]
+
 pub mod behind;
 pub mod digits;
 pub mod fours;

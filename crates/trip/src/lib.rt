@@ -1,5 +1,7 @@
 // A trip record out of any byte string: for each of the refusals 5 to 9, and 17, a test of its own, in the order in which they are given.
 // The stops stay in the trip's bytes, where `stop_number` finds them. The file one_date.rt has a fast way to the times of a trip on one date.
+#![tactic(auto)]
+
 ghost use Rattle.std.specs.Prelude.{◌≡◌, ◌+◌, ◌≤◌, length};
 ghost use Rattle.calendar.specs.Stamps.{last_minute};
 ghost use Rattle.trip.specs.Record.{trip_size, shape_at, class_at, level_at, party_at};

@@ -2,6 +2,8 @@
 // All money is whole cents. A count in one unit is never taken where another belongs.
 //
 // levels.rt  the ticket levels, and what each picks of five amounts
+#![tactic(auto)]
+
 ghost use Rattle.std.specs.Prelude.{◌≡◌, ◌≤◌, ◌<◌};
 ghost use Rattle.units.specs.Caps.{Capped};
 ghost use Rattle.units.specs.Rounding.{divided_up, hundredths_of, roundable, Raised, Reduced, Started};

@@ -1,4 +1,6 @@
 // Little-endian numbers of 1, 2, 4 and 8 bytes at a place of a slice, and the frame that every record stands in.
+#![tactic(auto)]
+
 ghost use Rattle.std.specs.Prelude.{◌≡◌, ◌+◌, ◌≤◌, ◌<◌, length};
 ghost use Rattle.wire.specs.Number.{put_le, Number};
 ghost use Rattle.wire.specs.Frame.{frame_at};

@@ -1,0 +1,76 @@
+-- `charging::limits::caps_at` meets its contract: a day cap is at most 60,000, so both roundings are in their range, and each is made as the
+-- definition says.
+use native.Mathlib.Omega.{arith}
+use mathlib.Core.Path.{◌≡◌, ap, sym, ◌∙◌}
+use Rattle.units.specs.Rounding.{raised_by, reduced_by}
+use Rattle.layout.specs.declared.Area.{Area}
+use Rattle.areas.specs.Areas.{area_at, AreaRanges}
+use Rattle.areas.proofs.Faultless.{faultless}
+use Rattle.charging.proofs.CapLaws.{day_most, caps_none, caps_adult, caps_child}
+use Rattle.charging.proofs.limits.caps_at.Goals as goal
+
+pub raised-dear-requires : goal.raised-dear-requires
+raised-dear-requires c =
+    let area : Area = let a = c.args in area_at a.tariff.now a.at in
+    let ranges : AreaRanges area = let p = c.requires in (faultless _ _ p.0).area _ p.1 in
+    let day-cap : c.limits-of.result.day_cap ≡ area.day_cap = ap (λ l. l.day_cap) c.limits-of.ensures in
+    let surcharge : c.limits-of.result.surcharge ≡ area.surcharge = ap (λ l. l.surcharge) c.limits-of.ensures in
+    (
+      omega (arith, day_most (area c) _ (ranges c) (sym (day-cap c) ∙ c.in-UpTo.is)),
+      omega (arith, surcharge c, (ranges c).surcharge),
+    )
+
+pub reduced-requires : goal.reduced-requires
+reduced-requires c =
+    let area : Area = let a = c.args in area_at a.tariff.now a.at in
+    let ranges : AreaRanges area = let p = c.requires in (faultless _ _ p.0).area _ p.1 in
+    let day-cap : c.limits-of.result.day_cap ≡ area.day_cap = ap (λ l. l.day_cap) c.limits-of.ensures in
+    let reduction : c.limits-of.result.reduction ≡ area.reduction = ap (λ l. l.reduction) c.limits-of.ensures in
+    (
+      omega (arith, day_most (area c) _ (ranges c) (sym (day-cap c) ∙ c.in-UpTo.is)),
+      omega (arith, reduction c, (ranges c).reduction),
+    )
+
+pub reduced-requires-then-child : goal.reduced-requires-then-child
+reduced-requires-then-child c =
+    let area : Area = let a = c.args in area_at a.tariff.now a.at in
+    let ranges : AreaRanges area = let p = c.requires in (faultless _ _ p.0).area _ p.1 in
+    let day-cap : c.limits-of.result.day_cap ≡ area.day_cap = ap (λ l. l.day_cap) c.limits-of.ensures in
+    let reduction : c.limits-of.result.reduction ≡ area.reduction = ap (λ l. l.reduction) c.limits-of.ensures in
+    (
+      omega (
+        arith,
+        c.raised-dear.ensures,
+        day_most (area c) _ (ranges c) (sym (day-cap c) ∙ c.in-UpTo.is),
+      ),
+      omega (arith, reduction c, (ranges c).reduction),
+    )
+
+pub returns-in-NoCap : goal.returns-in-NoCap
+returns-in-NoCap c =
+    let area : Area = let a = c.args in area_at a.tariff.now a.at in
+    let day-cap : c.limits-of.result.day_cap ≡ area.day_cap = ap (λ l. l.day_cap) c.limits-of.ensures in
+    caps_none (area c) _ (sym (day-cap c) ∙ c.in-NoCap.is)
+
+pub returns-then-child : goal.returns-then-child
+returns-then-child c =
+    let area : Area = let a = c.args in area_at a.tariff.now a.at in
+    let day-cap : c.limits-of.result.day_cap ≡ area.day_cap = ap (λ l. l.day_cap) c.limits-of.ensures in
+    let surcharge : c.limits-of.result.surcharge ≡ area.surcharge = ap (λ l. l.surcharge) c.limits-of.ensures in
+    let reduction : c.limits-of.result.reduction ≡ area.reduction = ap (λ l. l.reduction) c.limits-of.ensures in
+    let day = c.daily-1.given in
+    rw c.if-child.true
+    (caps_child (area c) _ _ _ _ (sym (day-cap c) ∙ day.1)
+    (c.raised-dear.ensures.value ∙ ap (λ percent. raised_by percent day.0.0.0) (surcharge c))
+    (c.reduced.ensures.value ∙ ap (λ percent. reduced_by percent day.0.0.0) (reduction c))
+    (c.reduced-then-child.ensures.value ∙ ap (λ percent. reduced_by percent c.raised-dear.result.0) (reduction c)))
+
+pub returns-else-child : goal.returns-else-child
+returns-else-child c =
+    let area : Area = let a = c.args in area_at a.tariff.now a.at in
+    let day-cap : c.limits-of.result.day_cap ≡ area.day_cap = ap (λ l. l.day_cap) c.limits-of.ensures in
+    let surcharge : c.limits-of.result.surcharge ≡ area.surcharge = ap (λ l. l.surcharge) c.limits-of.ensures in
+    let day = c.daily-1.given in
+    rw c.if-child.false
+    (caps_adult (area c) _ _ (sym (day-cap c) ∙ day.1)
+    (c.raised-dear.ensures.value ∙ ap (λ percent. raised_by percent day.0.0.0) (surcharge c)))

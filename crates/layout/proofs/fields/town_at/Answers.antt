@@ -1,0 +1,7 @@
+-- `layout::fields::town_at` meets its contract: the number is read at its place of the layout.
+use Rattle.layout.specs.Fields.{long_fields}
+use Rattle.layout.proofs.fields.town_at.Goals as goal
+
+pub returns : goal.returns
+unfolding long_fields
+returns c = c.one_at.ensures.value

@@ -1,0 +1,6 @@
+-- `milecopper::members::milecopper_close` meets its contract: the number that it answers is the change's.
+use Rattle.milecopper.proofs.Answers.{changed-told}
+use Rattle.milecopper.proofs.members.milecopper_close.Goals as goal
+
+pub returns : goal.returns
+returns c = changed-told c.close_for.ensures c.encoded.ensures

@@ -1,0 +1,91 @@
+-- Each step finds what it asks, since the record says what the part is, and the steps before left the words that it speaks of; and the books follow
+-- one another as the definition has them. The loop's invariant: the charges of the groups before the one at hand are added.
+use Prim.Native.Nat.{◌+◌, ◌-◌}
+use native.Mathlib.Omega.{arith}
+use mathlib.Core.Path.{ap, ◌∙◌}
+use Rattle.statement.specs.Record.{Part}
+use Rattle.ledger.proofs.SoundLaws.{fresh_is}
+use Rattle.charging.proofs.ChargeLaws.{ride_book}
+use Rattle.posting.specs.Clauses.{Postable}
+use Rattle.posting.proofs.PostSteps.{no_group, group_more, Said, said, head_inside, group_ready, groups_size, covers_ready, all_posted, record_ends}
+use Rattle.posting.proofs.post.Goals as goal
+
+-- what the record says of its part
+says :
+    (o : tie.After-open-window invariant-loop decreases-loop) {part : Part}
+    → let s = o.before.before.before.before.before.before.before.before.before in
+    Postable s.args.tariff.now s.args.counts s.args.book.now s.args.window s.args.class part s.args.statement.now s.args.place
+    → Said part o.before.before.before.before.before.area-at.result (1 + o.before.before.before.before.adults-at.result)
+    o.before.before.before.children-at.result o.before.before.bicycles-at.result
+says o ok =
+    said ok o.before.before.before.before.before.area-at.ensures (ap (1 +◌) o.before.before.before.before.adults-at.ensures)
+    o.before.before.before.children-at.ensures o.before.before.bicycles-at.ensures
+
+pub area_at-at-requires : goal.area_at-at-requires
+area_at-at-requires c = head_inside c.requires.postable
+
+pub adults_at-requires : goal.adults_at-requires
+adults_at-requires c = head_inside c.requires.postable
+
+pub children_at-children-requires : goal.children_at-children-requires
+children_at-children-requires c = head_inside c.requires.postable
+
+pub bicycles_at-bicycles-requires : goal.bicycles_at-bicycles-requires
+bicycles_at-bicycles-requires c = head_inside c.requires.postable
+
+pub open_window-requires : goal.open_window-requires
+open_window-requires c =
+    let p = c.requires.postable in
+    let has = ride_book p.rideable in
+    (has.size, (fresh_is has, p.few))
+
+pub overflow_add-next : goal.overflow_add-next
+overflow_add-next c = omega (arith, head_inside c.requires.postable, c.well_formed)
+
+pub loop-init : goal.loop-init
+loop-init c = no_group
+
+pub add_riders-next-requires : goal.add_riders-next-requires
+add_riders-next-requires c =
+    let ok = c.requires.postable in
+    group_ready ok c.args.checkout.0 c.open_window.ensures c.open_window.auto.0 (says c ok) c.loop-test.true c.loop.invariant
+
+pub loop-smaller : goal.loop-smaller
+loop-smaller c = omega (arith, c.loop-test.true)
+
+pub loop-preserved : goal.loop-preserved
+loop-preserved c =
+    group_more _ _ _ _ _ _ _ _ c.loop-test.true c.loop.invariant
+    c.add_riders-next.ensures
+
+pub cover_bicycles-requires : goal.cover_bicycles-requires
+cover_bicycles-requires c =
+    let ok = c.requires.postable in
+    covers_ready ok c.args.checkout.0 c.open_window.ensures c.open_window.auto.0 (says c ok) c.loop-test.false c.loop.invariant
+
+pub overflow_add-result : goal.overflow_add-result
+overflow_add-result c =
+    let ok = c.requires.postable in
+    let ends =
+    record_ends ok c.args.checkout.0 c.open_window.ensures c.open_window.auto.0 (says c ok) c.loop-test.false
+    c.loop.invariant
+    in
+    omega (arith, ends.1, c.well_formed)
+
+pub shape_of-book : goal.shape_of-book
+shape_of-book c =
+    let ok = c.requires.postable in
+    c.cover_bicycles.auto.1.1.0
+    ∙ groups_size ok c.args.checkout.0 c.open_window.ensures c.open_window.auto.0 (says c ok) c.loop.invariant
+
+pub returns : goal.returns
+returns c =
+    let checkout = c.args.checkout.0 in
+    let opens = c.open_window in
+    let both = c.loop-test.false in
+    let ok = c.requires.postable in
+    record {
+      next = (record_ends ok checkout opens.ensures opens.auto.0 (says c ok) both c.loop.invariant).0;
+      book_is = λ part ok.
+          all_posted ok checkout opens.ensures opens.auto.0 (says c ok) both c.loop.invariant c.cover_bicycles.ensures;
+    }

@@ -1,0 +1,12 @@
+-- `behind::put_number` meets its contract: a number of 32 bits is put at once; the digits of a longer one are put in front of an
+-- array's end, and copied from where they begin.
+use native.Mathlib.Omega.{arith}
+use mathlib.Core.Path.{◌∙◌}
+use Rattle.text.proofs.Puts.{rest, rest_short, from_end, behind_same}
+use Rattle.text.proofs.behind.put_number.Goals as goal
+
+pub returns : goal.returns
+returns c =
+    let digits = c.put_long_before-at in
+    behind_same c.put_text.ensures (rest digits.new.0 digits.result 21 (omega arith) ∙ from_end digits.ensures (omega arith))
+    (rest_short digits.new.0 digits.result 21 (omega arith))

@@ -1,0 +1,18 @@
+-- `trip::stops_known` meets its contract. The loop's invariant: the answer so far is the test of the stops passed. The measure is the
+-- stops left.
+use Prim.Native.Nat.{◌-◌}
+use native.Mathlib.Omega.{arith}
+use mathlib.Core.Path.{◌≡◌, sym}
+use Rattle.trip.proofs.Known.{known_none, known_more}
+use Rattle.trip.proofs.stops_known.Goals as goal
+
+pub loop-i-init : goal.loop-i-init
+loop-i-init c = (sym (known_none _ _), omega arith)
+
+pub loop-i-preserved : goal.loop-i-preserved
+loop-i-preserved c = (rw (c.loop-i.invariant.0, c.stop_number.ensures.value) (sym (known_more _ _ _)), omega arith)
+
+pub returns : goal.returns
+returns c =
+    let over : c.loop-i.i ≡ c.args.stops = omega arith in
+    rw (← over) c.loop-i.invariant.0

@@ -1,0 +1,11 @@
+-- `vectors::show_bicycles` is safe and ends: it passes each charge behind the persons' once.
+use Prim.Native.Nat.{◌-◌, ◌≤◌}
+use mathlib.Core.Path.{◌≡◌}
+use Rattle.statement.specs.Reading.{count_in}
+use Rattle.vectors.proofs.show_bicycles.Given as goal
+
+abbrev pub invariant-loop-i : goal.invariant-loop-i
+invariant-loop-i l = (i ≤ l.i) × (l.i ≡ count_in l.statement l.place)
+
+abbrev pub decreases-loop-i : goal.decreases-loop-i
+decreases-loop-i l = l.i - i

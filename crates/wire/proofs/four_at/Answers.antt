@@ -1,0 +1,9 @@
+-- `wire::four_at` meets its contract: each byte is below 256, so the sum of the four has their number's value and range.
+use native.Mathlib.Nat.{add_assoc}
+use native.Mathlib.Omega.{arith}
+use Rattle.wire.specs.Number.{get_le}
+use Rattle.wire.proofs.four_at.Goals as goal
+
+pub returns : goal.returns
+unfolding get_le
+returns c = record { value = simp add_assoc (omega arith); range = omega arith }
