@@ -5,8 +5,4 @@ pub mod Starts
 pub mod Frames
 pub mod Each
 pub mod Held
-pub mod Lent
-pub mod Walk
-pub mod Puts
-pub mod Written
 pub mod Filled

@@ -8,5 +8,5 @@ use Rattle.text.proofs.behind.put_number.Goals as goal
 pub returns : goal.returns
 returns c =
     let digits = c.put_long_before-at in
-    behind_same c.put_text.ensures (rest digits.new.0 digits.result 21 (omega arith) ∙ from_end digits.ensures (omega arith))
-    (rest_short digits.new.0 digits.result 21 (omega arith))
+    behind_same c.put_text.ensures (rest digits.new.text digits.result 21 (omega arith) ∙ from_end digits.ensures (omega arith))
+    (rest_short digits.new.text digits.result 21 (omega arith))

@@ -8,5 +8,5 @@ use Rattle.text.proofs.fours.put_small.Goals as goal
 pub returns : goal.returns
 returns c =
     let digits = c.put_before-at in
-    behind_same c.put_text.ensures (rest digits.new.0 digits.result 10 (omega arith) ∙ from_end digits.ensures (omega arith))
-    (rest_short digits.new.0 digits.result 10 (omega arith))
+    behind_same c.put_text.ensures (rest digits.new.text digits.result 10 (omega arith) ∙ from_end digits.ensures (omega arith))
+    (rest_short digits.new.text digits.result 10 (omega arith))
