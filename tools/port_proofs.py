@@ -69,6 +69,8 @@ class Function:
         for s, path, new in self.arms:
             if s == step and tuple(words[1 : 1 + len(path)]) == path:
                 return "." + ".".join([new, *words[1 + len(path) :]])
+        if step == "match" and words[1:2] == ["rest"]:
+            return "." + ".".join(["in_default.in_default-own", *words[1:]])
         if step in self.kinds and words[1:2] == ["given"]:
             return "." + ".".join(["type_inv", self.kinds[step], *words[2:]])
         if step in self.steps:
@@ -220,9 +222,11 @@ def turned(path, crate, goal_path, made):
                 if kind is None:
                     t = re.sub(rf"\({re.escape(h)} {arg}\)|(?<![\w'.-]){re.escape(h)} {arg}", "c", t)
                 else:
-                    t = re.sub(rf"\({re.escape(h)} {arg}\)|(?<![\w'.-]){re.escape(h)} {arg}", h, t)
+                    t = re.sub(rf"\({re.escape(h)} {arg}\)|(?<![\w'.-]){re.escape(h)} {arg}", f"\x01{h}\x01", t)
             t = t.replace("(c)", "c")
-        return fn.text(t)
+        t = fn.text(t.replace("\x01", ""))
+        # What a test of a negation says is told of what is negated.
+        return re.sub(r"\bnot-(?:true|false) (?:_|[\w.-]+|\([^()]*\)) (c\.(?:if|loop)-not-[\w.-]+\.(?:true|false))", r"\1", t)
 
     def with_helpers(t):
         lets, seen = [], set()

@@ -19,7 +19,7 @@ pub bicycle_price_at-requires : goal.bicycle_price_at-requires
 bicycle_price_at-requires c =
     let there : AreaThere c.args.tariff.now c.args.counts c.args.number = area_there c.args.tariff.now c.args.counts c.args.number (c.requires.0, c.requires.1) in
     let kind = kind_of c.args.tariff.now c.args.number in
-    omega (arith, c.area_place.ensures, (there c).inside, long_is kind (eqb-true kind aachen_kind c.requires.2))
+    omega (arith, c.area_place.ensures, there.inside, long_is kind (eqb-true kind aachen_kind c.requires.2))
 
 pub returns : goal.returns
 returns c =

@@ -26,8 +26,8 @@ town_at-requires c =
     let there : AreaThere c.args.tariff.now c.args.counts c.args.number = area_there c.args.tariff.now c.args.counts c.args.number c.requires in
     let own : ℕ = kind_of c.args.tariff.now c.args.number in
     let kind : c.kind_at.result ≡ own = c.kind_at.ensures ∙ ap (kind_at c.args.tariff.now) c.area_place-at.ensures in
-    let long = long_is (own c) (sym kind ∙ c.if-kind_at-eq-AACHEN_KIND.true) in
-    omega (arith, c.area_place-at.ensures, (there c).inside, long)
+    let long = long_is (own) (sym kind ∙ c.if-kind_at-eq-AACHEN_KIND.true) in
+    omega (arith, c.area_place-at.ensures, there.inside, long)
 
 pub returns-then-kind_at-eq-AACHEN_KIND : goal.returns-then-kind_at-eq-AACHEN_KIND
 unfolding town_at

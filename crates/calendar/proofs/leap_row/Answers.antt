@@ -1,5 +1,6 @@
 -- `calendar::leap_row` meets its contract: each month's number is its entry in the row of a leap year, and what is left is December.
-use Rattle.calendar.proofs.Table.{december}
+use mathlib.Core.Path.{◌≡◌}
+use native.Mathlib.Omega.{arith}
 use Rattle.calendar.proofs.leap_row.Goals as goal
 
 pub returns-in-1 : goal.returns-in-1
@@ -36,4 +37,4 @@ pub returns-in-11 : goal.returns-in-11
 returns-in-11 c = rw c.in-11.is
 
 pub returns-in_default : goal.returns-in_default
-returns-in_default c = rw (december c.args.month c.requires.0 c.requires.1 c.in-1.rest)
+returns-in_default c = let last : c.args.month ≡ 12 = omega arith in rw last

@@ -20,9 +20,10 @@ pub returns-in_default : goal.returns-in_default
 unfolding month_days
 returns-in_default c =
     let month = c.args.month in
-    let not-thirty = c.in-2.rest.1 in
+    let none = c.in_default.in_default-own.rest in
+    let not-thirty = none.1 in
     rw (
-      ne_eqb month 2 c.in-2.rest.0.1,
+      ne_eqb month 2 none.0.1,
       ne_eqb month 4 (λ e. not-thirty (inl e)),
       ne_eqb month 6 (λ e. not-thirty (inr (inl e))),
       ne_eqb month 9 (λ e. not-thirty (inr (inr (inl e)))),

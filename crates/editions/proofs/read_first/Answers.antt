@@ -27,7 +27,7 @@ returns-in-Amid c = sym (first_amid _ _ _ _ (ap halt_of (sym (rest 8 c.args.file
 pub returns-then-opens_at : goal.returns-then-opens_at
 returns-then-opens_at c =
     c.read_second.ensures
-    ∙ sym (first_then _ _ _ _ _ (ap halt_of (sym (rest 8 c.args.file.now)) ∙ sym c.halt_of.ensures ∙ c.in-Behind.is) (sym c.Opens-at.ensures ∙ c.if-opens_at.true))
+    ∙ sym (first_then _ _ _ _ _ (ap halt_of (sym (rest 8 c.args.file.now)) ∙ sym c.halt_of.ensures ∙ c.in-Behind.is) (sym c.opens_at.ensures ∙ c.if-opens_at.true))
 
 pub returns-else-opens_at : goal.returns-else-opens_at
-returns-else-opens_at c = sym (first_behind _ _ _ _ _ (ap halt_of (sym (rest 8 c.args.file.now)) ∙ sym c.halt_of.ensures ∙ c.in-Behind.is) (sym c.Opens-at.ensures ∙ c.if-opens_at.false))
+returns-else-opens_at c = sym (first_behind _ _ _ _ _ (ap halt_of (sym (rest 8 c.args.file.now)) ∙ sym c.halt_of.ensures ∙ c.in-Behind.is) (sym c.opens_at.ensures ∙ c.if-opens_at.false))

@@ -37,7 +37,7 @@ put-requires-4 c =
     (λ w. window_left _ c.get.result p.0 p.1.0 c.get.ensures.value w.0.left w.1) c.if-window-get.branch in
     (
       c.put-3.auto.0 ∙ c.put-2.auto.0 ∙ c.put.auto.0
-          ∙ (joined c).size,
+          ∙ joined.size,
       omega arith,
     )
 
@@ -47,7 +47,7 @@ shape_of-book c =
     ⊎_elim (λ w. window_cleared _ c.get.result w.0.taken (w.5 ∙ w.2.ensures))
     (λ w. window_left _ c.get.result p.0 p.1.0 c.get.ensures.value w.0.left w.1) c.if-window-get.branch in
     c.put-4.auto.0 ∙ c.put-3.auto.0 ∙ c.put-2.auto.0 ∙ c.put.auto.0
-    ∙ (joined c).size ∙ sym c.requires.0
+    ∙ joined.size ∙ sym c.requires.0
 
 pub returns : goal.returns
 returns c =
@@ -55,5 +55,5 @@ returns c =
     ⊎_elim (λ w. window_cleared _ c.get.result w.0.taken (w.5 ∙ w.2.ensures))
     (λ w. window_left _ c.get.result p.0 p.1.0 c.get.ensures.value w.0.left w.1) c.if-window-get.branch in
     let a = c.args in
-    four_put a.window a.checkout.0 (joined c).value c.put.ensures
+    four_put a.window a.checkout.0 joined.value c.put.ensures
     c.put-2.ensures c.put-3.ensures c.put-4.ensures

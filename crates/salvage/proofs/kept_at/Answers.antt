@@ -40,12 +40,12 @@ pub returns-then-party_right : goal.returns-then-party_right
 returns-then-party_right c =
     let shape : shape_at c.args.roll.now c.args.at ≡ Stops c.in-Stops.stops = sym c.shape_at.ensures ∙ c.in-Stops.is in
     sym
-    (by_party _ _ _ {t = true} (shape c)
+    (by_party _ _ _ {t = true} (shape)
     (rw (sym c.class_at.ensures, sym c.level_at.ensures, sym c.party_at.ensures) (sym c.party_right.ensures ∙ c.if-party_right.true)))
 
 pub returns : goal.returns
 returns c =
     let shape : shape_at c.args.roll.now c.args.at ≡ Stops c.in-Stops.stops = sym c.shape_at.ensures ∙ c.in-Stops.is in
     sym
-    (by_party _ _ _ {t = false} (shape c)
+    (by_party _ _ _ {t = false} (shape)
     (rw (sym c.class_at.ensures, sym c.level_at.ensures, sym c.party_at.ensures) (sym c.party_right.ensures ∙ c.if-party_right.false)))

@@ -20,4 +20,4 @@ returns c =
     c.args.place c.put_up_to_eight-after.new.0
     c.put_up_to_eight-after.result = let put = c.put_up_to_eight-after in
     narrow 5 put.ensures (omega arith) (omega arith) (five_digits c.args.number (omega arith)) in
-    behind_join digits.put_byte.ensures
+    behind_join digits c.put_byte.ensures

@@ -53,5 +53,5 @@ returns c =
     let found = c.kept_at-size in
     let some : 0 < found.result = omega arith in
     (some, (kept_range args.roll.now args.pass.at found.result (sym found.ensures) some).0) in
-    one_kept (sym c.kept_at-size.ensures) (ends c).0 c.put_run-end.ensures
+    one_kept (sym c.kept_at-size.ensures) ends.0 c.put_run-end.ensures
     c.move_to.ensures

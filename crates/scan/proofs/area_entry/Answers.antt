@@ -11,7 +11,7 @@ pub area_fields-f-requires : goal.area_fields-f-requires
 area_fields-f-requires c =
     let due : area_due c.args.kind c.args.body
     c.args.so_far
-    ≡ true = rw c.Long-of.ensures.0 at c.if-body-long_of.true in
+    ≡ true = rw c.long_of.ensures.0 at c.if-body-long_of.true in
     let a = c.args in
     let (long, _, _, _) = area_tests a.kind a.body a.so_far due in
     omega (arith, long, c.requires.1)
@@ -23,7 +23,7 @@ pub rest_right-requires : goal.rest_right-requires
 rest_right-requires c =
     let due : area_due c.args.kind c.args.body
     c.args.so_far
-    ≡ true = rw c.Long-of.ensures.0 at c.if-body-long_of.true in
+    ≡ true = rw c.long_of.ensures.0 at c.if-body-long_of.true in
     let (long, _, _, _) = area_tests c.args.kind c.args.body c.args.so_far due in
     omega (arith, long, c.requires.1)
 
@@ -31,7 +31,7 @@ pub returns-then-prices_right-caps_right : goal.returns-then-prices_right-caps_r
 returns-then-prices_right-caps_right c =
     let due : area_due c.args.kind c.args.body
     c.args.so_far
-    ≡ true = rw c.Long-of.ensures.0 at c.if-body-long_of.true in
+    ≡ true = rw c.long_of.ensures.0 at c.if-body-long_of.true in
     let right : area_right c.args.b.now c.args.so_far
     c.args.kind
     (area_fields c.args.b.now c.args.at)
@@ -50,7 +50,7 @@ pub returns-else-prices_right-caps_right : goal.returns-else-prices_right-caps_r
 returns-else-prices_right-caps_right c =
     let due : area_due c.args.kind c.args.body
     c.args.so_far
-    ≡ true = rw c.Long-of.ensures.0 at c.if-body-long_of.true in
+    ≡ true = rw c.long_of.ensures.0 at c.if-body-long_of.true in
     let right : area_right c.args.b.now c.args.so_far
     c.args.kind
     (area_fields c.args.b.now c.args.at)
@@ -66,4 +66,4 @@ returns-else-prices_right-caps_right c =
     sym (area_is_due _ _ _ _ _ due (right ∙ c.if-prices_right-caps_right.false))
 
 pub returns-else-body-long_of : goal.returns-else-body-long_of
-returns-else-body-long_of c = sym (area_not_due _ _ _ _ _ (rw c.Long-of.ensures.0 at c.if-body-long_of.false))
+returns-else-body-long_of c = sym (area_not_due _ _ _ _ _ (rw c.long_of.ensures.0 at c.if-body-long_of.false))

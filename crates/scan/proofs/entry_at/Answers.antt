@@ -59,4 +59,4 @@ pub returns-else-kind-eq-STOP_KIND : goal.returns-else-kind-eq-STOP_KIND
 returns-else-kind-eq-STOP_KIND c =
     let frame : frame_at c.args.b.now c.args.at
     ≡ Whole c.in-Whole.kind c.in-Whole.body = sym c.frame_at.ensures ∙ c.in-Whole.is in
-    sym (other_frame _ _ _ _ _ frame.if3.false c.if-kind-eq-FACTOR_KIND.false c.if-kind-eq-STOP_KIND.false)
+    sym (other_frame _ _ _ _ _ frame c.if-kind.false c.if-kind-eq-FACTOR_KIND.false c.if-kind-eq-STOP_KIND.false)

@@ -16,7 +16,7 @@ pub returns-then-kind-body : goal.returns-then-kind-body
 returns-then-kind-body c =
     let frame : frame_at c.args.b.now c.args.at
     ≡ Whole c.in-Whole.kind c.in-Whole.body = sym c.frame_at.ensures ∙ c.in-Whole.is in
-    sym (foreign_shape _ _ _ _ frame.if1.true)
+    sym (foreign_shape _ _ _ _ frame c.if-kind-body.true)
 
 pub overflow_add-at : goal.overflow_add-at
 overflow_add-at c =
@@ -46,7 +46,7 @@ returns-then-body-stops c =
     let frame : frame_at c.args.b.now c.args.at
     ≡ Whole c.in-Whole.kind c.in-Whole.body = sym c.frame_at.ensures ∙ c.in-Whole.is in
     sym
-    (own_shape _ _ _ _ _ frame.if1.false
+    (own_shape _ _ _ _ _ frame c.if-kind-body.false
     c.one_at-stops.ensures.value (eq-eqb _ _ c.if-body-stops.true))
 
 pub returns-else-body-stops : goal.returns-else-body-stops
@@ -54,5 +54,5 @@ returns-else-body-stops c =
     let frame : frame_at c.args.b.now c.args.at
     ≡ Whole c.in-Whole.kind c.in-Whole.body = sym c.frame_at.ensures ∙ c.in-Whole.is in
     sym
-    (own_shape _ _ _ _ _ frame.if1.false
+    (own_shape _ _ _ _ _ frame c.if-kind-body.false
     c.one_at-stops.ensures.value (ne_eqb _ _ c.if-body-stops.false))

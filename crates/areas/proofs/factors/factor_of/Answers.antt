@@ -30,4 +30,4 @@ returns c =
     let value : c.factor_fields.result ≡ factor_of c.args.tariff.now c.args.counts c.args.area =
     rw (c.factor_fields.ensures, c.factor_place.ensures, c.wide_before-number.ensures, region)
     in
-    rw value (factor-of (tariff c) c.args.area c.requires.1)
+    rw value (factor-of (tariff) c.args.area c.requires.1)

@@ -12,12 +12,12 @@ use Rattle.calendar.proofs.Stamp.minutes_from.Goals as goal
 pub overflow_add-result : goal.overflow_add-result
 overflow_add-result c =
     let most : day_number c.args.self.year c.args.self.month c.args.self.day ≤ 36524 = day_number_most _ _ _ (date_fields _ _ _ (stamp_parts c.args.self c.requires.0).date) in
-    omega (arith, c.requires.1, most c)
+    omega (arith, c.requires.1, most)
 
 pub overflow_add-result-2 : goal.overflow_add-result-2
 overflow_add-result-2 c =
     let most : day_number c.args.self.year c.args.self.month c.args.self.day ≤ 36524 = day_number_most _ _ _ (date_fields _ _ _ (stamp_parts c.args.self c.requires.0).date) in
-    omega (arith, c.requires.1, most c)
+    omega (arith, c.requires.1, most)
 
 pub overflow_sub-result : goal.overflow_sub-result
 unfolding local_minute

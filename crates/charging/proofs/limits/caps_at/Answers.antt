@@ -16,8 +16,8 @@ raised-dear-requires c =
     let day-cap : c.limits-of.result.day_cap ≡ area.day_cap = ap (λ l. l.day_cap) c.limits-of.ensures in
     let surcharge : c.limits-of.result.surcharge ≡ area.surcharge = ap (λ l. l.surcharge) c.limits-of.ensures in
     (
-      omega (arith, day_most (area c) _ (ranges c) (sym (day-cap c) ∙ c.in-UpTo.is)),
-      omega (arith, surcharge c, (ranges c).surcharge),
+      omega (arith, day_most (area) _ (ranges) (sym (day-cap) ∙ c.in-UpTo.is)),
+      omega (arith, surcharge, ranges.surcharge),
     )
 
 pub reduced-requires : goal.reduced-requires
@@ -27,8 +27,8 @@ reduced-requires c =
     let day-cap : c.limits-of.result.day_cap ≡ area.day_cap = ap (λ l. l.day_cap) c.limits-of.ensures in
     let reduction : c.limits-of.result.reduction ≡ area.reduction = ap (λ l. l.reduction) c.limits-of.ensures in
     (
-      omega (arith, day_most (area c) _ (ranges c) (sym (day-cap c) ∙ c.in-UpTo.is)),
-      omega (arith, reduction c, (ranges c).reduction),
+      omega (arith, day_most (area) _ (ranges) (sym (day-cap) ∙ c.in-UpTo.is)),
+      omega (arith, reduction, ranges.reduction),
     )
 
 pub reduced-requires-then-child : goal.reduced-requires-then-child
@@ -41,16 +41,16 @@ reduced-requires-then-child c =
       omega (
         arith,
         c.raised-dear.ensures,
-        day_most (area c) _ (ranges c) (sym (day-cap c) ∙ c.in-UpTo.is),
+        day_most (area) _ (ranges) (sym (day-cap) ∙ c.in-UpTo.is),
       ),
-      omega (arith, reduction c, (ranges c).reduction),
+      omega (arith, reduction, ranges.reduction),
     )
 
 pub returns-in-NoCap : goal.returns-in-NoCap
 returns-in-NoCap c =
     let area : Area = let a = c.args in area_at a.tariff.now a.at in
     let day-cap : c.limits-of.result.day_cap ≡ area.day_cap = ap (λ l. l.day_cap) c.limits-of.ensures in
-    caps_none (area c) _ (sym (day-cap c) ∙ c.in-NoCap.is)
+    caps_none (area) _ (sym (day-cap) ∙ c.in-NoCap.is)
 
 pub returns-then-child : goal.returns-then-child
 returns-then-child c =
@@ -60,10 +60,10 @@ returns-then-child c =
     let reduction : c.limits-of.result.reduction ≡ area.reduction = ap (λ l. l.reduction) c.limits-of.ensures in
     let day = c.daily-1.given in
     rw c.if-child.true
-    (caps_child (area c) _ _ _ _ (sym (day-cap c) ∙ day.1)
-    (c.raised-dear.ensures.value ∙ ap (λ percent. raised_by percent day.0.0.0) (surcharge c))
-    (c.reduced.ensures.value ∙ ap (λ percent. reduced_by percent day.0.0.0) (reduction c))
-    (c.reduced-then-child.ensures.value ∙ ap (λ percent. reduced_by percent c.raised-dear.result.0) (reduction c)))
+    (caps_child (area) _ _ _ _ (sym (day-cap) ∙ day.1)
+    (c.raised-dear.ensures.value ∙ ap (λ percent. raised_by percent day.0.0.0) (surcharge))
+    (c.reduced.ensures.value ∙ ap (λ percent. reduced_by percent day.0.0.0) (reduction))
+    (c.reduced-then-child.ensures.value ∙ ap (λ percent. reduced_by percent c.raised-dear.result.0) (reduction)))
 
 pub returns-else-child : goal.returns-else-child
 returns-else-child c =
@@ -72,5 +72,5 @@ returns-else-child c =
     let surcharge : c.limits-of.result.surcharge ≡ area.surcharge = ap (λ l. l.surcharge) c.limits-of.ensures in
     let day = c.daily-1.given in
     rw c.if-child.false
-    (caps_adult (area c) _ _ (sym (day-cap c) ∙ day.1)
-    (c.raised-dear.ensures.value ∙ ap (λ percent. raised_by percent day.0.0.0) (surcharge c)))
+    (caps_adult (area) _ _ (sym (day-cap) ∙ day.1)
+    (c.raised-dear.ensures.value ∙ ap (λ percent. raised_by percent day.0.0.0) (surcharge)))

@@ -28,14 +28,14 @@ pub settle_sized-requires : goal.settle_sized-requires
 settle_sized-requires c =
     let framed : frame_at c.args.roll.now c.args.cursor.next ≡ Whole c.in-Whole.kind c.in-Whole.body = sym c.frame_at.ensures ∙ c.in-Whole.is in
     let some_left : 1 ≤ c.args.cursor.left = let left = c.if-cursor-eq0.false in omega arith in
-    (c.requires.0, c.requires.1.fits _ _ (next_exchanged c.args.roll.now c.args.replacement.now c.args.cursor (framed c) (some_left c) c.if-cursor-eq1.true))
+    (c.requires.0, c.requires.1.fits _ _ (next_exchanged c.args.roll.now c.args.replacement.now c.args.cursor (framed) (some_left) c.if-cursor-eq1.true))
 
 pub returns-then-cursor-eq1 : goal.returns-then-cursor-eq1
 returns-then-cursor-eq1 c =
     let framed : frame_at c.args.roll.now c.args.cursor.next ≡ Whole c.in-Whole.kind c.in-Whole.body = sym c.frame_at.ensures ∙ c.in-Whole.is in
     let some_left : 1 ≤ c.args.cursor.left = let left = c.if-cursor-eq0.false in omega arith in
-    turned c.args.roll.now c.args.replacement.now c.args.cursor (some_left c) c.behind-rest.ensures
-    (next_exchanged c.args.roll.now c.args.replacement.now c.args.cursor (framed c) (some_left c) c.if-cursor-eq1.true)
+    turned c.args.roll.now c.args.replacement.now c.args.cursor (some_left) c.behind-rest.ensures
+    (next_exchanged c.args.roll.now c.args.replacement.now c.args.cursor (framed) (some_left) c.if-cursor-eq1.true)
     c.settle_sized.ensures
 
 pub slice_bounds-settle_sized-end : goal.slice_bounds-settle_sized-end
@@ -48,7 +48,7 @@ pub settle_sized-requires-in-Whole : goal.settle_sized-requires-in-Whole
 settle_sized-requires-in-Whole c =
     let framed : frame_at c.args.roll.now c.args.cursor.next ≡ Whole c.in-Whole.kind c.in-Whole.body = sym c.frame_at.ensures ∙ c.in-Whole.is in
     let some_left : 1 ≤ c.args.cursor.left = let left = c.if-cursor-eq0.false in omega arith in
-    (c.requires.0, c.requires.1.fits _ _ (next_own c.args.roll.now c.args.replacement.now c.args.cursor (framed c) (some_left c) c.if-cursor-eq1.false))
+    (c.requires.0, c.requires.1.fits _ _ (next_own c.args.roll.now c.args.replacement.now c.args.cursor (framed) (some_left) c.if-cursor-eq1.false))
 
 pub returns-in-Broken : goal.returns-in-Broken
 returns-in-Broken c = (roll_ends c.args.roll.now c.args.replacement.now c.args.cursor (sym c.frame_at.ensures ∙ c.in-Broken.is), (refl, refl))
@@ -57,6 +57,6 @@ pub returns-else-cursor-eq1 : goal.returns-else-cursor-eq1
 returns-else-cursor-eq1 c =
     let framed : frame_at c.args.roll.now c.args.cursor.next ≡ Whole c.in-Whole.kind c.in-Whole.body = sym c.frame_at.ensures ∙ c.in-Whole.is in
     let some_left : 1 ≤ c.args.cursor.left = let left = c.if-cursor-eq0.false in omega arith in
-    turned c.args.roll.now c.args.replacement.now c.args.cursor (some_left c) c.behind-rest.ensures
-    (next_own c.args.roll.now c.args.replacement.now c.args.cursor (framed c) (some_left c) c.if-cursor-eq1.false)
+    turned c.args.roll.now c.args.replacement.now c.args.cursor (some_left) c.behind-rest.ensures
+    (next_own c.args.roll.now c.args.replacement.now c.args.cursor (framed) (some_left) c.if-cursor-eq1.false)
     c.settle_sized-in-Whole.ensures

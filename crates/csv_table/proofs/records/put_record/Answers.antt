@@ -12,7 +12,7 @@ put_rows-requires c = (c.requires, told_read c.args.whole.now (sym c.in-Record.i
 pub returns-in-Refused : goal.returns-in-Refused
 returns-in-Refused c =
     let args = c.args in
-    behind_same c.Put-refused.ensures
+    behind_same c.put_refused.ensures
     (sym (refused_read args.number _ (read_at args.whole.now 0) (sym c.in-Refused.is ∙ c.read_record.ensures))) (omega arith)
 
 pub returns-in-Record : goal.returns-in-Record

@@ -1,5 +1,4 @@
 -- `rows::put_cut` meets its contract: of a bicycle or of kind 4, where nothing was taken off, and where something was.
-use borrow.Author.Tests.{not-true, not-false}
 use native.Mathlib.Omega.{arith}
 use mathlib.Core.Path.{sym}
 use Rattle.text.specs.Texts.{bytes}
@@ -9,18 +8,18 @@ use Rattle.csv_table.proofs.rows.put_cut.Goals as goal
 
 pub returns-then-not-person : goal.returns-then-not-person
 unfolding bytes
-returns-then-not-person c = behind_same c.put_text.ensures (sym (untold c.args.person c.args.cut (not-true _ c.if-not-person.true))) (omega arith)
+returns-then-not-person c = behind_same c.put_text.ensures (sym (untold c.args.person c.args.cut (c.if-not-person.true))) (omega arith)
 
 pub returns-then-off-eq0 : goal.returns-then-off-eq0
 unfolding bytes
 returns-then-off-eq0 c =
     let args = c.args in
     behind_same (behind_join c.put_column-after1.ensures c.put_text-then-off-eq0.ensures)
-    (sym (nothing_off args.person args.cut (not-false _ c.if-not-person.false) c.if-off-eq0.true)) (omega arith)
+    (sym (nothing_off args.person args.cut (c.if-not-person.false) c.if-off-eq0.true)) (omega arith)
 
 pub returns : goal.returns
 unfolding bytes
 returns c =
     let args = c.args in
     behind_same (behind_join (behind_join c.put_column-after1.ensures c.put_column-after2.ensures) c.put_column.ensures)
-    (sym (some_off args.person args.cut (not-false _ c.if-not-person.false) c.if-off-eq0.false)) (omega arith)
+    (sym (some_off args.person args.cut (c.if-not-person.false) c.if-off-eq0.false)) (omega arith)

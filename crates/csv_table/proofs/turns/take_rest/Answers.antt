@@ -19,4 +19,4 @@ pub returns : goal.returns
 returns c =
     let args = c.args in
     rw (broken-effect args.size args.more args.number c.if-more-size.false c.if-size-eq0.false)
-    (ended (behind_same c.Put-refused.ensures refl (omega arith)))
+    (ended (behind_same c.put_refused.ensures refl (omega arith)))

@@ -92,7 +92,7 @@ returns-in-Refused-edition_rows c =
     let timed : (first_of (clock_rows c.args.book.now c.args.trip.now) ≡ nothing) × (c.in-Over.span ≡ span_of c.args.trip.now) = over_timed _ _ (sym c.clock_rows.ensures ∙ c.in-Over.is) in
     let asked : opened_by c.args.editions c.args.book.now (span_of c.args.trip.now) ≡ c.edition_rows.result = ap (λ (span : Span). opened_by c.args.editions c.args.book.now span) (sym timed.1) ∙ sym c.edition_rows.ensures in
     sym
-    (refused_first _ _ _ _ _ (past-clock c ∙ earlier_decides _ _ (refused_opened _ _ _ (asked c ∙ c.in-Refused-edition_rows.is))))
+    (refused_first _ _ _ _ _ (past-clock c ∙ earlier_decides _ _ (refused_opened _ _ _ (asked ∙ c.in-Refused-edition_rows.is))))
 
 pub tariff_in-tariff-requires : goal.tariff_in-tariff-requires
 tariff_in-tariff-requires c = c.requires.read
@@ -115,7 +115,7 @@ returns-in-Refused-tariff_rows c =
     ≡ c.tariff_rows.result = rw (← opened.1, ← c.tariff_in-tariff.ensures, ← c.counts_in-counts.ensures) (sym c.tariff_rows.ensures) in
     sym
     (refused_first _ _ _ _ _
-    (past-edition (edition-8 c) ∙ earlier_decides _ _ (refused_placed _ _ _ (looked c ∙ c.in-Refused-tariff_rows.is))))
+    (past-edition (edition-8 c) ∙ earlier_decides _ _ (refused_placed _ _ _ (looked ∙ c.in-Refused-tariff_rows.is))))
 
 pub room_rows-requires : goal.room_rows-requires
 room_rows-requires c =
@@ -123,7 +123,7 @@ room_rows-requires c =
     let asked : opened_by c.args.editions c.args.book.now (span_of c.args.trip.now) ≡ c.edition_rows.result = ap (λ (span : Span). opened_by c.args.editions c.args.book.now span) (sym timed.1) ∙ sym c.edition_rows.ensures in
     let opened : let window = window_in c.args.editions c.args.book.now c.args.trip.now in
     (first_of (edition_rows window) ≡ nothing) × (c.in-In.window ≡ window) = in-opened c.args.editions c.args.book.now (span_of c.args.trip.now) (asked ∙ c.in-In.is) in
-    rw (opened c).1 (trips_most _ _ _ (start-6 c).pre.sound_book)
+    rw opened.1 (trips_most _ _ _ (start-6 c).pre.sound_book)
 
 pub returns-in-Refused-room_rows : goal.returns-in-Refused-room_rows
 returns-in-Refused-room_rows c = sym (refused_first _ _ _ _ _ (past-rest c ∙ refused_roomed _ _ _ _ (sym c.room_rows.ensures ∙ c.in-Refused-room_rows.is)))

@@ -9,7 +9,6 @@ use native.Mathlib.Nat.{le_of_eq}
 use native.Mathlib.Omega.{arith}
 use mathlib.Core.Path.{◌≡◌, sym, ap, ◌∙◌}
 use mathlib.Core.Bool.{not}
-use borrow.Author.Tests.{not-false}
 use lib.ListN.{drop}
 use Rattle.trip.specs.Record.{count_at}
 use Rattle.trip.specs.Moments.{checkin_of, checkout_of}
@@ -54,7 +53,7 @@ pub is_mistap-requires : goal.is_mistap-requires
 is_mistap-requires c =
     (
   le_of_eq (filling c.requires.1).size,
-  (in-order _ _ (sym c.in_order.ensures ∙ not-false _ c.if-not-in_order.false)).0,
+  (in-order _ _ (sym c.in_order.ensures ∙ c.if-not-in_order.false)).0,
 )
 
 pub returns-then-is_mistap : goal.returns-then-is_mistap
@@ -65,7 +64,7 @@ returns-then-is_mistap c =
     let order : let trip = c.args.trip.now in in_order (checkin_of trip) (checkout_of trip) ≡ c.in_order.result = let (right, (from, to)) = times_are _ _ _ times in rw (from, to) (sym c.in_order.ensures) in
     let past-9 : Past 2 c = past-8 ∙ skip _ _ (ap not order ∙ c.if-not-in_order.false) in
     let mistap : let trip = c.args.trip.now in
-    is_mistap trip (count_at trip 0) (checkin_of trip) (checkout_of trip) ≡ c.is_mistap.result = let (right, (from, to)) = times_are _ _ _ (times c) in
+    is_mistap trip (count_at trip 0) (checkin_of trip) (checkout_of trip) ≡ c.is_mistap.result = let (right, (from, to)) = times_are _ _ _ (times) in
     rw ((filling (start c).requires.1).count, from, to) (sym c.is_mistap.ensures) in
     sym (comes_refused Refused _ (past-9 ∙ stop _ _ (mistap ∙ c.if-is_mistap.true)))
 
@@ -77,7 +76,7 @@ returns-then-too_early c =
     let order : let trip = c.args.trip.now in in_order (checkin_of trip) (checkout_of trip) ≡ c.in_order.result = let (right, (from, to)) = times_are _ _ _ times in rw (from, to) (sym c.in_order.ensures) in
     let past-9 : Past 2 c = past-8 ∙ skip _ _ (ap not order ∙ c.if-not-in_order.false) in
     let mistap : let trip = c.args.trip.now in
-    is_mistap trip (count_at trip 0) (checkin_of trip) (checkout_of trip) ≡ c.is_mistap.result = let (right, (from, to)) = times_are _ _ _ (times c) in
+    is_mistap trip (count_at trip 0) (checkin_of trip) (checkout_of trip) ≡ c.is_mistap.result = let (right, (from, to)) = times_are _ _ _ (times) in
     rw ((filling (start c).requires.1).count, from, to) (sym c.is_mistap.ensures) in
     let past-17 : Past 3 c = past-9 ∙ skip _ _ (mistap ∙ c.if-is_mistap.false) in
     let early : too_early c.args.book.now (checkin_of c.args.trip.now) ≡ c.too_early.result = let (right, (from, to)) = times_are _ _ _ times in rw from (sym c.too_early.ensures) in
@@ -91,7 +90,7 @@ returns c =
     let order : let trip = c.args.trip.now in in_order (checkin_of trip) (checkout_of trip) ≡ c.in_order.result = let (right, (from, to)) = times_are _ _ _ times in rw (from, to) (sym c.in_order.ensures) in
     let past-9 : Past 2 c = past-8 ∙ skip _ _ (ap not order ∙ c.if-not-in_order.false) in
     let mistap : let trip = c.args.trip.now in
-    is_mistap trip (count_at trip 0) (checkin_of trip) (checkout_of trip) ≡ c.is_mistap.result = let (right, (from, to)) = times_are _ _ _ (times c) in
+    is_mistap trip (count_at trip 0) (checkin_of trip) (checkout_of trip) ≡ c.is_mistap.result = let (right, (from, to)) = times_are _ _ _ (times) in
     rw ((filling (start c).requires.1).count, from, to) (sym c.is_mistap.ensures) in
     let past-17 : Past 3 c = past-9 ∙ skip _ _ (mistap ∙ c.if-is_mistap.false) in
     let early : too_early c.args.book.now (checkin_of c.args.trip.now) ≡ c.too_early.result = let (right, (from, to)) = times_are _ _ _ times in rw from (sym c.too_early.ensures) in

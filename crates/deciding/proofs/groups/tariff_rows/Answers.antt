@@ -2,7 +2,6 @@
 use native.Mathlib.Nat.{le_of_eq}
 use mathlib.Core.Path.{◌≡◌, sym, ap, ◌∙◌}
 use mathlib.Core.Bool.{not}
-use borrow.Author.Tests.{not-false}
 use lib.ListN.{drop}
 use Rattle.trip.specs.Record.{count_at}
 use Rattle.trip.specs.Trips.{stops_known, trip_of}
@@ -30,7 +29,7 @@ pub break_of-breaking-requires : goal.break_of-breaking-requires
 break_of-breaking-requires c =
     let riding : Riding c.args.tariff.now c.args.counts c.args.trip.now c.args.fields.stops = record {
       read = c.pre.0;
-      known = sym c.stops_known.ensures ∙ not-false _ c.if-not-stops_known.false;
+      known = sym c.stops_known.ensures ∙ c.if-not-stops_known.false;
       fits = le_of_eq (filling c.pre.1).size;
     } in
     riding
@@ -39,7 +38,7 @@ pub town_refuses-requires : goal.town_refuses-requires
 town_refuses-requires c =
     let riding : Riding c.args.tariff.now c.args.counts c.args.trip.now c.args.fields.stops = record {
       read = c.pre.0;
-      known = sym c.stops_known.ensures ∙ not-false _ c.if-not-stops_known.false;
+      known = sym c.stops_known.ensures ∙ c.if-not-stops_known.false;
       fits = le_of_eq (filling c.pre.1).size;
     } in
     (riding, ((party_ranges _ _ _ _ c.requires.1.party).least, c.break_of-breaking.ensures))

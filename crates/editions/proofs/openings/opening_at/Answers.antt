@@ -22,7 +22,7 @@ pub returns-in-Broken : goal.returns-in-Broken
 returns-in-Broken c = sym (opening_broken _ _ _ (omega (arith, c.if-file-at.false)) (sym c.frame_at.ensures ∙ c.in-Broken.is))
 
 pub returns-then-kind-body : goal.returns-then-kind-body
-returns-then-kind-body c = c.Since-at.ensures ∙ sym (opening_whole _ _ _ _ _ (sym c.frame_at.ensures ∙ c.in-Whole.is) c.if-kind-body.true)
+returns-then-kind-body c = c.since_at.ensures ∙ sym (opening_whole _ _ _ _ _ (sym c.frame_at.ensures ∙ c.in-Whole.is) c.if-kind-body.true)
 
 pub returns-else-kind-body : goal.returns-else-kind-body
 returns-else-kind-body c = sym (opening_whole _ _ _ _ _ (sym c.frame_at.ensures ∙ c.in-Whole.is) c.if-kind-body.false)

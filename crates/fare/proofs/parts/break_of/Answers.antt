@@ -1,7 +1,6 @@
 -- Each way through is one of the laws of breaking.
 use native.Mathlib.Omega.{arith}
 use mathlib.Core.Path.{ap}
-use borrow.Author.Tests.{not-true}
 use Rattle.layout.specs.declared.Factor.{Factor}
 use Rattle.fare.proofs.Breaks.{break_few, break_never, break_kept, break_at, break_nowhere}
 use Rattle.fare.proofs.parts.break_of.Goals as goal
@@ -18,7 +17,7 @@ comes_back_from-requires c = (c.requires, (omega (arith, c.farthest_change-c.ens
 pub returns-then-not-comes_back_from : goal.returns-then-not-comes_back_from
 returns-then-not-comes_back_from c =
     break_never c.requires (omega arith) c.farthest_change-c.ensures c.comes_back_from.ensures
-    (not-true c.comes_back_from.result c.if-not-comes_back_from.true)
+    (c.if-not-comes_back_from.true)
 
 pub area_of_stops-area-requires : goal.area_of_stops-area-requires
 area_of_stops-area-requires c = (c.requires, (omega arith, omega arith))

@@ -5,10 +5,10 @@ use Rattle.layout.specs.Layout.{long_of}
 use Rattle.layout.proofs.fields.area_end.Goals as goal
 
 pub overflow_mul-result : goal.overflow_mul-result
-overflow_mul-result c = omega (arith, c.Long-of.ensures)
+overflow_mul-result c = omega (arith, c.long_of.ensures)
 
 pub overflow_add-result-2 : goal.overflow_add-result-2
-overflow_add-result-2 c = omega (arith, c.Long-of.ensures, ap long_of c.kind_at.ensures)
+overflow_add-result-2 c = omega (arith, c.long_of.ensures, ap long_of c.kind_at.ensures)
 
 pub returns : goal.returns
-returns c = omega (arith, c.Long-of.ensures, ap long_of c.kind_at.ensures)
+returns c = omega (arith, c.long_of.ensures, ap long_of c.kind_at.ensures)

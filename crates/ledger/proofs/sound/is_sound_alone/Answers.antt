@@ -1,7 +1,6 @@
 -- `ledger::sound::is_sound_alone` meets its contract: its tests are the definition's, in the same order. A sound head has at most 256 trips, so the
 -- largest sum that it allows fits 32 bits.
 use Rattle.std.proofs.Common.{sym, ◌∙◌, arith}
-use borrow.Author.Tests.{not-true, not-false}
 use Rattle.ledger.specs.Clauses.{HeadRight}
 use Rattle.ledger.proofs.SoundLaws.{InUse, told_unsized, told_unused, told_wrong, told_right, head_has}
 use Rattle.ledger.proofs.sound.is_sound_alone.Goals as goal
@@ -28,13 +27,13 @@ returns-then-not-head_sound c =
       last = c.get-2.ensures.value;
     } in
     sym (told_wrong _ used
-    (sym c.head_sound.ensures ∙ not-true c.head_sound.result c.if-not-head_sound.true))
+    (sym c.head_sound.ensures ∙ c.if-not-head_sound.true))
 
 pub overflow_mul-trips : goal.overflow_mul-trips
 overflow_mul-trips c =
     let right : HeadRight c.get-trips.result
     c.get.result
-    c.get-2.result = head_has _ _ _ (sym c.head_sound.ensures ∙ not-false c.head_sound.result c.if-not-head_sound.false) in
+    c.get-2.result = head_has _ _ _ (sym c.head_sound.ensures ∙ c.if-not-head_sound.false) in
     omega (arith, right.few)
 
 pub returns : goal.returns
@@ -51,6 +50,6 @@ returns c =
     } in
     let right : HeadRight c.get-trips.result
     c.get.result
-    c.get-2.result = head_has _ _ _ (sym c.head_sound.ensures ∙ not-false c.head_sound.result c.if-not-head_sound.false) in
+    c.get-2.result = head_has _ _ _ (sym c.head_sound.ensures ∙ c.if-not-head_sound.false) in
     rw (c.pairs_sound.ensures, c.payments_sound.ensures, c.get-3.ensures.value)
     (sym (told_right _ used right))

@@ -17,4 +17,4 @@ returns-in-Both c =
     (omega arith)
 
 pub returns-in-Refused : goal.returns-in-Refused
-returns-in-Refused c = behind_same c.Put-refused.ensures (sym (ap (line_text c.args.number) c.in-Refused.is)) (omega arith)
+returns-in-Refused c = behind_same c.put_refused.ensures (sym (ap (line_text c.args.number) c.in-Refused.is)) (omega arith)

@@ -2,7 +2,6 @@
 use Prim.Native.Nat.{◌-◌}
 use native.Mathlib.Omega.{arith}
 use mathlib.Core.Bool.{true}
-use borrow.Author.Tests.{not-true, not-false}
 use Rattle.reader.specs.Reading.{fields_for}
 use Rattle.reader.proofs.Ranges.{none_wrong, one_right, one_wrong, all_right}
 use Rattle.reader.proofs.charges.amounts_right.Goals as goal
@@ -17,13 +16,13 @@ pub amount_right-requires : goal.amount_right-requires
 amount_right-requires c = tt
 
 pub returns-then-not-amount_right : goal.returns-then-not-amount_right
-returns-then-not-amount_right c = one_wrong (fields_for _ _ _) _ c.amount_at.ensures c.amount_right.ensures _ c.loop-i-test.true (not-true _ c.if-not-amount_right.true)
+returns-then-not-amount_right c = one_wrong (fields_for _ _ _) _ c.amount_at.ensures c.amount_right.ensures _ c.loop-i-test.true (c.if-not-amount_right.true)
 
 pub loop-i-preserved : goal.loop-i-preserved
 loop-i-preserved c =
     (
   omega arith,
-  one_right (fields_for _ _ _) _ c.amount_at.ensures c.amount_right.ensures c.loop-i.invariant.1 (not-false _ c.if-not-amount_right.false),
+  one_right (fields_for _ _ _) _ c.amount_at.ensures c.amount_right.ensures c.loop-i.invariant.1 (c.if-not-amount_right.false),
 )
 
 pub returns : goal.returns

@@ -50,8 +50,8 @@ returns c =
           λ e.
           found_faultless b c.args.run kind c.requires.2 (omega (arith, c.if-kind-eq0.false)) c.requires.0 c.requires.1
           (rw (
-            c.prices_found.ensures.told (not-false _ c.if-not-prices_found.false),
-            c.caps_found.ensures.told (not-false _ c.if-not-caps_found.false),
+            c.prices_found.ensures.told (c.if-not-prices_found.false),
+            c.caps_found.ensures.told (c.if-not-caps_found.false),
             besides,
             sym c.area_fields-f.ensures,
             sym c.place_right.ensures ∙ e,

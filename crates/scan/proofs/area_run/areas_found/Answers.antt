@@ -1,7 +1,6 @@
 -- `scan::area_run::areas_found` meets its contract: the loop's invariant is that every record before its place is a faultless area. The
 -- measure is the bytes left.
 use Rattle.std.proofs.Common.{◌-◌, arith}
-use borrow.Author.Tests.{not-false}
 use Rattle.scan.proofs.area_run.areas_found.Goals as goal
 
 pub loop-run-init : goal.loop-run-init
@@ -18,7 +17,7 @@ area_found-requires c =
 pub after_area-run-requires : goal.after_area-run-requires
 after_area-run-requires c =
     let loop = c.loop-run in
-    record { passed = loop.invariant.0.passed; due = loop.invariant.0.due; here = c.area_found.ensures.told (not-false _ c.if-not-area_found.false) }
+    record { passed = loop.invariant.0.passed; due = loop.invariant.0.due; here = c.area_found.ensures.told (c.if-not-area_found.false) }
 
 pub loop-run-smaller : goal.loop-run-smaller
 loop-run-smaller c = omega (arith, c.after_area-run.ensures.1, c.after_area-run.ensures.0.passed.reached.inside)

@@ -1,7 +1,6 @@
 -- `scan::blocks::threes_standing` meets its contract: the loop's invariant is that so many stops stand before its place.
 -- The measure is the stops that there is still room for.
 use Rattle.std.proofs.Common.{◌-◌, arith}
-use borrow.Author.Tests.{not-false}
 use Rattle.scan.proofs.StopLaws.{none_stand, more_stand}
 use Rattle.scan.proofs.blocks.threes_standing.Goals as goal
 
@@ -15,7 +14,7 @@ pub loop-stops-preserved : goal.loop-stops-preserved
 loop-stops-preserved c =
     let loop = c.loop-stops in
     let a = c.args in
-    let stand = c.three_sums.ensures.told (c.is_clear.ensures.told (not-false _ c.if-not-is_clear.false)) in
+    let stand = c.three_sums.ensures.told (c.is_clear.ensures.told (c.if-not-is_clear.false)) in
     (omega arith, omega arith, more_stand a.b.now a.from a.areas loop.stops 3 loop.invariant.2 (rw loop.invariant.0 at stand))
 
 pub returns-after-loop-stops : goal.returns-after-loop-stops

@@ -3,7 +3,6 @@
 use Prim.Native.Nat.{◌≤◌}
 use native.Mathlib.Omega.{arith}
 use mathlib.Core.Path.{refl, sym, ◌∙◌}
-use borrow.Author.Tests.{not-true, not-false}
 use lib.ListN.{length}
 use lib.Seq.{length-take-le}
 use Rattle.settle.proofs.Postings.{posting_refusal_told, posted_refused}
@@ -20,7 +19,7 @@ pub returns-then-not-same_bytes : goal.returns-then-not-same_bytes
 returns-then-not-same_bytes c =
     rw c.number-then-not-same_bytes.ensures
     (other-refused (start c).requires c.state_trip.ensures c.in-Records.is _ refl
-    (sym c.same_bytes.ensures ∙ not-true _ c.if-not-same_bytes.true))
+    (sym c.same_bytes.ensures ∙ c.if-not-same_bytes.true))
 
 pub slice_bounds-post_records-count : goal.slice_bounds-post_records-count
 slice_bounds-post_records-count c =
@@ -51,4 +50,4 @@ returns-in-Refused c =
 pub returns-else-not-same_bytes : goal.returns-else-not-same_bytes
 returns-else-not-same_bytes c =
     quote-posted (start c).requires c.state_trip.ensures c.in-Records.is _ refl
-    (sym c.same_bytes.ensures ∙ not-false _ c.if-not-same_bytes.false) c.post_records.ensures
+    (sym c.same_bytes.ensures ∙ c.if-not-same_bytes.false) c.post_records.ensures

@@ -26,7 +26,7 @@ returns-in_default-on_date c =
     × (stamp_at c.args.trip.now checkin_place ≡ c.in-Good.first) = made_good _ _ _ (sym c.stamp_at.ensures ∙ c.in-Good.is) in
     let made : c.on_date.result ≡ made_at c.args.trip.now checkout_place = c.on_date.ensures
     ∙ rw (c.one_at-hour.ensures.value, c.one_at-minute.ensures.value, c.one_at-offset.ensures.value)
-    (made_on_date c.args.trip.now c.requires.1 _ (first c).1) in
+    (made_on_date c.args.trip.now c.requires.1 _ first.1) in
     sym (no_checkout _ (no_moment _ _ (made_refused _ _ (sym made ∙ c.in_default-on_date.is))))
 
 pub midnight-midnight-requires : goal.midnight-midnight-requires
@@ -48,13 +48,13 @@ minutes_from-requires-2 c =
     × (stamp_at c.args.trip.now checkin_place ≡ c.in-Good.first) = made_good _ _ _ (sym c.stamp_at.ensures ∙ c.in-Good.is) in
     let made : c.on_date.result ≡ made_at c.args.trip.now checkout_place = c.on_date.ensures
     ∙ rw (c.one_at-hour.ensures.value, c.one_at-minute.ensures.value, c.one_at-offset.ensures.value)
-    (made_on_date c.args.trip.now c.requires.1 _ (first c).1) in
+    (made_on_date c.args.trip.now c.requires.1 _ first.1) in
     let last : (is_stamp (stamp_at c.args.trip.now checkout_place) ≡ true)
     × (stamp_at c.args.trip.now checkout_place ≡ c.in-Good-on_date.last) = made_good _ _ _ (sym made ∙ c.in-Good-on_date.is) in
-    let (is, same) = last c in (
+    let (is, same) = last in (
       rw (← same) is,
       c.midnight-midnight.ensures
-          ∙ one_midnight c.args.trip.now c.requires.1 _ (first c).1 _ same,
+          ∙ one_midnight c.args.trip.now c.requires.1 _ first.1 _ same,
     )
 
 pub returns : goal.returns
@@ -63,11 +63,11 @@ returns c =
     × (stamp_at c.args.trip.now checkin_place ≡ c.in-Good.first) = made_good _ _ _ (sym c.stamp_at.ensures ∙ c.in-Good.is) in
     let made : c.on_date.result ≡ made_at c.args.trip.now checkout_place = c.on_date.ensures
     ∙ rw (c.one_at-hour.ensures.value, c.one_at-minute.ensures.value, c.one_at-offset.ensures.value)
-    (made_on_date c.args.trip.now c.requires.1 _ (first c).1) in
+    (made_on_date c.args.trip.now c.requires.1 _ first.1) in
     let last : (is_stamp (stamp_at c.args.trip.now checkout_place) ≡ true)
     × (stamp_at c.args.trip.now checkout_place ≡ c.in-Good-on_date.last) = made_good _ _ _ (sym made ∙ c.in-Good-on_date.is) in
-    let (from_is, from) = first c in
-    let (to_is, to) = last c in
+    let (from_is, from) = first in
+    let (to_is, to) = last in
     sym
     (two_moments _ _ _
     (moment_is _ _ from_is ∙ ap (λ x. At (record { 0 = x })) (ap minute_number from ∙ sym c.minutes_from.ensures.value))
