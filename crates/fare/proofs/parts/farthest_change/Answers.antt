@@ -2,10 +2,10 @@
 use Prim.Native.Nat.{◌-◌}
 use native.Mathlib.Omega.{arith}
 use mathlib.Core.Path.{◌≡◌, subst}
-use mathlib.Core.Logic.{⊎_elim}
 use Rattle.fare.specs.Parts.{FarthestChange}
 use Rattle.fare.proofs.Changes.{away_is, one_change, turn_farther, turn_no_farther}
 use Rattle.fare.proofs.parts.farthest_change.Goals as goal
+use Rattle.fare.proofs.parts.farthest_change.Goals.{then-far-next, else-far-next}
 
 pub loop-i-init : goal.loop-i-init
 loop-i-init c =
@@ -27,8 +27,10 @@ loop-i-preserved c =
       omega arith,
       (
         omega arith,
-        ⊎_elim (λ w. turn_farther _ _ _ at.invariant.1.1.0 at.invariant.1.1.1 next (omega (arith, w.0.taken)) w.1 w.2)
-            (λ w. turn_no_farther _ _ _ at.invariant.1.1.0 at.invariant.1.1.1 next (omega (arith, w.0.left)) w.1 w.2) c.if-far-next.branch,
+        elim c.if-far-next.branch [
+          | then-far-next w ↦ turn_farther _ _ _ at.invariant.1.1.0 at.invariant.1.1.1 next w.if-far-next.true w.change-is w.far-is
+          | else-far-next w ↦ turn_no_farther _ _ _ at.invariant.1.1.0 at.invariant.1.1.1 next w.if-far-next.false w.change-is w.far-is
+        ],
       ),
     )
 

@@ -10,7 +10,7 @@ loop-i-init c = gaps_start c.args.book.now
 pub loop-i-preserved : goal.loop-i-preserved
 loop-i-preserved c =
     gaps_turn c.wrapping_sub_u32-gaps.result c.loop-i.invariant c.loop-i-test.true c.pair_at-place.ensures.0 c.get-second.ensures.value
-    c.get-all.ensures.value c.wrapping_sub_u32-gaps.ensures
+    c.get-all.ensures.value c.wrapping_sub_u32-gaps.ensures.value
 
 pub returns-then-most-seconds : goal.returns-then-most-seconds
 returns-then-most-seconds c = record { all_sound = λ clear. absurd (false≢true clear) }
