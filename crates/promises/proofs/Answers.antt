@@ -177,7 +177,7 @@ pub rides_are :
     {file book bytes : List ℕ} {room : ℕ} {new : List ℕ} {parts : List Part} (a : AcceptedBy file book bytes room new parts)
     → rides_in parts ≡ trip_rides (tariffBy a) (countsBy a) bytes
 rides_are {file} {book} {bytes} a =
-    ap rides_in a.parts-is
+    ap rides_in a.parts_is
     ∙ parts-rides (tariffBy a) (countsBy a) (checkout_of bytes) (trip_rides (tariffBy a) (countsBy a) bytes) book (windowBy a)
 
 pub rides-length : (parts : List Part) → length (rides_in parts) ≡ length parts
@@ -351,7 +351,7 @@ module _ {file book bytes : List ℕ} {room : ℕ} {new : List ℕ} {parts : Lis
   two-stops = (good_fields (clear a).good).ranges.least
 
   parts-with : (rides : List Ride) → trip_rides tariff counts bytes ≡ rides → parts ≡ parts_of tariff counts book window (checkout_of bytes) rides
-  parts-with rides e = a.parts-is ∙ ap (parts_of tariff counts book window (checkout_of bytes)) e
+  parts-with rides e = a.parts_is ∙ ap (parts_of tariff counts book window (checkout_of bytes)) e
 
   -- one record
   says-one : break_of tariff counts bytes (count_at bytes 0) ≡ Unbroken → StatementSays tariff counts window book bytes (statement_of parts)
@@ -470,7 +470,7 @@ module _ (file book bytes : List ℕ) (room : ℕ) where
       back a =
           accepted_way file book bytes room a.editions a.read _ _
           (clear_first file a.editions book bytes room ((none_exactly file a.editions a.read book bytes room).1 a.none))
-          ∙ rw (a.new_is, a.parts-is)
+          ∙ rw (a.new_is, a.parts_is)
 
   -- A trip is accepted exactly when no condition holds.
   pub accepts-exactly :

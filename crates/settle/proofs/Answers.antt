@@ -261,14 +261,14 @@ module _ {file : List ℕ} {editions : Editions} {book trip statement statement'
   pub size-near : (size ≤ largest_statement) × (size ≤ length statement)
   size-near =
       let most = size_most tariff own book trip told.fields window (length statement) clear in
-      (omega (arith, told.size-is, most.0), omega (arith, told.size-is, most.1))
+      (omega (arith, told.size_is, most.0), omega (arith, told.size_is, most.1))
 
   -- They are the trip's quote.
   pub quote-told : QuoteTold (quoted_under file editions book trip (length statement)) statement statement' (answer.Written size)
   quote-told =
       rw (priced_under file editions book trip (length statement) told.fields window told.decided)
       (record {
-        answer = ap answer.Written told.size-is;
+        answer = ap answer.Written told.size_is;
         fits = omega (arith, size-near.0);
         recordable = (parts_right tariff own book trip told.fields window (length statement) clear).0;
         statement_is = statement_is;
@@ -277,7 +277,7 @@ module _ {file : List ℕ} {editions : Editions} {book trip statement statement'
   -- They can be posted,
   postable : RidesPostable tariff own checkout class statement' size book window 0 (rides_of tariff own trip told.fields)
   postable =
-      named-alike told.size-is told.checkout-is told.class_is
+      named-alike told.size_is told.checkout-is told.class_is
       (trip_postable tariff own book trip told.fields window (length statement) clear refl
       (stand_from parts statement' (drop (length (statement_of parts)) statement) 0 statement_is))
 
@@ -309,7 +309,7 @@ module _ {file : List ℕ} {editions : Editions} {book trip statement statement'
         (record {
           told =
               record {
-                answer = ap answer.Written told.size-is;
+                answer = ap answer.Written told.size_is;
                 fits = omega (arith, size-near.0);
                 recordable = (parts_right tariff own book trip told.fields window (length statement) clear).0;
                 book_is = book_is;
@@ -322,7 +322,7 @@ module _ {file : List ℕ} {editions : Editions} {book trip statement statement'
   module _ (offered : List ℕ) (room : length statement ≡ largest_statement) where
     starts : take size statement' ≡ statement_of parts
     starts =
-        ap (λ (n : ℕ). take n statement') told.size-is ∙ ap (take (length (statement_of parts))) statement_is ∙ take-append_seam (statement_of parts) _
+        ap (λ (n : ℕ). take n statement') told.size_is ∙ ap (take (length (statement_of parts))) statement_is ∙ take-append_seam (statement_of parts) _
 
     comes-to : posted_under file editions book trip offered ≡ clear_posting tariff own book trip told.fields window offered
     comes-to = posted_clear file editions book trip offered told.fields window (rw room at told.decided)
