@@ -1,12 +1,12 @@
 -- The faults that editions bring, one by one: a file that does not begin with kind 9, a record of kind 9 where something is due, a third one, and a
 -- date that does not rise. And the bounds of any fault.
 -- Assumes nothing.
-use Prim.Native.Nat.{ℕ, ◌+◌, ◌≤◌, ◌<◌}
+use Prim.Native.Nat.{ℕ, ◌+◌, ◌≤◌}
 use native.Mathlib.Omega.{arith}
-use mathlib.Core.Path.{◌≡◌, refl, sym, ap, ◌∙◌}
-use mathlib.Core.Bool.{true, false, false≢true}
+use mathlib.Core.Path.{◌≡◌, refl, sym, ◌∙◌}
+use mathlib.Core.Bool.{true, false≢true}
 use mathlib.Core.List.{List, []}
-use lib.ListN.{length, drop}
+use lib.ListN.{drop}
 use Rattle.units.specs.declared.Minutes.{Minutes}
 use Rattle.wire.specs.Frame.{frame_at}
 use Rattle.wire.specs.declared.Frame.TheVariants.{Whole}

@@ -1,33 +1,29 @@
 -- What a file is read as, both ways: what the reading comes to is so in words, and what is so in words is read so.
 -- Assumes nothing.
-use Prim.Native.Nat.{ℕ, ◌+◌, ◌≤◌, ◌<◌}
+use Prim.Native.Nat.{ℕ, ◌+◌, ◌<◌}
 use native.Mathlib.Omega.{arith}
-use native.Mathlib.Decide.{ℕ_discrete, dec_lt}
-use mathlib.Core.Path.{◌≡◌, refl, sym, ap, ◌∙◌}
+use mathlib.Core.Path.{◌≡◌, refl, sym, ◌∙◌}
 use mathlib.Core.Logic.{◌↔◌}
-use mathlib.Core.Bool.{Bool, true, false, ◌||◌, false≢true}
+use mathlib.Core.Bool.{Bool, true, false, false≢true}
 use mathlib.Core.List.{List}
 use borrow.Author.Tests.{ne_eqb, le-ltb}
-use lib.ListN.{length, take, drop}
+use lib.ListN.{take}
 use Rattle.units.specs.declared.Minutes.{Minutes}
-use Rattle.wire.specs.Frame.{frame_at}
-use Rattle.wire.specs.declared.Frame.TheVariants.{Whole}
 use Rattle.layout.specs.declared.Counts.{Counts}
 use Rattle.layout.specs.declared.Reading.{Reading}
 use Rattle.layout.specs.declared.Reading.TheVariants as tariff
-use Rattle.layout.specs.declared.Entry.TheVariants as entry
 use Rattle.layout.specs.Rules.{factors_due}
-use Rattle.layout.specs.Scan.{entry_at, read_tariff, FaultlessUntil, FirstFault, FaultSays}
-use Rattle.layout.proofs.Entries.{still_due, none_due, other_frame, fault_given, fault_entry}
+use Rattle.layout.specs.Scan.{read_tariff, FaultlessUntil, FirstFault, FaultSays}
+use Rattle.layout.proofs.Entries.{still_due, none_due, other_frame}
 use Rattle.layout.proofs.FaultlessUntil.{due_factors, at_fault}
 use Rattle.scan.specs.declared.Halt.{Halt}
 use Rattle.scan.specs.declared.Halt.TheVariants.{End, Behind, Amid}
-use Rattle.scan.specs.Halts.{halt_of, fault_at}
-use Rattle.scan.proofs.Faults.{first_fault, fault_exactly}
+use Rattle.scan.specs.Halts.{halt_of}
+use Rattle.scan.proofs.Faults.{fault_exactly}
 use Rattle.scan.proofs.Halts.{faultless_before, short_before, halt_end, halt_behind, halt_amid, halts, end, behind, amid, Halts}
 use Rattle.editions.specs.declared.Edition.{Edition}
 use Rattle.editions.specs.declared.FileReading.{FileReading}
-use Rattle.editions.specs.declared.FileReading.TheVariants.{Fault, Faultless}
+use Rattle.editions.specs.declared.FileReading.TheVariants.{Fault}
 use Rattle.editions.specs.declared.openings.Opening.{Opening}
 use Rattle.editions.specs.declared.openings.Opening.TheVariants.{Faulty, Since}
 use Rattle.editions.specs.Openings.{edition_kind, opening_size, opening_at, opens_at, Opened}

@@ -3,7 +3,7 @@
 use Prim.Native.Nat.{ℕ, ◌+◌, ◌≤◌, ◌<◌}
 use native.Mathlib.Omega.{arith}
 use native.Mathlib.Decide.{ℕ_discrete, dec_lt}
-use mathlib.Core.Path.{◌≡◌, refl, sym, ap, ◌∙◌}
+use mathlib.Core.Path.{◌≡◌, refl, ap}
 use mathlib.Core.Logic.{◌↔◌}
 use mathlib.Core.List.{List}
 use borrow.Author.Tests.{le-leb, lt-leb}
@@ -12,7 +12,7 @@ use Rattle.editions.specs.declared.Edition.{Edition}
 use Rattle.editions.specs.declared.Editions.{Editions}
 use Rattle.editions.specs.declared.Editions.TheVariants.{One, Two}
 use Rattle.editions.specs.Openings.{opening_size}
-use Rattle.editions.specs.Editions.{many_of, edition_in, since_of, in_force, InForce, it, none}
+use Rattle.editions.specs.Editions.{many_of, since_of, in_force, InForce, it, none}
 use Rattle.editions.specs.Reading.{ReadFile}
 use Rattle.layout.specs.Layout.{tariff_size}
 use Rattle.editions.proofs.OpeningLaws.{opened_minute}

@@ -1,7 +1,7 @@
 -- A faultless file is at most 29,062 bytes long, and no fault lies later; the first 30,088 bytes of any decide what it is read as: two of the longest
 -- tariffs with their openings, and the frame of one record too many.
 -- Assumes nothing.
-use Prim.Native.Nat.{ℕ, ◌+◌, ◌-◌, ◌≤◌, ◌<◌}
+use Prim.Native.Nat.{ℕ, ◌+◌, ◌-◌, ◌≤◌}
 use native.Mathlib.Omega.{arith}
 use native.Mathlib.Decide.{dec_lt}
 use mathlib.Core.Path.{◌≡◌, refl, sym, ap, ◌∙◌}

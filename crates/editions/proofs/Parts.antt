@@ -1,28 +1,24 @@
 -- Each edition's tariff is a part of the file, faultless alone with its counts; so all that holds of a faultless tariff holds of it.
 -- Assumes nothing.
-use Prim.Native.Nat.{ℕ, ◌+◌, ◌≤◌, ◌<◌}
+use Prim.Native.Nat.{ℕ, ◌+◌, ◌≤◌}
 use native.Mathlib.Omega.{arith}
 use native.Mathlib.Decide.{ℕ_discrete}
 use mathlib.Core.Path.{◌≡◌, refl, sym, ap, ◌∙◌}
 use mathlib.Core.List.{List}
 use borrow.Author.Tests.{eq-eqb, ne_eqb}
-use lib.ListN.{length, take, drop}
-use Rattle.units.specs.declared.Minutes.{Minutes}
-use Rattle.calendar.specs.Stamps.{last_minute}
-use Rattle.layout.specs.declared.Counts.{Counts}
-use Rattle.layout.specs.Layout.{tariff_size, longest_tariff}
+use lib.ListN.{length, take}
+use Rattle.layout.specs.Layout.{tariff_size}
 use Rattle.layout.specs.declared.Reading.TheVariants as tariff
 use Rattle.layout.specs.Scan.{read_tariff, Read}
-use Rattle.layout.proofs.FaultlessUntil.{finished, early}
 use Rattle.editions.specs.declared.Edition.{Edition}
 use Rattle.editions.specs.declared.Editions.{Editions}
 use Rattle.editions.specs.declared.Editions.TheVariants.{One, Two}
 use Rattle.editions.specs.declared.FileReading.TheVariants.{Faultless}
 use Rattle.editions.specs.Openings.{opening_size, Opened}
-use Rattle.editions.specs.Editions.{edition_in, counts_in, since_of, tariff_in}
-use Rattle.editions.specs.Reading.{ReadFile, longest_file}
+use Rattle.editions.specs.Editions.{edition_in, counts_in, tariff_in}
+use Rattle.editions.specs.Reading.{ReadFile}
 use Rattle.editions.specs.InWords.{first_tariff, second_tariff, SecondBegins, FileSays, one_edition, two_editions}
-use Rattle.editions.proofs.OpeningLaws.{opened_fits, opened_minute}
+use Rattle.editions.proofs.OpeningLaws.{opened_fits}
 use Rattle.editions.proofs.FileLaws.{alone, says}
 
 -- What a file of one edition is, and one of two.

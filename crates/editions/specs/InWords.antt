@@ -6,7 +6,6 @@ use Rattle.wire.specs.declared.Frame.TheVariants.{Whole}
 use Rattle.layout.specs.declared.Counts.{Counts}
 use Rattle.layout.specs.Rules.{factors_due}
 use Rattle.layout.specs.Scan.{Read, FaultlessUntil, FaultSays}
-use Rattle.editions.specs.declared.Edition.{Edition}
 use Rattle.editions.specs.declared.Editions.TheVariants.{One, Two}
 use Rattle.editions.specs.declared.FileReading.{FileReading}
 use Rattle.editions.specs.declared.FileReading.TheVariants.{Fault, Faultless}

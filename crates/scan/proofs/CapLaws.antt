@@ -1,6 +1,6 @@
 -- An area's caps at once: where the bits that a wrong field sets are clear in a word of four fields, each is below 2 ^ 15, or 0.
 -- Assumes nothing.
-use Rattle.std.proofs.Common.{◌≡◌, ℕ, ◌+◌, ◌*◌, ◌/◌, ◌%◌, ◌^◌, ◌<◌, ◌≤◌, true, ◌&&◌, ◌||◌, eqb, List, sym, ◌∙◌, add_assoc, arith, eq-eqb, le-leb}
+use Rattle.std.proofs.Common.{◌≡◌, ℕ, ◌+◌, ◌*◌, ◌/◌, ◌%◌, ◌^◌, ◌<◌, ◌≤◌, true, ◌&&◌, ◌||◌, eqb, List, sym, ◌∙◌, add_assoc, arith, le-leb}
 use native.Mathlib.Decide.{ℕ_discrete}
 use lib.Bits.{bit_and, bit_or, and_mask}
 use Rattle.wire.specs.Number.{get_le, Bytes}

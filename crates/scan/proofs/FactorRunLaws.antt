@@ -1,6 +1,6 @@
 -- Factor records one after another: what length and kind tell as one number, and that a faultless factor record takes the reading on.
 -- Assumes nothing.
-use Rattle.std.proofs.Common.{◌≡◌, ℕ, ◌+◌, ◌-◌, ◌<◌, ◌≤◌, true, ◌&&◌, eqb, ltb, leb, List, length, refl, ◌∙◌, arith, lt-ltb, eq-eqb}
+use Rattle.std.proofs.Common.{◌≡◌, ℕ, ◌+◌, ◌-◌, ◌<◌, ◌≤◌, true, ◌&&◌, eqb, ltb, leb, List, length, ◌∙◌, arith, lt-ltb, eq-eqb}
 use Rattle.wire.specs.Number.{get_le, Bytes}
 use Rattle.wire.specs.Frame.{frame_at}
 use Rattle.wire.specs.declared.Frame.TheVariants.{Whole}
@@ -11,7 +11,7 @@ use Rattle.scan.specs.declared.area_run.Run.{Run}
 use Rattle.layout.specs.declared.Entry.TheVariants.{Factor}
 use Rattle.layout.specs.Layout.{factor_body, factor_size, more_factors}
 use Rattle.layout.specs.Fields.{factor_fields}
-use Rattle.layout.specs.Rules.{factors_due, factor_right}
+use Rattle.layout.specs.Rules.{factor_right}
 use Rattle.layout.specs.Scan.{entry_at}
 use Rattle.scan.specs.FactorRuns.{FactorsPassed, FactorNext}
 use Rattle.scan.proofs.Words.{four_word}

@@ -27,7 +27,7 @@ use Rattle.layout.specs.Layout.{
   factors_before,
   stops_before,
 }
-use Rattle.layout.specs.Fields.{area_fields, long_fields, factor_fields, stop_fields}
+use Rattle.layout.specs.Fields.{area_fields, long_fields}
 use Rattle.layout.specs.Rules.{area_right, kind_of, factors_due}
 use Rattle.layout.specs.Scan.{entry_at, read_tariff, FaultlessUntil, FirstFault}
 use Rattle.layout.proofs.Entries.{

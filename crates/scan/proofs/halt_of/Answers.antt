@@ -1,7 +1,7 @@
 -- `scan::halt_of` meets its contract. The loop's invariant: every record before the place is faultless, so many areas, factor
 -- records and stops reach it, and so many factor records are due; so a fault met there is the first, and at the end the counts are finished.
 -- Areas, factor records and stops are passed with those that are found to stand after them. The measure is the bytes left.
-use Rattle.std.proofs.Common.{◌≡◌, ◌-◌, sym, ◌∙◌, arith}
+use Rattle.std.proofs.Common.{◌≡◌, sym, ◌∙◌, arith}
 use Rattle.layout.specs.Layout.{long_bits}
 use Rattle.layout.specs.Scan.{entry_at}
 use Rattle.layout.specs.declared.Entry.TheVariants.{Area, Factor, Stop}
@@ -21,7 +21,7 @@ entry_at-requires c = (c.loop-number.invariant.0.reached, c.loop-number.invarian
 
 pub after_area-requires : goal.after_area-requires
 after_area-requires c =
-    let area_there : entry_at c.args.tariff.now c.loop-number.at c.loop-number.so-far
+    let area_there : entry_at c.args.tariff.now c.loop-number.at c.loop-number.so_far
     ≡ Area c.in-Area.kind = sym c.entry_at.ensures ∙ c.in-Area.is in
     let loop = c.loop-number in
     record { passed = loop.invariant.0; due = loop.invariant.1; here = area_there }
@@ -39,7 +39,7 @@ loop-number-preserved-in-Area c = (c.areas_found-run.ensures.0.passed, c.areas_f
 
 pub after_factor-requires : goal.after_factor-requires
 after_factor-requires c =
-    let factor_there : entry_at c.args.tariff.now c.loop-number.at c.loop-number.so-far
+    let factor_there : entry_at c.args.tariff.now c.loop-number.at c.loop-number.so_far
     ≡ Factor = sym c.entry_at.ensures ∙ c.in-Factor.is in
     let loop = c.loop-number in
     record { passed = loop.invariant.0; due = loop.invariant.1; here = factor_there }
@@ -57,67 +57,67 @@ loop-number-preserved-in-Factor c = (c.factors_found-run.ensures.0.passed, c.fac
 
 pub overflow_add-at : goal.overflow_add-at
 overflow_add-at c =
-    let stop_there : entry_at c.args.tariff.now c.loop-number.at c.loop-number.so-far
+    let stop_there : entry_at c.args.tariff.now c.loop-number.at c.loop-number.so_far
     ≡ Stop = sym c.entry_at.ensures ∙ c.in-Stop.is in
     omega (arith, stop-entry _ _ _ stop_there)
 
 pub overflow_add-so_far : goal.overflow_add-so_far
 overflow_add-so_far c =
-    let stop_there : entry_at c.args.tariff.now c.loop-number.at c.loop-number.so-far
+    let stop_there : entry_at c.args.tariff.now c.loop-number.at c.loop-number.so_far
     ≡ Stop = sym c.entry_at.ensures ∙ c.in-Stop.is in
     omega (arith, stop-entry _ _ _ stop_there)
 
 pub overflow_sub-tariff : goal.overflow_sub-tariff
 overflow_sub-tariff c =
-    let stop_there : entry_at c.args.tariff.now c.loop-number.at c.loop-number.so-far
+    let stop_there : entry_at c.args.tariff.now c.loop-number.at c.loop-number.so_far
     ≡ Stop = sym c.entry_at.ensures ∙ c.in-Stop.is in
     omega (arith, stop-entry _ _ _ stop_there)
 
 pub stops_due-requires : goal.stops_due-requires
 stops_due-requires c =
-    let stop_there : entry_at c.args.tariff.now c.loop-number.at c.loop-number.so-far
+    let stop_there : entry_at c.args.tariff.now c.loop-number.at c.loop-number.so_far
     ≡ Stop = sym c.entry_at.ensures ∙ c.in-Stop.is in
     omega (arith, stop-entry _ _ _ stop_there)
 
 pub stops_standing-stops-requires : goal.stops_standing-stops-requires
 stops_standing-stops-requires c =
-    let stop_there : entry_at c.args.tariff.now c.loop-number.at c.loop-number.so-far
+    let stop_there : entry_at c.args.tariff.now c.loop-number.at c.loop-number.so_far
     ≡ Stop = sym c.entry_at.ensures ∙ c.in-Stop.is in
     omega (arith, stop-entry _ _ _ stop_there)
 
 pub overflow_mul-at : goal.overflow_mul-at
 overflow_mul-at c =
-    let stop_there : entry_at c.args.tariff.now c.loop-number.at c.loop-number.so-far
+    let stop_there : entry_at c.args.tariff.now c.loop-number.at c.loop-number.so_far
     ≡ Stop = sym c.entry_at.ensures ∙ c.in-Stop.is in
     omega (arith, stop-entry _ _ _ stop_there)
 
 pub overflow_add-at-in-Stop : goal.overflow_add-at-in-Stop
 overflow_add-at-in-Stop c =
-    let stop_there : entry_at c.args.tariff.now c.loop-number.at c.loop-number.so-far
+    let stop_there : entry_at c.args.tariff.now c.loop-number.at c.loop-number.so_far
     ≡ Stop = sym c.entry_at.ensures ∙ c.in-Stop.is in
     omega (arith, stop-entry _ _ _ stop_there)
 
 pub overflow_cast-so_far-in-Stop : goal.overflow_cast-so_far-in-Stop
 overflow_cast-so_far-in-Stop c =
-    let stop_there : entry_at c.args.tariff.now c.loop-number.at c.loop-number.so-far
+    let stop_there : entry_at c.args.tariff.now c.loop-number.at c.loop-number.so_far
     ≡ Stop = sym c.entry_at.ensures ∙ c.in-Stop.is in
     omega (arith, stop-entry _ _ _ stop_there)
 
 pub overflow_add-so_far-in-Stop : goal.overflow_add-so_far-in-Stop
 overflow_add-so_far-in-Stop c =
-    let stop_there : entry_at c.args.tariff.now c.loop-number.at c.loop-number.so-far
+    let stop_there : entry_at c.args.tariff.now c.loop-number.at c.loop-number.so_far
     ≡ Stop = sym c.entry_at.ensures ∙ c.in-Stop.is in
     omega (arith, stop-entry _ _ _ stop_there)
 
 pub loop-number-smaller : goal.loop-number-smaller
 loop-number-smaller c =
-    let stop_there : entry_at c.args.tariff.now c.loop-number.at c.loop-number.so-far
+    let stop_there : entry_at c.args.tariff.now c.loop-number.at c.loop-number.so_far
     ≡ Stop = sym c.entry_at.ensures ∙ c.in-Stop.is in
     omega (arith, stop-entry _ _ _ stop_there)
 
 pub loop-number-preserved : goal.loop-number-preserved
 loop-number-preserved c =
-    let stop_there : entry_at c.args.tariff.now c.loop-number.at c.loop-number.so-far
+    let stop_there : entry_at c.args.tariff.now c.loop-number.at c.loop-number.so_far
     ≡ Stop = sym c.entry_at.ensures ∙ c.in-Stop.is in
     let (p, due) = c.loop-number.invariant in
     let here = stop_there in

@@ -23,23 +23,23 @@ pub returns-then-not-stops_known : goal.returns-then-not-stops_known
 unfolding placed_by
 returns-then-not-stops_known c =
     let stops : stops_known c.args.trip.now (count_at c.args.trip.now 0) c.args.counts.stops ≡ c.stops_known.result = rw (filling c.requires.1).count (sym c.stops_known.ensures) in
-    sym (comes_refused Refused _ (stop _ _ (ap not stops ∙ c.if-not-stops_known.true)))
+    sym (comes_refused Refused _ (stop _ _ (ap not (stops ∙ c.if-not-stops_known.true))))
 
 pub break_of-breaking-requires : goal.break_of-breaking-requires
 break_of-breaking-requires c =
     let riding : Riding c.args.tariff.now c.args.counts c.args.trip.now c.args.fields.stops = record {
-      read = c.pre.0;
+      read = c.requires.0;
       known = sym c.stops_known.ensures ∙ c.if-not-stops_known.false;
-      fits = le_of_eq (filling c.pre.1).size;
+      fits = le_of_eq (filling c.requires.1).size;
     } in
     riding
 
 pub town_refuses-requires : goal.town_refuses-requires
 town_refuses-requires c =
     let riding : Riding c.args.tariff.now c.args.counts c.args.trip.now c.args.fields.stops = record {
-      read = c.pre.0;
+      read = c.requires.0;
       known = sym c.stops_known.ensures ∙ c.if-not-stops_known.false;
-      fits = le_of_eq (filling c.pre.1).size;
+      fits = le_of_eq (filling c.requires.1).size;
     } in
     (riding, ((party_ranges _ _ _ _ c.requires.1.party).least, c.break_of-breaking.ensures))
 
@@ -49,7 +49,7 @@ returns-then-town_refuses c =
     let town : town_refuses c.args.tariff.now c.args.counts c.args.trip.now (trip_of c.args.trip.now) ≡ c.town_refuses.result = let formed = c.requires.1 in
     sym (c.town_refuses.ensures.value (trip_of _) (ap (λ (f : Fields). f.stops) (sym formed.fields_are)) (ap (λ (f : Fields). f.class) (sym formed.fields_are))) in
     let stops : stops_known c.args.trip.now (count_at c.args.trip.now 0) c.args.counts.stops ≡ c.stops_known.result = rw (filling c.requires.1).count (sym c.stops_known.ensures) in
-    let past-7 : let table = tariff_rows c.args.tariff.now c.args.counts c.args.trip.now in first_of table ≡ first_of (drop 1 table) = skip _ _ (ap not stops ∙ c.if-not-stops_known.false) in
+    let past-7 : let table = tariff_rows c.args.tariff.now c.args.counts c.args.trip.now in first_of table ≡ first_of (drop 1 table) = skip _ _ (ap not (stops ∙ c.if-not-stops_known.false)) in
     sym (comes_refused Refused _ (past-7 ∙ stop _ _ (town ∙ c.if-town_refuses.true)))
 
 pub returns : goal.returns
@@ -58,6 +58,6 @@ returns c =
     let town : town_refuses c.args.tariff.now c.args.counts c.args.trip.now (trip_of c.args.trip.now) ≡ c.town_refuses.result = let formed = c.requires.1 in
     sym (c.town_refuses.ensures.value (trip_of _) (ap (λ (f : Fields). f.stops) (sym formed.fields_are)) (ap (λ (f : Fields). f.class) (sym formed.fields_are))) in
     let stops : stops_known c.args.trip.now (count_at c.args.trip.now 0) c.args.counts.stops ≡ c.stops_known.result = rw (filling c.requires.1).count (sym c.stops_known.ensures) in
-    let past-7 : let table = tariff_rows c.args.tariff.now c.args.counts c.args.trip.now in first_of table ≡ first_of (drop 1 table) = skip _ _ (ap not stops ∙ c.if-not-stops_known.false) in
+    let past-7 : let table = tariff_rows c.args.tariff.now c.args.counts c.args.trip.now in first_of table ≡ first_of (drop 1 table) = skip _ _ (ap not (stops ∙ c.if-not-stops_known.false)) in
     let clear = past-7 ∙ skip _ _ (town ∙ c.if-town_refuses.false) ∙ end in
     rw (comes_clear Refused _ clear, (filling c.requires.1).count, ← c.break_of-breaking.ensures.value)

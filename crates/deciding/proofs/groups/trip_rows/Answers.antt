@@ -39,7 +39,7 @@ returns-then-not-party_right c =
     party_right (class_at trip 0) (level_at trip 0) (party_at trip 0) (count_at trip 0) ≡ c.party_right.result = rw (fills.count, ← c.class_at-class.ensures, ← c.level_at-level.ensures, ← c.party_at-party.ensures)
     (sym c.party_right.ensures) in
     let past_5 : let table = trip_rows c.args.trip.now in first_of table ≡ first_of (drop 1 table) = skip _ _ (ap not fills.is) in
-    sym (comes_refused Refused _ (past_5 ∙ stop _ _ (ap not party ∙ c.if-not-party_right.true)))
+    sym (comes_refused Refused _ (past_5 ∙ stop _ _ (ap not (party ∙ c.if-not-party_right.true))))
 
 pub returns : goal.returns
 unfolding formed_by
@@ -49,7 +49,7 @@ returns c =
     party_right (class_at trip 0) (level_at trip 0) (party_at trip 0) (count_at trip 0) ≡ c.party_right.result = rw (fills.count, ← c.class_at-class.ensures, ← c.level_at-level.ensures, ← c.party_at-party.ensures)
     (sym c.party_right.ensures) in
     let past_5 : let table = trip_rows c.args.trip.now in first_of table ≡ first_of (drop 1 table) = skip _ _ (ap not fills.is) in
-    let clear = past_5 ∙ skip _ _ (ap not party ∙ c.if-not-party_right.false) ∙ end in
+    let clear = past_5 ∙ skip _ _ (ap not (party ∙ c.if-not-party_right.false)) ∙ end in
     rw (
       comes_clear Refused _ clear,
       fills.count,

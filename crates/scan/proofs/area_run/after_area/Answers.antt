@@ -18,9 +18,9 @@ overflow_shl-result c =
 pub overflow_add-result-4 : goal.overflow_add-result-4
 overflow_add-result-4 c =
     let few : c.args.run.so_far.areas < most_areas = (area-entry _ _ _ _ c.requires.here).here.few in
-    let bit : c.long_of.result * 2 ^ c.args.run.so_far.areas % 2 ^ 32
+    let bit : c.long_of-long.result * 2 ^ c.args.run.so_far.areas % 2 ^ 32
     ≡ long_of c.args.kind * 2 ^ c.args.run.so_far.areas = let a = c.args in
-    rw c.long_of.ensures.0
+    rw c.long_of-long.ensures.0
     (shl_exact {a = long_of a.kind} 1 a.run.so_far.areas 32 (omega (arith, long_most a.kind)) (omega (arith, few))) in
     let bits : (one_area c.args.run.so_far c.args.kind).longs < 2 ^ 32 = let a = c.args in
     let next = (passed_area a.b.now a.run.at a.run.so_far c.requires.passed a.kind c.requires.here).reached in
@@ -38,9 +38,9 @@ wide_with-requires c =
 pub returns : goal.returns
 returns c =
     let few : c.args.run.so_far.areas < most_areas = (area-entry _ _ _ _ c.requires.here).here.few in
-    let bit : c.long_of.result * 2 ^ c.args.run.so_far.areas % 2 ^ 32
+    let bit : c.long_of-long.result * 2 ^ c.args.run.so_far.areas % 2 ^ 32
     ≡ long_of c.args.kind * 2 ^ c.args.run.so_far.areas = let a = c.args in
-    rw c.long_of.ensures.0
+    rw c.long_of-long.ensures.0
     (shl_exact {a = long_of a.kind} 1 a.run.so_far.areas 32 (omega (arith, long_most a.kind)) (omega (arith, few))) in
-    rw (bit, c.long_of.ensures.0)
+    rw (bit, c.long_of-long.ensures.0)
     (passed_on c.args.b.now c.args.run c.args.kind c.requires _ _ refl (rw c.level_at.ensures at c.wide_with.ensures))

@@ -1,13 +1,13 @@
--- `scan::area_run::area_found` meets its contract: the kind that was found tells the frame, and what was found of its values is `areaRight`.
-use Rattle.std.proofs.Common.{◌≡◌, true, cond, eqb, sym, ◌∙◌, ⊎_elim, arith, eq-eqb, ne_eqb}
+-- `scan::area_run::area_found` meets its contract: the kind that was found tells the frame, and what was found of its values is `area_right`.
+use Rattle.std.proofs.Common.{◌≡◌, true, cond, eqb, sym, ◌∙◌, arith, eq-eqb, ne_eqb}
 use mathlib.Core.Bool.{false≢true}
-use borrow.Author.Tests.{not-false}
 use Rattle.layout.specs.Layout.{aachen_kind}
 use Rattle.layout.specs.Fields.{area_fields, long_fields}
 use Rattle.layout.specs.Rules.{long_right}
 use Rattle.layout.proofs.Places.{long_is}
 use Rattle.scan.proofs.AreaRunLaws.{areas_there, found_fits, found_faultless}
 use Rattle.scan.proofs.area_run.area_found.Goals as goal
+use Rattle.scan.proofs.area_run.area_found.Goals.{then-kind-eq-AACHEN_KIND+else-not-long_found, else-kind-eq-AACHEN_KIND}
 
 pub returns-then-kind-eq0 : goal.returns-then-kind-eq0
 returns-then-kind-eq0 c = record { told = λ e. absurd (false≢true e) }
@@ -42,8 +42,10 @@ returns c =
     let at = c.args.run.at in
     let kind = c.args.kind in
     let besides : cond (eqb kind aachen_kind) (long_right (area_fields b at) (long_fields b at)) true ≡ true =
-    ⊎_elim (λ w. rw (eq-eqb kind aachen_kind w.0.taken) (w.1.ensures.told (not-false _ w.2.left))) (λ w. rw (ne_eqb kind aachen_kind w.left))
-    c.if-kind-eq-AACHEN_KIND.branch
+    elim c.if-kind-eq-AACHEN_KIND.branch [
+      | then-kind-eq-AACHEN_KIND+else-not-long_found w ↦ rw (eq-eqb kind aachen_kind w.if-kind-eq-AACHEN_KIND.true) (w.long_found.ensures.told (w.if-not-long_found.false))
+      | else-kind-eq-AACHEN_KIND w ↦ rw (ne_eqb kind aachen_kind w.if-kind-eq-AACHEN_KIND.false)
+    ]
     in
     record {
       told =

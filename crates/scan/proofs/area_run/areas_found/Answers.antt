@@ -1,6 +1,6 @@
 -- `scan::area_run::areas_found` meets its contract: the loop's invariant is that every record before its place is a faultless area. The
 -- measure is the bytes left.
-use Rattle.std.proofs.Common.{◌-◌, arith}
+use Rattle.std.proofs.Common.{arith}
 use Rattle.scan.proofs.area_run.areas_found.Goals as goal
 
 pub loop-run-init : goal.loop-run-init

@@ -21,12 +21,12 @@ loop-next-preserved c =
     let a = c.args in
     let so_far = c.loop-next.invariant in
     joining_more a.b.now a.from a.areas a.most c.loop-next.at _ c.block_sums-block.result so_far c.block_sums-block.ensures
-    (so_far + 18) _ (omega arith) (omega arith) (omega arith)
+    (so_far.before + 18) _ (omega arith) (omega arith) (omega arith)
 
 pub returns : goal.returns
 returns c =
     let a = c.args in
     let so_far = c.loop-next.invariant in
-    let all : so_far + 18 ≡ a.most = omega arith in
+    let all : so_far.before + 18 ≡ a.most = omega arith in
     rw all
     at (joining_told a.b.now a.from a.areas a.most c.loop-next.at _ c.block_sums-block.result so_far c.block_sums-block.ensures)

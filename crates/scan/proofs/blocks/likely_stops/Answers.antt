@@ -1,6 +1,6 @@
 -- `scan::blocks::likely_stops` meets its contract: what is searched stays within the places that there is room for. The measure is how many places
 -- are left to look at.
-use Rattle.std.proofs.Common.{◌-◌, arith}
+use Rattle.std.proofs.Common.{arith}
 use Rattle.scan.proofs.blocks.likely_stops.Goals as goal
 
 pub loop-low-init : goal.loop-low-init

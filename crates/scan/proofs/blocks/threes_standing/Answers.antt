@@ -1,6 +1,6 @@
 -- `scan::blocks::threes_standing` meets its contract: the loop's invariant is that so many stops stand before its place.
 -- The measure is the stops that there is still room for.
-use Rattle.std.proofs.Common.{◌-◌, arith}
+use Rattle.std.proofs.Common.{arith}
 use Rattle.scan.proofs.StopLaws.{none_stand, more_stand}
 use Rattle.scan.proofs.blocks.threes_standing.Goals as goal
 

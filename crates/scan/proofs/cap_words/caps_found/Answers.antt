@@ -18,7 +18,7 @@ returns-then-sort-eq0 c =
           λ e.
           no_cap_told a.b.now (λ i. (c.type_inv.b i).fits) a.at (omega (arith, c.if-flat_at-gt-MONEY.false, c.flat_at.ensures))
           (sym c.one_at-sort.ensures.value ∙ c.if-sort-eq0.true)
-          (rw (c.wrapping_add_u64-last.ensures, c.eight_at.ensures.value, c.eight_at-first.ensures.value) at (eqb-true words 0 e));
+          (rw (c.wrapping_add_u64-last.ensures.value, c.eight_at.ensures.value, c.eight_at-first.ensures.value) at (eqb-true words 0 e));
     }
 
 pub returns-then-sort-eq2 : goal.returns-then-sort-eq2
@@ -30,7 +30,7 @@ returns-then-sort-eq2 c =
           λ e.
           levels_told a.b.now (λ i. (c.type_inv.b i).fits) a.at (omega (arith, c.if-flat_at-gt-MONEY.false, c.flat_at.ensures))
           (sym c.one_at-sort.ensures.value ∙ c.if-sort-eq2.true)
-          (rw (c.wrapping_add_u64-last.ensures, c.eight_at.ensures.value, c.eight_at-first.ensures.value) at (eqb-true words 0 e));
+          (rw (c.wrapping_add_u64-last.ensures.value, c.eight_at.ensures.value, c.eight_at-first.ensures.value) at (eqb-true words 0 e));
     }
 
 pub returns : goal.returns
@@ -49,6 +49,6 @@ returns c =
           let upper : eqb (bit_and w 32768) 0 ≡ true = search told in
           flat_told a.b.now (λ i. (c.type_inv.b i).fits) a.at (omega (arith, c.if-flat_at-gt-MONEY.false, c.flat_at.ensures))
           (sym c.one_at-sort.ensures.value ∙ eqb-true _ 1 one)
-          (rw (c.wrapping_add_u64-last.ensures, c.eight_at.ensures.value) at (eqb-true (bit_and m 9223653511831486463) 0 rest))
+          (rw (c.wrapping_add_u64-last.ensures.value, c.eight_at.ensures.value) at (eqb-true (bit_and m 9223653511831486463) 0 rest))
           (rw first_is at (leb-true 1966080 w least)) (rw first_is at (ltb-true w 94437376 most)) (rw first_is at (eqb-true (bit_and w 32768) 0 upper));
     }

@@ -1,6 +1,6 @@
 -- `scan::factor_run::factors_found` meets its contract: the loop's invariant is that every record before its place is faultless, and none a
 -- stop. The measure is the bytes left.
-use Rattle.std.proofs.Common.{◌-◌, arith}
+use Rattle.std.proofs.Common.{arith}
 use Rattle.scan.proofs.factor_run.factors_found.Goals as goal
 
 pub loop-run-init : goal.loop-run-init

@@ -11,5 +11,5 @@ returns c =
       told =
           λ e.
           prices_told c.args.b.now (λ i. (c.type_inv.b i).fits) c.args.at
-          (rw (c.wrapping_add_u64.ensures, c.wrapping_add_u64-less.ensures, c.eight_at.ensures.value) at (eqb-true picked 0 e));
+          (rw (c.wrapping_add_u64.ensures.value, c.wrapping_add_u64-less.ensures.value, c.eight_at.ensures.value) at (eqb-true picked 0 e));
     }
