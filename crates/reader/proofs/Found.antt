@@ -1,38 +1,21 @@
 -- Every field is found in the bytes that reading leaves: each stands behind those before it, and its width holds it, since it is in range.
 -- Assumes nothing.
-use Prim.Native.Nat.{ℕ, zero, suc, ◌+◌, ◌*◌, ◌^◌, ◌≤◌, ◌<◌}
+use Prim.Native.Nat.{ℕ, zero, suc, ◌+◌, ◌*◌, ◌≤◌, ◌<◌}
 use native.Mathlib.Decide.{dec_lt}
 use native.Mathlib.Omega.{arith}
 use mathlib.Core.Path.{◌≡◌, refl, sym, ap, subst, ◌∙◌}
 use mathlib.Core.Bool.{Bool, true, false, cond}
 use mathlib.Core.List.{List, ◌++◌, append_assoc}
-use lib.ListN.{length, drop}
 use lib.Dec.{ltb}
 use Rattle.wire.specs.Number.{get_le, bytes_of}
 use Rattle.statement.specs.Record.{most_charges, cut_bytes, person_bytes}
 use Rattle.statement.proofs.Records.{get_behind, get_first, get_next}
 use Rattle.reader.specs.declared.Whose.{Whose}
 use Rattle.reader.specs.declared.Whose.TheVariants.{Unsaid, Of}
-use Rattle.reader.specs.declared.Amount.{Amount}
 use Rattle.reader.specs.Fields.{Fields, head_in, whose_in, charges_of, amount_of}
 use Rattle.reader.specs.Ranges.{WhoseInRange, InRange}
 use Rattle.reader.specs.Reading.{head_at, fields_for, Reading, refused, told, read_at}
-use Rattle.reader.specs.Filling.{
-  kind_of,
-  party_of,
-  whose_bytes,
-  ride_bytes,
-  amount_bytes,
-  field_bytes,
-  field_size,
-  Filling,
-  unfilled,
-  filled,
-  filling_from,
-  filling_of,
-  AmountFound,
-  FieldsFound,
-}
+use Rattle.reader.specs.Filling.{kind_of, party_of, whose_bytes, ride_bytes, amount_bytes, field_bytes, field_size, unfilled, filled, filling_from, filling_of, AmountFound, FieldsFound}
 use Rattle.reader.proofs.Places.{fields_whose}
 use Rattle.reader.proofs.Ranges.{range_told}
 use Rattle.reader.proofs.Accepted.{View, right_view, view, AcceptedAt, accepted_few}

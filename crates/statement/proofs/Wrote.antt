@@ -8,8 +8,8 @@ use mathlib.Core.Path.{◌≡◌, refl, sym, ap, ◌∙◌}
 use mathlib.Core.List.{List, [], ◌∷◌, ◌++◌, append_assoc, append-nil}
 use lib.ListN.{length, set, take, drop, length-append, take-append-drop}
 use lib.Seq.{sets, length-sets, sets-eq, take-set-le, drop-set-lt, drop-set-add, take_at, drop_at, length-take-le}
-use Rattle.wire.specs.Number.{get_le, bytes_of}
-use Rattle.wire.proofs.Number.{get_take, get_drop, sets_more}
+use Rattle.wire.specs.Number.{get_le, put_le, bytes_of}
+use Rattle.wire.proofs.Number.{get_take, get_drop, length_bytes, put_sets, sets_more}
 use Rattle.caps.specs.declared.Cut.{Cut}
 use Rattle.trip.specs.declared.Ride.{Ride}
 use Rattle.statement.specs.Record.{Part, head_of, person_bytes, charge_bytes, record_of}
@@ -30,6 +30,16 @@ behind_wrote {bytes} {more} {s} {place = place} one other =
       next = rw (length-append bytes more) (omega (arith, one.next, other.next));
       stored = other.stored ∙ rw (one.stored, one.next) (sets_more s place bytes more);
     }
+
+-- A number's bytes, and a number's bytes behind others.
+pub field_wrote : (k v : ℕ) {s s₁ : List ℕ} {place : ℕ} → s₁ ≡ put_le k s place v → Wrote (bytes_of k v) s place s₁ (place + k)
+field_wrote k v {s} {place = place} put =
+    record { next = ap (place +◌) (sym (length_bytes k v)); stored = put ∙ put_sets k s place v }
+
+pub field_behind :
+    (k v : ℕ) {bytes s s₁ s₂ : List ℕ} {place next at : ℕ} → Wrote bytes s place s₁ next → s₂ ≡ put_le k s₁ at v → at ≡ next
+    → Wrote (bytes ++ bytes_of k v) s place s₂ (at + k)
+field_behind k v so_far put here = behind_wrote (rw (sym here) at so_far) (field_wrote k v put)
 
 -- No rider is written yet.
 pub nobody_wrote : (s : List ℕ) (place : ℕ) → Wrote (charge_bytes [] []) s place s place

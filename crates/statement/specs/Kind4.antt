@@ -1,6 +1,6 @@
 -- docs/FORMAT.md, kind 4: a charge record that tells charges alone, as settling wrote it before what caps took off was told. Window's opening
 -- minute 4, area 1, km 2, minutes 2, then m charges of 4: account holder, adults, children, bicycles.
-use Rattle.std.specs.Prelude.{ℕ, ◌+◌, ◌*◌, List, [], ◌∷◌, ◌++◌, length}
+use Rattle.std.specs.Prelude.{ℕ, ◌+◌, ◌*◌, List, [], ◌++◌, length}
 use Rattle.wire.specs.Number.{bytes_of}
 use Rattle.statement.specs.Record.{Part, charge_size, charge_bytes}
 

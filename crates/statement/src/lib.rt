@@ -1,7 +1,7 @@
 // The charge record: where each of its fields stands, and nobody else knows. A statement is charge records one after another, each written
 // and read at its place.
 //
-// writing.rt   a part's record, put together by a writer that holds the lent statement
+// writing.rt   a part's record, put there field by field
 // reading.rt   the fields of a record, and what its charges add up to
 #![tactic(auto)]
 

@@ -1,4 +1,4 @@
-// A part's record at a place of the statement, put together by a writer that holds the lent statement.
+// A part's record at a place of the lent statement, put there field by field.
 ghost use Rattle.std.specs.Prelude.{◌+◌, ◌≤◌, length};
 ghost use Rattle.wire.specs.Number.{bytes_of};
 ghost use Rattle.statement.specs.Record.{head_size, charge_size, person_size, head_bytes, head_of, person_bytes, RideFits};
@@ -8,7 +8,7 @@ use crate::{KIND, record_size};
 use caps::Cut;
 use trip::Ride;
 use units::{Cents, Minutes};
-use wire::writer::Writer;
+use wire::{put_four, put_one, put_two};
 
 // The fields of a head one after another; `long` is the record's length field.
 fn put_head(
@@ -26,17 +26,16 @@ fn put_head(
     requires { place + head_size ≤ length statement.old }
     ensures { Wrote (head_bytes long opening area km minutes adults children bicycles) statement.old place statement.new result }
 {
-    Writer::new(statement, place)
-        .two(long)
-        .two(KIND)
-        .four(opening)
-        .one(area)
-        .two(km)
-        .two(minutes)
-        .one(adults)
-        .one(children)
-        .one(bicycles)
-        .end()
+    put_two(statement, place, long);
+    put_two(statement, place + 2, KIND);
+    put_four(statement, place + 4, opening);
+    put_one(statement, place + 8, area);
+    put_two(statement, place + 9, km);
+    put_two(statement, place + 11, minutes);
+    put_one(statement, place + 13, adults);
+    put_one(statement, place + 14, children);
+    put_one(statement, place + 15, bicycles);
+    place + 16
 }
 
 // The head of a ride's record; the party says how long the record is. The answer is the place of the first charge.
@@ -74,12 +73,11 @@ fn put_person(
     requires { place + person_size ≤ length statement.old }
     ensures { Wrote (person_bytes amount (cut_with reduction area class)) statement.old place statement.new result }
 {
-    Writer::new(statement, place)
-        .four(amount)
-        .four(reduction)
-        .one(area)
-        .one(class)
-        .end()
+    put_four(statement, place, amount);
+    put_four(statement, place + 4, reduction);
+    put_one(statement, place + 8, area);
+    put_one(statement, place + 9, class);
+    place + 10
 }
 
 // One person's charge, and what caps took off the price. The answer is the place of the next.
@@ -95,7 +93,8 @@ fn put_charge(statement: &mut [u8], place: usize, amount: u32) -> usize
     requires { place + charge_size ≤ length statement.old }
     ensures { Wrote (bytes_of 4 amount) statement.old place statement.new result }
 {
-    Writer::new(statement, place).four(amount).end()
+    put_four(statement, place, amount);
+    place + 4
 }
 
 // One bicycle's charge. The answer is the place of the next.

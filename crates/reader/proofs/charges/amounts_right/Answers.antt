@@ -1,7 +1,5 @@
 -- `reader::charges::amounts_right` meets its contract: all charges passed so far are in range. The measure is the charges that are left.
-use Prim.Native.Nat.{◌-◌}
 use native.Mathlib.Omega.{arith}
-use mathlib.Core.Bool.{true}
 use Rattle.reader.specs.Reading.{fields_for}
 use Rattle.reader.proofs.Ranges.{none_wrong, one_right, one_wrong, all_right}
 use Rattle.reader.proofs.charges.amounts_right.Goals as goal
@@ -19,8 +17,7 @@ pub returns-then-not-amount_right : goal.returns-then-not-amount_right
 returns-then-not-amount_right c = one_wrong (fields_for _ _ _) _ c.amount_at.ensures c.amount_right.ensures _ c.loop-i-test.true (c.if-not-amount_right.true)
 
 pub loop-i-preserved : goal.loop-i-preserved
-loop-i-preserved c =
-    (
+loop-i-preserved c = (
   omega arith,
   one_right (fields_for _ _ _) _ c.amount_at.ensures c.amount_right.ensures c.loop-i.invariant.1 (c.if-not-amount_right.false),
 )

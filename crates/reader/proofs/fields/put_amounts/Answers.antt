@@ -1,5 +1,4 @@
 -- `reader::fields::put_amounts` meets its contract. The loop's invariant: behind the place stand the first `i` charges.
-use Prim.Native.Nat.{◌-◌}
 use native.Mathlib.Omega.{arith}
 use mathlib.Core.Path.{refl, ◌∙◌}
 use Rattle.statement.proofs.Head.{length_person}
@@ -19,7 +18,7 @@ loop-i-preserved c =
     let amount = c.amount_at.result in
     let wrote = c.put_amount-next in (
       omega arith,
-      wrote.auto.0 ∙ before.invariant.1,
+      wrote.auto.fields ∙ before.invariant.1,
       omega (arith, wrote.ensures.next, length_person amount.charge.0 amount.cut),
       one_put (fields_for _ _ _) _ _ before.i before.next before.invariant.3 c.amount_at.ensures wrote.ensures,
     )

@@ -1,6 +1,5 @@
 -- `statement::reading::cents_in` meets its contract: the loop has added the charges of the records that it passed. The measure is the bytes that
 -- are left.
-use Prim.Native.Nat.{◌-◌}
 use native.Mathlib.Omega.{arith}
 use Rattle.statement.proofs.Sums.{added_none, record_next, added_more, added_all}
 use Rattle.statement.proofs.reading.cents_in.Goals as goal

@@ -1,5 +1,4 @@
 -- `statement::reading::cents_up_to` meets its contract: the loop has added the charges that it passed. The measure is the charges that are left.
-use Prim.Native.Nat.{◌-◌}
 use native.Mathlib.Omega.{arith}
 use Rattle.statement.proofs.Sums.{cents_none, cents_more, cents_all}
 use Rattle.statement.proofs.reading.cents_up_to.Goals as goal
@@ -14,8 +13,7 @@ pub overflow_cast-cents : goal.overflow_cast-cents
 overflow_cast-cents c = omega (arith, c.charge_of.ensures.range)
 
 pub loop-i-preserved : goal.loop-i-preserved
-loop-i-preserved c =
-    (
+loop-i-preserved c = (
   omega arith,
   cents_more _ _ _ _ _ c.loop-i.invariant.1 c.charge_of.ensures.value c.charge_of.ensures.range,
 )
