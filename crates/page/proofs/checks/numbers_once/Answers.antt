@@ -24,7 +24,7 @@ pub loop-k-preserved : goal.loop-k-preserved
 loop-k-preserved c =
     let a = c.args in
     let (inside, sofar) = c.loop-k.invariant in
-    (omega arith, one_more _ (test a.page.now a.first a.count) _ _ sofar c.only_here.ensures)
+    (omega arith, one_more _ (test a.page.now a.first a.count) _ _ sofar c.only_here-once.ensures)
 
 pub returns : goal.returns
 unfolding numbers_once
