@@ -5,7 +5,6 @@ use mathlib.Core.Path.{◌≡◌, sym, ap, ◌∙◌}
 use mathlib.Core.Bool.{true}
 use mathlib.Core.List.{List}
 use lib.ListN.{drop}
-use Rattle.layout.specs.declared.Counts.{Counts}
 use Rattle.editions.specs.declared.Editions.{Editions}
 use Rattle.editions.proofs.Parts.{edition_read}
 use Rattle.ledger.specs.declared.Window.{Window}

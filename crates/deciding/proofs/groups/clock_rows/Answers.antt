@@ -46,8 +46,7 @@ returns-then-not-in_order c =
     sym (comes_refused Refused _ (past-8 ∙ stop _ _ (ap not (order ∙ c.if-not-in_order.true))))
 
 pub is_mistap-requires : goal.is_mistap-requires
-is_mistap-requires c =
-    (
+is_mistap-requires c = (
   le_of_eq (filling c.requires.1).size,
   (in-order _ _ (sym c.in_order.ensures ∙ c.if-not-in_order.false)).0,
 )
