@@ -35,7 +35,7 @@ since_first first second = ap (λ (e : Edition). e.since.0) (edition_first first
 since_second : (first second : Edition) → since_of (Two first second) 2 ≡ second.since.0
 since_second first second = ap (λ (e : Edition). e.since.0) (edition_second first second 2 refl)
 
--- each way through `inForce`
+-- each way through `in_force`
 module _ (first : Edition) (minute : ℕ) where
   one_valid : first.since.0 ≤ minute → in_force (One first) minute ≡ 1
   unfolding in_force

@@ -1,4 +1,4 @@
--- What stands where an edition has to begin, case by case: each way through `openingAt`, and what each of its answers means.
+-- What stands where an edition has to begin, case by case: each way through `opening_at`, and what each of its answers means.
 -- Assumes nothing.
 use Prim.Native.Nat.{ℕ, ◌+◌, ◌-◌, ◌≤◌, ◌<◌}
 use native.Mathlib.Omega.{arith}
@@ -72,7 +72,7 @@ module _ (file : List ℕ) (at : ℕ) where
           (body, rw nine at e)
 
 module _ (file : List ℕ) (at least : ℕ) where
-  -- Each way through `sinceAt`.
+  -- Each way through `since_at`.
   module _ (year month day : ℕ) (y : year ≡ year_at file at) (m : month ≡ month_at file at) (d : day ≡ day_at file at) where
     pub since_no_date : is_date year month day ≡ false → since_at file at least ≡ Faulty 3
     unfolding since_at
@@ -90,7 +90,7 @@ module _ (file : List ℕ) (at least : ℕ) where
           let same : minute ≡ minute_at file at = rw (y, m, d) at is in
           rw (rw (y, m, d) at one, same, le-leb least (minute_at file at) (rw same at late))
 
-  -- Each way through `openingAt`.
+  -- Each way through `opening_at`.
   pub opening_end : length file ≤ at → opening_at file at least ≡ Faulty 2
   unfolding opening_at
   opening_end over = rw (le-leb (length file) at over)
@@ -110,7 +110,7 @@ module _ (file : List ℕ) (at least : ℕ) where
   pub opening_in_place : frame_at file at ≡ Whole edition_kind opening_body → opening_at file at least ≡ since_at file at least
   opening_in_place e = opening_whole edition_kind opening_body e refl
 
-  -- What stands there, by the answer of `openingAt`.
+  -- What stands there, by the answer of `opening_at`.
   data Begins : Opening → Type 0 where
     faulty : {number : ℕ} → OpeningSays file at least number → Begins (Faulty number)
     opened : {since : Minutes} → Opened file at least since → Begins (Since since)

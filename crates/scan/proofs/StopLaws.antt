@@ -49,7 +49,7 @@ module _ (b : List ℕ) where
   stop_head at fits long kind =
       whole_back b at 2 stop_body (record { kind_is = omega arith; length_is = omega arith; fits = omega arith; short = omega arith })
 
-  -- What the tests of `stopStands` let through, an area and the factor records due before it, is a faultless stop.
+  -- What the tests of `stop_stands` let through, an area and the factor records due before it, is a faultless stop.
   stop-stands :
       (at : ℕ) (so_far : Counts) → 0 < so_far.areas → so_far.factors ≡ factors_due b so_far → at + stop_size ≤ length b → so_far.stops < most_stops
       → stop_stands b at so_far.areas ≡ true → entry_at b at so_far ≡ Stop

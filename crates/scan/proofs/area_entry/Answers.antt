@@ -1,4 +1,4 @@
--- `scan::area_entry` meets its contract: its two tests are those of `areaEntry`, and past the first one the record has the bytes
+-- `scan::area_entry` meets its contract: its two tests are those of `area_entry`, and past the first one the record has the bytes
 -- of its kind, and the areas before it theirs.
 use Rattle.std.proofs.Common.{◌≡◌, true, ◌&&◌, sym, ◌∙◌, arith}
 use Rattle.layout.specs.Fields.{area_fields, long_fields}

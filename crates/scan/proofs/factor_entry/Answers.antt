@@ -1,4 +1,4 @@
--- `scan::factor_entry` meets its contract: its two tests are those of `factorEntry`, and past the first one the record has
+-- `scan::factor_entry` meets its contract: its two tests are those of `factor_entry`, and past the first one the record has
 -- its 6 bytes.
 use Rattle.std.proofs.Common.{◌≡◌, sym, ◌∙◌, arith}
 use Rattle.layout.specs.Fields.{factor_fields}

@@ -1,4 +1,4 @@
--- `scan::stop_entry` meets its contract: its two tests are those of `stopEntry`, and past the first one the record has
+-- `scan::stop_entry` meets its contract: its two tests are those of `stop_entry`, and past the first one the record has
 -- its 13 bytes.
 use Rattle.std.proofs.Common.{◌≡◌, sym, ◌∙◌, arith}
 use Rattle.layout.specs.Fields.{stop_fields}
