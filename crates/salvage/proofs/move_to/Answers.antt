@@ -1,6 +1,5 @@
 -- `move_to` meets its contract. The loop's invariant: the first `i` bytes are moved. Each moves to a place that is not behind its own, so the next one is
 -- still to be moved. The measure is the bytes that are left to move.
-use Prim.Native.Nat.{◌-◌}
 use native.Mathlib.Omega.{arith}
 use mathlib.Core.Path.{◌≡◌}
 use lib.ListN.{length-set}

@@ -1,5 +1,4 @@
 -- `salvage` meets its contract: from step to step a pass goes on, and at the roll's end what it has left is what comes of the whole roll.
-use Prim.Native.Nat.{◌-◌}
 use native.Mathlib.Omega.{arith}
 use mathlib.Core.Path.{refl}
 use Rattle.text.specs.Texts.{bytes}

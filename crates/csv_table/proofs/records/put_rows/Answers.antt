@@ -1,6 +1,5 @@
 -- `records::put_rows` meets its contract. The loop's invariant: behind the place stand the lines of the first `i` charges. The measure is the
 -- charges that are left.
-use Prim.Native.Nat.{◌+◌, ◌-◌}
 use native.Mathlib.Omega.{arith}
 use mathlib.Core.Path.{◌≡◌, refl, sym, ap, ◌∙◌}
 use mathlib.Core.List.{◌++◌, append-nil}
