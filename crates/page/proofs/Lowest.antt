@@ -6,7 +6,6 @@ use native.Mathlib.Decide.{ℕ_discrete}
 use mathlib.Core.Path.{◌≡◌, refl, ap, ◌∙◌}
 use mathlib.Core.List.{List}
 use borrow.Author.Tests.{eq-eqb, ne_eqb}
-use Rattle.page.specs.declared.Spot.{Spot}
 use Rattle.page.specs.declared.Spot.TheVariants.{Nowhere, At}
 use Rattle.page.specs.Pages.{number_at, lowest_with}
 use Rattle.page.specs.InWords.{Lowest, InNone}

@@ -8,15 +8,6 @@ use Rattle.settle.specs.Clauses.{UnderSettled}
 use Rattle.ceiling.proofs.Outcomes.{LentTold, refused_within, written, written_within}
 use Rattle.ceiling.proofs.settle_within.Goals as goal
 
--- what was lent, with what settling told
-lent :
-    (s : tie.After-settle-under) {book' left : List ℕ}
-    → let a = (start s).args in
-    let room = s.before.before.before.room_for.result in
-    UnderSettled a.file.now a.editions a.book.now a.trip.now (take room a.statement.now) book' left s.settle-under.result
-    → LentTold a.file.now a.editions a.book.now a.trip.now a.statement.now a.due.now book' left room s.settle-under.result
-lent s told = record { read = (start s).requires.1; there = s.before.before.before.room_for.ensures; told = told }
-
 pub slice_bounds-settle_under-end : goal.slice_bounds-settle_under-end
 slice_bounds-settle_under-end c = c.room_for-room.ensures.range
 
@@ -27,22 +18,22 @@ pub settle_under-requires : goal.settle_under-requires
 settle_under-requires c = c.requires.1
 
 pub month_of-month-requires : goal.month_of-month-requires
-month_of-month-requires c = (written (start c).args.due.now (lent c c.settle_under.ensures) c.in-Written.is).stamped
+month_of-month-requires c = (written c.args.due.now (record { read = c.requires.1; there = c.room_for-room.ensures; told = c.settle_under.ensures }) c.in-Written.is).stamped
 
 pub cents_in-charged-requires : goal.cents_in-charged-requires
-cents_in-charged-requires c = (written (start c).args.due.now (lent c c.settle_under.ensures) c.in-Written.is).records
+cents_in-charged-requires c = (written c.args.due.now (record { read = c.requires.1; there = c.room_for-room.ensures; told = c.settle_under.ensures }) c.in-Written.is).records
 
 pub collect-requires : goal.collect-requires
 collect-requires c =
     let is = c.in-Written.is in
-    ((start c).requires.0, (written (start c).args.due.now (lent c c.settle_under.ensures) is).room_due)
+    (c.requires.0, (written c.args.due.now (record { read = c.requires.1; there = c.room_for-room.ensures; told = c.settle_under.ensures }) is).room_due)
 
 pub returns-in-Refused : goal.returns-in-Refused
-returns-in-Refused c = refused_within (lent c c.settle_under.ensures) c.in-Refused.is
+returns-in-Refused c = refused_within (record { read = c.requires.1; there = c.room_for-room.ensures; told = c.settle_under.ensures }) c.in-Refused.is
 
 pub returns-in-Written : goal.returns-in-Written
 returns-in-Written c =
     let is = c.in-Written.is in
     let month = c.month_of-month.ensures in
     let charged = c.cents_in-charged.ensures in
-    written_within (lent c c.settle_under.ensures) is month charged c.collect.ensures
+    written_within (record { read = c.requires.1; there = c.room_for-room.ensures; told = c.settle_under.ensures }) is month charged c.collect.ensures

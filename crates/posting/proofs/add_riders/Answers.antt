@@ -35,7 +35,7 @@ add_up-requires c =
       known = omega (arith, p.known);
       range = rw amount (p.range l.i more);
       room = l.invariant.room l.i (omega arith) more;
-      apart = c.way_of.ensures.apart;
+      apart = c.way_of-way.ensures.apart;
     }
 
 pub overflow_add-next : goal.overflow_add-next
@@ -53,7 +53,7 @@ loop-i-smaller c = omega (arith, c.loop-i-test.true)
 pub loop-i-preserved : goal.loop-i-preserved
 loop-i-preserved c =
     let p = c.requires in
-    riders_turn (faultless _ _ p.read) c.loop-i.invariant c.loop-i-test.true p.area c.way_of.ensures.value p.known
+    riders_turn (faultless _ _ p.read) c.loop-i.invariant c.loop-i-test.true p.area c.way_of-way.ensures.value p.known
     c.four_at.ensures.value c.add_up.ensures (omega arith)
 
 pub shape_of-book : goal.shape_of-book
@@ -62,4 +62,4 @@ shape_of-book c = c.loop-i.invariant.size ∙ sym c.requires.size
 pub returns : goal.returns
 returns c =
     let p = c.requires in
-    riders_end (faultless _ _ p.read) p.area c.way_of.ensures.value c.loop-i.invariant c.loop-i-test.false
+    riders_end (faultless _ _ p.read) p.area c.way_of-way.ensures.value c.loop-i.invariant c.loop-i-test.false

@@ -19,7 +19,7 @@ add_here-requires-2 c =
     let p = c.requires in
     let first = c.add_here in
     record {
-      size = first.auto.0 ∙ p.size;
+      size = first.auto.book ∙ p.size;
       known = p.known;
       area = p.apart.above;
       range = p.range;
@@ -38,7 +38,7 @@ add_here-requires-3 c =
     let first = c.add_here in
     let second = c.add_here-2 in
     record {
-      size = second.auto.0 ∙ first.auto.0 ∙ p.size;
+      size = second.auto.book ∙ first.auto.book ∙ p.size;
       known = p.known;
       area = p.apart.top;
       range = p.range;

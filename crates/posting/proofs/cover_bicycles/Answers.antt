@@ -76,8 +76,7 @@ loop-i-smaller c = omega (arith, c.loop-i-test.true)
 
 pub loop-i-preserved : goal.loop-i-preserved
 loop-i-preserved c =
-    let found = c.words_found-last.ensures in
-    (
+    let found = c.words_found-last.ensures in (
       bicycles_turn c.loop-i.invariant.0 c.loop-i-test.true c.cover-place.ensures.0
           c.get-old.ensures.value c.payments-paying.ensures.0 c.get.ensures.value found.left.cover
           found.left.payments c.put.ensures c.put-in-loop-i.ensures,

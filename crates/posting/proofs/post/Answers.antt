@@ -10,17 +10,6 @@ use Rattle.posting.specs.Clauses.{Postable}
 use Rattle.posting.proofs.PostSteps.{no_group, group_more, Said, said, head_inside, group_ready, groups_size, covers_ready, all_posted, record_ends}
 use Rattle.posting.proofs.post.Goals as goal
 
--- what the record says of its part
-says :
-    (o : tie.After-open-window invariant-loop decreases-loop) {part : Part}
-    → let s = o.before.before.before.before.before.before.before.before.before in
-    Postable s.args.tariff.now s.args.counts s.args.book.now s.args.window s.args.class part s.args.statement.now s.args.place
-    → Said part o.before.before.before.before.before.area-at.result (1 + o.before.before.before.before.adults-at.result)
-    o.before.before.before.children-at.result o.before.before.bicycles-at.result
-says o ok =
-    said ok o.before.before.before.before.before.area-at.ensures (ap (1 +◌) o.before.before.before.before.adults-at.ensures)
-    o.before.before.before.children-at.ensures o.before.before.bicycles-at.ensures
-
 pub area_at-at-requires : goal.area_at-at-requires
 area_at-at-requires c = head_inside c.requires.postable
 
@@ -48,7 +37,7 @@ loop-init c = no_group
 pub add_riders-next-requires : goal.add_riders-next-requires
 add_riders-next-requires c =
     let ok = c.requires.postable in
-    group_ready ok c.args.checkout.0 c.open_window.ensures c.open_window.auto.0 (says c ok) c.loop-test.true c.loop.invariant
+    group_ready ok c.args.checkout.0 c.open_window.ensures c.open_window.auto.book (said ok c.area_at-at.ensures (ap (1 +◌) c.adults_at.ensures) c.children_at-children.ensures c.bicycles_at-bicycles.ensures) c.loop-test.true c.loop.invariant
 
 pub loop-smaller : goal.loop-smaller
 loop-smaller c = omega (arith, c.loop-test.true)
@@ -61,13 +50,13 @@ loop-preserved c =
 pub cover_bicycles-requires : goal.cover_bicycles-requires
 cover_bicycles-requires c =
     let ok = c.requires.postable in
-    covers_ready ok c.args.checkout.0 c.open_window.ensures c.open_window.auto.0 (says c ok) c.loop-test.false c.loop.invariant
+    covers_ready ok c.args.checkout.0 c.open_window.ensures c.open_window.auto.book (said ok c.area_at-at.ensures (ap (1 +◌) c.adults_at.ensures) c.children_at-children.ensures c.bicycles_at-bicycles.ensures) c.loop-test.false c.loop.invariant
 
 pub overflow_add-result : goal.overflow_add-result
 overflow_add-result c =
     let ok = c.requires.postable in
     let ends =
-    record_ends ok c.args.checkout.0 c.open_window.ensures c.open_window.auto.0 (says c ok) c.loop-test.false
+    record_ends ok c.args.checkout.0 c.open_window.ensures c.open_window.auto.book (said ok c.area_at-at.ensures (ap (1 +◌) c.adults_at.ensures) c.children_at-children.ensures c.bicycles_at-bicycles.ensures) c.loop-test.false
     c.loop.invariant
     in
     omega (arith, ends.1, c.well_formed)
@@ -75,8 +64,8 @@ overflow_add-result c =
 pub shape_of-book : goal.shape_of-book
 shape_of-book c =
     let ok = c.requires.postable in
-    c.cover_bicycles.auto.1.1.0
-    ∙ groups_size ok c.args.checkout.0 c.open_window.ensures c.open_window.auto.0 (says c ok) c.loop.invariant
+    c.cover_bicycles.auto.book
+    ∙ groups_size ok c.args.checkout.0 c.open_window.ensures c.open_window.auto.book (said ok c.area_at-at.ensures (ap (1 +◌) c.adults_at.ensures) c.children_at-children.ensures c.bicycles_at-bicycles.ensures) c.loop.invariant
 
 pub returns : goal.returns
 returns c =
@@ -85,7 +74,7 @@ returns c =
     let both = c.loop-test.false in
     let ok = c.requires.postable in
     record {
-      next = (record_ends ok checkout opens.ensures opens.auto.0 (says c ok) both c.loop.invariant).0;
+      next = (record_ends ok checkout opens.ensures opens.auto.book (said ok c.area_at-at.ensures (ap (1 +◌) c.adults_at.ensures) c.children_at-children.ensures c.bicycles_at-bicycles.ensures) both c.loop.invariant).0;
       book_is = λ part ok.
-          all_posted ok checkout opens.ensures opens.auto.0 (says c ok) both c.loop.invariant c.cover_bicycles.ensures;
+          all_posted ok checkout opens.ensures opens.auto.book (said ok c.area_at-at.ensures (ap (1 +◌) c.adults_at.ensures) c.children_at-children.ensures c.bicycles_at-bicycles.ensures) both c.loop.invariant c.cover_bicycles.ensures;
     }

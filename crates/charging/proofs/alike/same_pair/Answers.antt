@@ -9,7 +9,7 @@ returns c =
     record {
       told =
           λ e.
-          same_at c.args.book.now (λ i. (c.type_inv.book i).fits) c.args c.args.at
+          same_at c.args.book.now (λ i. (c.type_inv.book i).fits) c.args.before c.args.at
           (rw (← c.pair.ensures.0, ← c.pair-2.ensures.0)
           (sym c.eight_at.ensures.value ∙ eqb-true _ _ e ∙ c.eight_at-2.ensures.value));
     }

@@ -14,8 +14,7 @@ raised-dear-requires c =
     let area : Area = let a = c.args in area_at a.tariff.now a.at in
     let ranges : AreaRanges area = let p = c.requires in (faultless _ _ p.0).area _ p.1 in
     let day-cap : c.limits-of.result.day_cap ≡ area.day_cap = ap (λ l. l.day_cap) c.limits-of.ensures in
-    let surcharge : c.limits-of.result.surcharge ≡ area.surcharge = ap (λ l. l.surcharge) c.limits-of.ensures in
-    (
+    let surcharge : c.limits-of.result.surcharge ≡ area.surcharge = ap (λ l. l.surcharge) c.limits-of.ensures in (
       omega (arith, day_most (area) _ (ranges) (sym (day-cap) ∙ c.in-UpTo.is)),
       omega (arith, surcharge, ranges.surcharge),
     )
@@ -25,8 +24,7 @@ reduced-requires c =
     let area : Area = let a = c.args in area_at a.tariff.now a.at in
     let ranges : AreaRanges area = let p = c.requires in (faultless _ _ p.0).area _ p.1 in
     let day-cap : c.limits-of.result.day_cap ≡ area.day_cap = ap (λ l. l.day_cap) c.limits-of.ensures in
-    let reduction : c.limits-of.result.reduction ≡ area.reduction = ap (λ l. l.reduction) c.limits-of.ensures in
-    (
+    let reduction : c.limits-of.result.reduction ≡ area.reduction = ap (λ l. l.reduction) c.limits-of.ensures in (
       omega (arith, day_most (area) _ (ranges) (sym (day-cap) ∙ c.in-UpTo.is)),
       omega (arith, reduction, ranges.reduction),
     )
@@ -36,8 +34,7 @@ reduced-requires-then-child c =
     let area : Area = let a = c.args in area_at a.tariff.now a.at in
     let ranges : AreaRanges area = let p = c.requires in (faultless _ _ p.0).area _ p.1 in
     let day-cap : c.limits-of.result.day_cap ≡ area.day_cap = ap (λ l. l.day_cap) c.limits-of.ensures in
-    let reduction : c.limits-of.result.reduction ≡ area.reduction = ap (λ l. l.reduction) c.limits-of.ensures in
-    (
+    let reduction : c.limits-of.result.reduction ≡ area.reduction = ap (λ l. l.reduction) c.limits-of.ensures in (
       omega (
         arith,
         c.raised-dear.ensures,
@@ -58,11 +55,10 @@ returns-then-child c =
     let day-cap : c.limits-of.result.day_cap ≡ area.day_cap = ap (λ l. l.day_cap) c.limits-of.ensures in
     let surcharge : c.limits-of.result.surcharge ≡ area.surcharge = ap (λ l. l.surcharge) c.limits-of.ensures in
     let reduction : c.limits-of.result.reduction ≡ area.reduction = ap (λ l. l.reduction) c.limits-of.ensures in
-    let day = c.daily-1.given in
     rw c.if-child.true
-    (caps_child (area) _ _ _ _ (sym (day-cap) ∙ day.1)
-    (c.raised-dear.ensures.value ∙ ap (λ percent. raised_by percent day.0.0.0) (surcharge))
-    (c.reduced.ensures.value ∙ ap (λ percent. reduced_by percent day.0.0.0) (reduction))
+    (caps_child (area) _ _ _ _ (sym (day-cap) ∙ c.in-UpTo.is)
+    (c.raised-dear.ensures.value ∙ ap (λ percent. raised_by percent c.in-UpTo.day.0) (surcharge))
+    (c.reduced.ensures.value ∙ ap (λ percent. reduced_by percent c.in-UpTo.day.0) (reduction))
     (c.reduced-then-child.ensures.value ∙ ap (λ percent. reduced_by percent c.raised-dear.result.0) (reduction)))
 
 pub returns-else-child : goal.returns-else-child
@@ -70,7 +66,6 @@ returns-else-child c =
     let area : Area = let a = c.args in area_at a.tariff.now a.at in
     let day-cap : c.limits-of.result.day_cap ≡ area.day_cap = ap (λ l. l.day_cap) c.limits-of.ensures in
     let surcharge : c.limits-of.result.surcharge ≡ area.surcharge = ap (λ l. l.surcharge) c.limits-of.ensures in
-    let day = c.daily-1.given in
     rw c.if-child.false
-    (caps_adult (area) _ _ (sym (day-cap) ∙ day.1)
-    (c.raised-dear.ensures.value ∙ ap (λ percent. raised_by percent day.0.0.0) (surcharge)))
+    (caps_adult (area) _ _ (sym (day-cap) ∙ c.in-UpTo.is)
+    (c.raised-dear.ensures.value ∙ ap (λ percent. raised_by percent c.in-UpTo.day.0) (surcharge)))

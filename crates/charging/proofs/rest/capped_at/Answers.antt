@@ -11,14 +11,13 @@ pub overflow_add-all : goal.overflow_add-all
 overflow_add-all c = omega (arith, all_whole c.requires.1.1 c.pair-place.ensures.0 c.lacking-more.ensures c.get_in-2.ensures.value)
 
 pub returns : goal.returns
-returns c =
-    (
-      rw (
-        c.capped_here.ensures.0,
-        c.get_in-2.ensures.value,
-        c.get_in.ensures.value,
-        c.lacking-more.ensures,
-        c.pair-place.ensures.0,
-      ),
-      c.capped_here.ensures.1,
-    )
+returns c = (
+  rw (
+    c.capped_here.ensures.0,
+    c.get_in-2.ensures.value,
+    c.get_in.ensures.value,
+    c.lacking-more.ensures,
+    c.pair-place.ensures.0,
+  ),
+  c.capped_here.ensures.1,
+)

@@ -1,6 +1,6 @@
 -- `charging::state::state_bicycles` meets its contract. The loop's invariant: the charges of the first `i` bicycles are written, and what is held
 -- is right for its words. The measure is the number of bicycles left.
-use Prim.Native.Nat.{◌-◌, ◌<◌}
+use Prim.Native.Nat.{◌<◌}
 use native.Mathlib.Omega.{arith}
 use mathlib.Core.Path.{◌≡◌, ◌∙◌}
 use Rattle.areas.proofs.Faultless.{faultless}

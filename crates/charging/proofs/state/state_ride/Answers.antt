@@ -1,6 +1,5 @@
 -- `charging::state::state_ride` meets its contract: the head, the two groups of persons behind it, and the bicycles behind them. The loop's
 -- invariant: the groups before the one at hand are written. The measure is the number of groups left.
-use Prim.Native.Nat.{◌-◌}
 use native.Mathlib.Omega.{arith}
 use mathlib.Core.Path.{◌≡◌, refl}
 use Rattle.statement.proofs.Wrote.{length_wrote}

@@ -1,6 +1,6 @@
 -- `charging::state::state_riders` meets its contract. The loop's invariant: the first `i` riders are written, each charged by the chain with what
 -- stands of it in the earlier part's record, and what is held is right for the next. The measure is the number of riders left.
-use Prim.Native.Nat.{◌+◌, ◌-◌, ◌<◌}
+use Prim.Native.Nat.{◌+◌, ◌<◌}
 use native.Mathlib.Omega.{arith}
 use mathlib.Core.Path.{◌≡◌, ap}
 use Rattle.statement.proofs.Wrote.{nobody_wrote, length_wrote}

@@ -1,5 +1,5 @@
 -- `page::checks::numbers_right` meets its contract: after k turns it is known of the first k places.
-use Prim.Native.Nat.{ℕ, ◌+◌, ◌-◌}
+use Prim.Native.Nat.{ℕ, ◌+◌}
 use native.Mathlib.Omega.{arith}
 use mathlib.Core.Path.{sym, ap}
 use mathlib.Core.Bool.{Bool}
