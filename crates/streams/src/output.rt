@@ -1,15 +1,17 @@
 // The only door out.
 ghost use Rattle.std.specs.Prelude.{◌≤◌, length};
 
-use libc::STDOUT_FILENO;
+use crate::failure::tell;
 
 // Writes a buffer's bytes up to a place. A failure is told on standard error.
-pub fn write(out: &[u8], end: usize) -> bool
+pub fn write(rt: &(impl Print + Eprint), out: &[u8], end: usize) -> bool
     requires { end ≤ length out.now }
 {
-    let written = io::write_all(STDOUT_FILENO, &out[..end]);
-    if !written {
-        os::fail(b"standard output");
+    match rt.write_all(&out[..end]) {
+        Ok(()) => true,
+        Err(error) => {
+            tell(rt, b"standard output", error);
+            false
+        }
     }
-    written
 }
