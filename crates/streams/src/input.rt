@@ -2,9 +2,8 @@
 ghost use Rattle.std.specs.Prelude.{◌≤◌, ◌<◌, length};
 ghost use Rattle.streams.specs.Clauses.{Came, Kept};
 
-use std::io::Read;
-
 use crate::failure::tell;
+use std::io::Read;
 
 // What reading came to: how many bytes, or a failure, which was told on standard error.
 #[derive(Clone, Copy)]
