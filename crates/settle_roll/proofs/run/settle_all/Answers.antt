@@ -75,12 +75,3 @@ loop-on-preserved g c =
 
 pub write-requires-in-Last : goal.write-requires-in-Last
 write-requires-in-Last g c = omega (arith, last_by _ _ c.take_step.ensures.advanced c.in-Last.is, c.loop-on.invariant.0.sizes.of_out)
-
-pub shape_of-input-then-not-write : goal.shape_of-input-then-not-write
-shape_of-input-then-not-write g c = omega (arith, c.requires.0.running.sizes.of_input)
-
-pub shape_of-out-then-not-write : goal.shape_of-out-then-not-write
-shape_of-out-then-not-write g c = omega (arith, c.requires.0.running.sizes.of_out)
-
-pub shape_of-statement-then-not-write : goal.shape_of-statement-then-not-write
-shape_of-statement-then-not-write g c = omega (arith, c.requires.1)
