@@ -7,8 +7,10 @@ ghost use Rattle.print_statement.specs.Clauses.{Running, went_on, StepTaken, Beg
 
 use csv_table::rows::put_header;
 use csv_table::turns::{ROOM, Turn, take_turn};
+use std::io;
+use std::process::ExitCode;
 use streams::flow::{Flow, Flowed, INPUT, OUTPUT, make_room, read_more};
-use streams::output::write;
+use streams::output::{status_after, write};
 
 // How far a run has come: its buffers, and the records so far.
 #[derive(Clone, Copy)]
@@ -43,7 +45,7 @@ fn go_on(flowed: Flowed, number: u64) -> Next
 }
 
 // A turn, and what it asks for: bytes read, or bytes to be written.
-fn take_step(input: &mut [u8], out: &mut [u8], run: Run) -> Next
+fn take_step(rt: &(impl Input + Eprint), input: &mut [u8], out: &mut [u8], run: Run) -> Next
     requires { Running input.old out.old run }
     ensures { StepTaken run input.old out.old input.new out.new result }
 {
@@ -52,7 +54,7 @@ fn take_step(input: &mut [u8], out: &mut [u8], run: Run) -> Next
     let to = flow.to;
     let more = flow.more;
     match take_turn(&input[from..to], more, out, flow.end, run.number) {
-        Turn::More => go_on(read_more(input, flow), run.number),
+        Turn::More => go_on(read_more(rt, input, flow), run.number),
         Turn::On { used, end, number } => {
             let on = Flow {
                 from: from + used,
@@ -67,30 +69,32 @@ fn take_step(input: &mut [u8], out: &mut [u8], run: Run) -> Next
 }
 
 // Turn after turn, until the run is over. All that is written is written here, as each step tells it: this loop and `write` are trusted.
-fn print_all(input: &mut [u8], out: &mut [u8], first: Run)
+fn print_all(
+    rt: &(impl Input + Print + Eprint),
+    input: &mut [u8],
+    out: &mut [u8],
+    first: Run,
+) -> io::Result<()>
     requires { Begun input.old out.old first }
 {
     let mut run = first;
     loop {
-        match take_step(input, out, run) {
+        match take_step(rt, input, out, run) {
             Next::On(on) => {
                 run = on;
             }
             Next::Write { end, on } => {
-                if !write(out, end) {
-                    break;
-                }
+                write(rt, out, end)?;
                 run = on;
             }
             Next::Last(end) => {
-                write(out, end);
-                break;
+                return write(rt, out, end);
             }
         }
     }
 }
 
-fn main() {
+fn main(rt: HostRuntime) -> ExitCode {
     let mut input = [0u8; INPUT];
     let mut out = [0u8; OUTPUT];
     let end = put_header(&mut out);
@@ -103,5 +107,5 @@ fn main() {
         },
         number: 0,
     };
-    print_all(&mut input, &mut out, first);
+    status_after(print_all(&rt, &mut input, &mut out, first))
 }

@@ -11,41 +11,49 @@ ghost use Rattle.salvage.specs.Clauses.{room_size};
 use files::{remove_earlier, save};
 use input::read_roll;
 use salvage::{LINES, ROLL, Salvaged, salvage};
-use streams::output::write;
+use std::io;
+use std::process::ExitCode;
+use std::rt::Files;
+use streams::output::{status_after, write};
 
 mod files;
 mod input;
 
 // Salvages a roll, and hands over what comes of it: kept.bin first, and the lines only where it is there.
-fn hand_over(roll: &mut [u8], lines: &mut [u8])
+fn hand_over(
+    rt: &(impl Files + Print + Eprint),
+    roll: &mut [u8],
+    lines: &mut [u8],
+) -> io::Result<()>
     requires { length lines.old ≡ room_size }
 {
     match salvage(roll, lines) {
-        Salvaged::TooLong { end } => {
-            write(lines, end);
-        }
+        Salvaged::TooLong { end } => write(rt, lines, end),
         Salvaged::Kept { bytes, end } => {
-            if save(&roll[..bytes]) {
-                write(lines, end);
+            if save(rt, &roll[..bytes]) {
+                write(rt, lines, end)
+            } else {
+                Ok(())
             }
         }
     }
 }
 
 // A byte more than a roll may have is enough to tell that it is too long.
-fn salvage_input() {
+fn salvage_input(rt: &(impl Files + Input + Print + Eprint)) -> io::Result<()> {
     let mut roll = [0u8; ROLL + 1];
-    let got = read_roll(&mut roll);
+    let got = read_roll(rt, &mut roll);
     if got.failed {
-        return;
+        return Ok(());
     }
     let bytes = got.bytes;
     let mut lines = [0u8; LINES];
-    hand_over(&mut roll[..bytes], &mut lines);
+    hand_over(rt, &mut roll[..bytes], &mut lines)
 }
 
-fn main() {
-    if remove_earlier() {
-        salvage_input();
+fn main(rt: HostRuntime) -> ExitCode {
+    if remove_earlier(&rt) {
+        return status_after(salvage_input(&rt));
     }
+    ExitCode::SUCCESS
 }

@@ -9,32 +9,34 @@ use editions::{DECIDING_BYTES, FileReading, read_file};
 use input::load_tariff;
 use lines::texts::put_fault;
 use run::settle_roll;
-use streams::output::write;
+use std::io;
+use std::process::ExitCode;
+use streams::output::{status_after, write};
 
 mod input;
 mod run;
 
 // The one line of a refused tariff.
-fn print_fault(number: u8, at: usize) {
+fn print_fault(rt: &(impl Print + Eprint), number: u8, at: usize) -> io::Result<()> {
     let mut out = [0u8; 64];
     let end = put_fault(&mut out, number, at);
-    write(&out, end);
+    write(rt, &out, end)
 }
 
 // A refused tariff gives its one line; under any other the roll is settled.
-fn settle_or_refuse(file: &[u8]) {
+fn settle_or_refuse(rt: &(impl Input + Print + Eprint), file: &[u8]) -> io::Result<()> {
     match read_file(file) {
-        FileReading::Fault { number, at } => print_fault(number, at),
-        FileReading::Faultless(editions) => settle_roll(file, editions),
+        FileReading::Fault { number, at } => print_fault(rt, number, at),
+        FileReading::Faultless(editions) => settle_roll(rt, file, editions),
     }
 }
 
-fn main() {
+fn main(rt: HostRuntime) -> ExitCode {
     let mut file = [0u8; DECIDING_BYTES];
-    let got = load_tariff(&mut file);
+    let got = load_tariff(&rt, &mut file);
     if got.failed {
-        return;
+        return ExitCode::SUCCESS;
     }
     let bytes = got.bytes;
-    settle_or_refuse(&file[..bytes]);
+    status_after(settle_or_refuse(&rt, &file[..bytes]))
 }

@@ -9,6 +9,7 @@ use lines::tally::Tally;
 use lines::texts::put_header;
 use lines::turns::{ROOM, Turn, take_turn};
 use roll::{fresh_book, statement_room};
+use std::io;
 use streams::flow::{Flow, Flowed, INPUT, OUTPUT, make_room, read_more};
 use streams::output::write;
 
@@ -46,6 +47,7 @@ fn go_on(flowed: Flowed, tally: Tally) -> Next
 
 // A turn, and what it asks for: bytes read, or bytes to be written.
 fn take_step(
+    rt: &(impl Input + Eprint),
     file: &[u8],
     editions: Editions,
     book: &mut [u8],
@@ -73,7 +75,7 @@ fn take_step(
         flow.end,
         run.tally,
     ) {
-        Turn::More => go_on(read_more(input, flow), run.tally),
+        Turn::More => go_on(read_more(rt, input, flow), run.tally),
         Turn::On { used, end, tally } => {
             let on = Flow {
                 from: from + used,
@@ -89,6 +91,7 @@ fn take_step(
 
 // Turn after turn, until the run is over. All that is written is written here, as each step tells it: this loop and `write` are trusted.
 fn settle_all(
+    rt: &(impl Input + Print + Eprint),
     file: &[u8],
     editions: Editions,
     book: &mut [u8],
@@ -96,31 +99,32 @@ fn settle_all(
     out: &mut [u8],
     statement: &mut [u8],
     first: Run,
-)
+) -> io::Result<()>
     requires { Begun file.now editions book.old input.old out.old first × StatementRoom statement.old }
 {
     let mut run = first;
     loop {
-        match take_step(file, editions, book, input, out, statement, run) {
+        match take_step(rt, file, editions, book, input, out, statement, run) {
             Next::On(on) => {
                 run = on;
             }
             Next::Write { end, on } => {
-                if !write(out, end) {
-                    break;
-                }
+                write(rt, out, end)?;
                 run = on;
             }
             Next::Last(end) => {
-                write(out, end);
-                break;
+                return write(rt, out, end);
             }
         }
     }
 }
 
 // The roll from standard input, under a faultless file, from a fresh book.
-pub fn settle_roll(file: &[u8], editions: Editions)
+pub fn settle_roll(
+    rt: &(impl Input + Print + Eprint),
+    file: &[u8],
+    editions: Editions,
+) -> io::Result<()>
     requires { ReadFile file.now editions }
 {
     let mut book = fresh_book();
@@ -142,6 +146,7 @@ pub fn settle_roll(file: &[u8], editions: Editions)
         },
     };
     settle_all(
+        rt,
         file,
         editions,
         &mut book,
@@ -149,5 +154,5 @@ pub fn settle_roll(file: &[u8], editions: Editions)
         &mut out,
         &mut statement,
         first,
-    );
+    )
 }

@@ -32,13 +32,13 @@ pub enum Flowed {
 }
 
 // The bytes that are not used yet, and the next ones behind them. After a failed read no turn is taken: what was put so far is to be written.
-pub fn read_more(input: &mut [u8], flow: Flow) -> Flowed
+pub fn read_more(rt: &(impl Input + Eprint), input: &mut [u8], flow: Flow) -> Flowed
     requires { MoreToRead input.old flow }
     ensures { CameMore flow input.old input.new result }
 {
     let end = flow.end;
     let kept = keep(input, flow.from, flow.to);
-    let got = read_next(input, kept);
+    let got = read_next(rt, input, kept);
     if got.failed {
         return Flowed::Stopped(end);
     }

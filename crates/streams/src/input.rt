@@ -2,7 +2,8 @@
 ghost use Rattle.std.specs.Prelude.{◌≤◌, ◌<◌, length};
 ghost use Rattle.streams.specs.Clauses.{Came, Kept};
 
-use libc::STDIN_FILENO;
+use crate::failure::tell;
+use std::io::Read;
 
 // What reading came to: how many bytes, or a failure, which was told on standard error.
 #[derive(Clone, Copy)]
@@ -12,30 +13,38 @@ pub struct Got {
 }
 
 // One read of a file into the room from a place on; no byte is the file's end, where there is room.
-pub fn read_at(file: i32, name: &[u8], room: &mut [u8], place: usize) -> Got
+pub fn read_at<F: Read>(
+    rt: &impl Eprint,
+    file: &mut F,
+    name: &[u8],
+    room: &mut [u8],
+    place: usize,
+) -> Got
     requires { place ≤ length room.old }
     ensures { Came room.old place room.new result.bytes }
 {
-    let answer = libc::read(file, &mut room[place..]);
-    if answer < 0 {
-        os::fail(name);
-        return Got {
-            failed: true,
-            bytes: 0,
-        };
-    }
-    Got {
-        failed: false,
-        bytes: io::count(answer, &room[place..]),
+    match file.read(&mut room[place..]) {
+        Ok(bytes) => Got {
+            failed: false,
+            bytes,
+        },
+        Err(error) => {
+            tell(rt, name, error);
+            Got {
+                failed: true,
+                bytes: 0,
+            }
+        }
     }
 }
 
 // Standard input's next bytes, behind those that are there already.
-pub fn read_next(room: &mut [u8], place: usize) -> Got
+pub fn read_next(rt: &(impl Input + Eprint), room: &mut [u8], place: usize) -> Got
     requires { place < length room.old }
     ensures { Came room.old place room.new result.bytes }
 {
-    read_at(STDIN_FILENO, b"standard input", room, place)
+    let mut input = rt.reader();
+    read_at(rt, &mut input, b"standard input", room, place)
 }
 
 // Moves the bytes from `from` to `to` to the start of the room. The answer is how many they are.

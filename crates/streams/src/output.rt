@@ -1,15 +1,32 @@
 // The only door out.
 ghost use Rattle.std.specs.Prelude.{◌≤◌, length};
 
-use libc::STDOUT_FILENO;
+use crate::failure::tell;
+use std::io;
+use std::io::ErrorKind;
+use std::process::ExitCode;
 
-// Writes a buffer's bytes up to a place. A failure is told on standard error.
-pub fn write(out: &[u8], end: usize) -> bool
+// The status that is left of a program which the system ends where it writes and nobody reads any more: 128 and the number of that signal.
+const CLOSED: u8 = 141;
+
+// Writes a buffer's bytes up to a place. A failure is told on standard error; that nobody reads any more is not, since it is no failure of the
+// program's. The error is handed on, so that the program ends as it tells.
+pub fn write(rt: &(impl Print + Eprint), out: &[u8], end: usize) -> io::Result<()>
     requires { end ≤ length out.now }
 {
-    let written = io::write_all(STDOUT_FILENO, &out[..end]);
-    if !written {
-        os::fail(b"standard output");
+    let written = rt.write_all(&out[..end]);
+    if let Err(error) = written {
+        if error.kind() != ErrorKind::BrokenPipe {
+            tell(rt, b"standard output", error);
+        }
     }
     written
+}
+
+// How a program ends after it wrote: a failure that was told ends it like a run that went through.
+pub fn status_after(written: io::Result<()>) -> ExitCode {
+    match written {
+        Err(error) if error.kind() == ErrorKind::BrokenPipe => ExitCode::from(CLOSED),
+        _ => ExitCode::SUCCESS,
+    }
 }

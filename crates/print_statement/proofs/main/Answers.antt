@@ -10,7 +10,7 @@ print_all-requires c =
     record {
       running =
           record {
-            sizes = record { of_input = search rules; of_out = header.auto.0 };
+            sizes = record { of_input = search rules; of_out = header.auto.out };
             range = record { order = omega arith; inside = omega arith; room_left = omega (arith, header.ensures.room) };
             few = omega arith;
           };

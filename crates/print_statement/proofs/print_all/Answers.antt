@@ -8,20 +8,20 @@ use Rattle.print_statement.proofs.Turns.{on_by, writing_by, last_by, few_by, few
 use Rattle.print_statement.proofs.print_all.Goals as goal
 
 pub loop-on-init : goal.loop-on-init
-loop-on-init c = c.requires.running
+loop-on-init g c = c.requires.running
 
 pub take_step-requires : goal.take_step-requires
-take_step-requires c = c.loop-on.invariant
+take_step-requires g c = c.loop-on.invariant
 
 pub loop-on-smaller-in-On : goal.loop-on-smaller-in-On
-loop-on-smaller-in-On c =
+loop-on-smaller-in-On g c =
     let onward : InRange most_turn c.in-On.on.flow
     × (left records_left c.in-On.on.flow c.in-On.on.number
     < left records_left c.loop-on.run.flow c.loop-on.run.number) = on_by c.take_step.ensures.advanced c.in-On.is in
     onward.1
 
 pub loop-on-preserved-in-On : goal.loop-on-preserved-in-On
-loop-on-preserved-in-On c =
+loop-on-preserved-in-On g c =
     let onward : InRange most_turn c.in-On.on.flow
     × (left records_left c.in-On.on.flow c.in-On.on.number
     < left records_left c.loop-on.run.flow c.loop-on.run.number) = on_by c.take_step.ensures.advanced c.in-On.is in
@@ -32,7 +32,7 @@ loop-on-preserved-in-On c =
     }
 
 pub write-requires : goal.write-requires
-write-requires c =
+write-requires g c =
     let written : (c.in-Write.end ≤ output_size)
     × (InRange most_turn c.in-Write.on.flow
     × (left records_left c.in-Write.on.flow c.in-Write.on.number
@@ -40,7 +40,7 @@ write-requires c =
     omega (arith, written.0, c.loop-on.invariant.sizes.of_out)
 
 pub loop-on-smaller : goal.loop-on-smaller
-loop-on-smaller c =
+loop-on-smaller g c =
     let written : (c.in-Write.end ≤ output_size)
     × (InRange most_turn c.in-Write.on.flow
     × (left records_left c.in-Write.on.flow c.in-Write.on.number
@@ -48,7 +48,7 @@ loop-on-smaller c =
     written.1.1
 
 pub loop-on-preserved : goal.loop-on-preserved
-loop-on-preserved c =
+loop-on-preserved g c =
     let written : (c.in-Write.end ≤ output_size)
     × (InRange most_turn c.in-Write.on.flow
     × (left records_left c.in-Write.on.flow c.in-Write.on.number
@@ -60,10 +60,4 @@ loop-on-preserved c =
     }
 
 pub write-requires-in-Last : goal.write-requires-in-Last
-write-requires-in-Last c = omega (arith, last_by c.take_step.ensures.advanced c.in-Last.is, c.loop-on.invariant.sizes.of_out)
-
-pub returns-then-not-write : goal.returns-then-not-write
-returns-then-not-write c = tt
-
-pub returns-in-Last : goal.returns-in-Last
-returns-in-Last c = tt
+write-requires-in-Last g c = omega (arith, last_by c.take_step.ensures.advanced c.in-Last.is, c.loop-on.invariant.sizes.of_out)

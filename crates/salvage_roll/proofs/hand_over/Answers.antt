@@ -6,13 +6,13 @@ use Rattle.salvage_roll.proofs.Ends.{too_long_end, kept_ends}
 use Rattle.salvage_roll.proofs.hand_over.Goals as goal
 
 pub write-requires : goal.write-requires
-write-requires c = omega (arith, too_long_end c.args.roll.now c.salvage.new.0 c.salvage.new.1.0 c.salvage.result c.salvage.ensures c.in-TooLong.is)
+write-requires g c = omega (arith, too_long_end c.args.roll.now c.salvage.new.roll c.salvage.new.lines c.salvage.result c.salvage.ensures c.in-TooLong.is)
 
 pub slice_bounds-save-end : goal.slice_bounds-save-end
-slice_bounds-save-end c = omega (arith, kept_ends c.args.roll.now c.salvage.new.0 c.salvage.new.1.0 c.salvage.result c.salvage.ensures c.in-Kept.is)
+slice_bounds-save-end g c = omega (arith, kept_ends c.args.roll.now c.salvage.new.roll c.salvage.new.lines c.salvage.result c.salvage.ensures c.in-Kept.is)
 
 pub slice_bounds-save-end-in-Kept : goal.slice_bounds-save-end-in-Kept
-slice_bounds-save-end-in-Kept c = sym (length-take-le _ _ (kept_ends c.args.roll.now c.salvage.new.0 c.salvage.new.1.0 c.salvage.result c.salvage.ensures c.in-Kept.is).0)
+slice_bounds-save-end-in-Kept g c = sym (length-take-le _ _ (kept_ends c.args.roll.now c.salvage.new.roll c.salvage.new.lines c.salvage.result c.salvage.ensures c.in-Kept.is).0)
 
 pub write-requires-then-save : goal.write-requires-then-save
-write-requires-then-save c = omega (arith, kept_ends c.args.roll.now c.salvage.new.0 c.salvage.new.1.0 c.salvage.result c.salvage.ensures c.in-Kept.is)
+write-requires-then-save g c = omega (arith, kept_ends c.args.roll.now c.salvage.new.roll c.salvage.new.lines c.salvage.result c.salvage.ensures c.in-Kept.is)

@@ -5,4 +5,4 @@ use lib.Seq.{length-take-le}
 use Rattle.salvage_roll.proofs.salvage_input.Goals as goal
 
 pub slice_bounds-hand_over-end : goal.slice_bounds-hand_over-end
-slice_bounds-hand_over-end c = sym (length-take-le _ _ (omega (arith, c.read_roll-got.ensures.fits)))
+slice_bounds-hand_over-end g c = sym (length-take-le _ _ (omega (arith, c.read_roll-got.ensures.fits)))

@@ -3,4 +3,4 @@ use mathlib.Core.Path.{sym, ◌∙◌}
 use Rattle.settle_roll.proofs.settle_or_refuse.Goals as goal
 
 pub settle_roll-requires : goal.settle_roll-requires
-settle_roll-requires c = sym c.read_file.ensures ∙ c.in-Faultless.is
+settle_roll-requires g c = sym c.read_file.ensures ∙ c.in-Faultless.is

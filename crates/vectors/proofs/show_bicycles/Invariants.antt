@@ -5,7 +5,7 @@ use Rattle.statement.specs.Reading.{count_in}
 use Rattle.vectors.proofs.show_bicycles.Given as goal
 
 abbrev pub invariant-loop-i : goal.invariant-loop-i
-invariant-loop-i l = (i ≤ l.i) × (l.i ≡ count_in l.statement l.place)
+invariant-loop-i g l = (l.i ≤ l.i-end) × (l.i-end ≡ count_in l.statement l.place)
 
 abbrev pub decreases-loop-i : goal.decreases-loop-i
-decreases-loop-i l = l.i - i
+decreases-loop-i g l = l.i-end - l.i

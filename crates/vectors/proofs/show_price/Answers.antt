@@ -6,13 +6,13 @@ use Rattle.roll.proofs.Fresh.{fresh_in}
 use Rattle.vectors.proofs.show_price.Goals as goal
 
 pub decide-requires : goal.decide-requires
-decide-requires c = record { read = sym c.read_file.ensures ∙ c.in-Faultless.is; sound_book = fresh_in _ }
+decide-requires g c = record { read = sym c.read_file.ensures ∙ c.in-Faultless.is; sound_book = fresh_in _ }
 
 pub tariff_in-requires : goal.tariff_in-requires
-tariff_in-requires c = sym c.read_file.ensures ∙ c.in-Faultless.is
+tariff_in-requires g c = sym c.read_file.ensures ∙ c.in-Faultless.is
 
 pub show_rides-requires : goal.show_rides-requires
-show_rides-requires c =
+show_rides-requires g c =
     let read = sym c.read_file.ensures ∙ c.in-Faultless.is in
     let decision = sym c.decide.ensures ∙ c.in-Clear.is in
     let clear = all_clear _ _ _ _ _ _ _ _ (record { read = read; sound_book = fresh_in _ }) decision in

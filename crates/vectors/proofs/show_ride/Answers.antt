@@ -3,7 +3,7 @@ use Rattle.vectors.proofs.Priced.{priceable}
 use Rattle.vectors.proofs.show_ride.Goals as goal
 
 pub price-adult-requires : goal.price-adult-requires
-price-adult-requires c = let (read, is) = c.requires in priceable _ _ _ _ read is c.area-here.ensures
+price-adult-requires g c = let (read, is) = c.requires in priceable _ _ _ _ read is c.area-here.ensures
 
 pub price-child-requires : goal.price-child-requires
-price-child-requires c = let (read, is) = c.requires in priceable _ _ _ _ read is c.area-here.ensures
+price-child-requires g c = let (read, is) = c.requires in priceable _ _ _ _ read is c.area-here.ensures

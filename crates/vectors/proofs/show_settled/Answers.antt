@@ -3,6 +3,6 @@ use Rattle.roll.proofs.Outcomes.{settled_readable}
 use Rattle.vectors.proofs.show_settled.Goals as goal
 
 pub show_records-requires : goal.show_records-requires
-show_records-requires c =
+show_records-requires g c =
     let entered = c.args in
     settled_readable entered.file.now entered.book.now entered.trip.now _ c.settle.ensures c.in-Written.is

@@ -5,16 +5,16 @@ use Rattle.salvage_roll.proofs.Pieces.{nothing_came, more_came, none_came}
 use Rattle.salvage_roll.proofs.input.read_roll.Goals as goal
 
 pub loop-bytes-init : goal.loop-bytes-init
-loop-bytes-init c = (nothing_came c.args.room.now, omega arith)
+loop-bytes-init g c = (nothing_came c.args.room.now, omega arith)
 
 pub returns-then-got : goal.returns-then-got
-returns-then-got c = none_came c.loop-bytes.invariant.0 c.read_next-got.ensures (omega arith)
+returns-then-got g c = none_came c.loop-bytes.invariant.0 c.read_next-got.ensures (omega arith)
 
 pub loop-bytes-preserved : goal.loop-bytes-preserved
-loop-bytes-preserved c = (more_came c.loop-bytes.invariant.0 c.read_next-got.ensures (omega arith), omega arith)
+loop-bytes-preserved g c = (more_came c.loop-bytes.invariant.0 c.read_next-got.ensures (omega arith), omega arith)
 
 pub returns-after-loop-bytes : goal.returns-after-loop-bytes
-returns-after-loop-bytes c = c.loop-bytes.invariant.0
+returns-after-loop-bytes g c = c.loop-bytes.invariant.0
 
 pub returns-then-got-eq0 : goal.returns-then-got-eq0
-returns-then-got-eq0 c = none_came c.loop-bytes.invariant.0 c.read_next-got.ensures (omega arith)
+returns-then-got-eq0 g c = none_came c.loop-bytes.invariant.0 c.read_next-got.ensures (omega arith)

@@ -9,22 +9,22 @@ use Rattle.settle_roll.proofs.Turns.{on_by, writing_by, last_by, counting_by, co
 use Rattle.settle_roll.proofs.run.settle_all.Goals as goal
 
 pub loop-on-init : goal.loop-on-init
-loop-on-init c = (c.requires.0.running, refl, c.requires.1)
+loop-on-init g c = (c.requires.0.running, refl, c.requires.1)
 
 pub take_step-requires : goal.take_step-requires
-take_step-requires c = let now = c.loop-on.invariant in (now.0, now.2)
+take_step-requires g c = let now = c.loop-on.invariant in (now.0, now.2)
 
 pub loop-on-smaller-in-On : goal.loop-on-smaller-in-On
-loop-on-smaller-in-On c =
+loop-on-smaller-in-On g c =
     let onward : InRange most_turn c.in-On.on.flow
-    × (left records_left c.in-On.on.flow (record { book = c.take_step.new.1.1.0; tally = c.in-On.on.tally })
+    × (left records_left c.in-On.on.flow (record { book = c.take_step.new.book; tally = c.in-On.on.tally })
     < left records_left c.loop-on.run.flow (record { book = c.loop-on.book; tally = c.loop-on.run.tally })) = on_by _ _ c.take_step.ensures.advanced c.in-On.is in
     onward.1
 
 pub loop-on-preserved-in-On : goal.loop-on-preserved-in-On
-loop-on-preserved-in-On c =
+loop-on-preserved-in-On g c =
     let onward : InRange most_turn c.in-On.on.flow
-    × (left records_left c.in-On.on.flow (record { book = c.take_step.new.1.1.0; tally = c.in-On.on.tally })
+    × (left records_left c.in-On.on.flow (record { book = c.take_step.new.book; tally = c.in-On.on.tally })
     < left records_left c.loop-on.run.flow (record { book = c.loop-on.book; tally = c.loop-on.run.tally })) = on_by _ _ c.take_step.ensures.advanced c.in-On.is in
     let sizes = c.loop-on.invariant.0.sizes in
     let step = c.take_step in (
@@ -39,26 +39,26 @@ loop-on-preserved-in-On c =
     )
 
 pub write-requires : goal.write-requires
-write-requires c =
+write-requires g c =
     let written : (c.in-Write.end ≤ output_size)
     × (InRange most_turn c.in-Write.on.flow
-    × (left records_left c.in-Write.on.flow (record { book = c.take_step.new.1.1.0; tally = c.in-Write.on.tally })
+    × (left records_left c.in-Write.on.flow (record { book = c.take_step.new.book; tally = c.in-Write.on.tally })
     < left records_left c.loop-on.run.flow (record { book = c.loop-on.book; tally = c.loop-on.run.tally }))) = writing_by _ _ c.take_step.ensures.advanced c.in-Write.is in
     omega (arith, written.0, c.loop-on.invariant.0.sizes.of_out)
 
 pub loop-on-smaller : goal.loop-on-smaller
-loop-on-smaller c =
+loop-on-smaller g c =
     let written : (c.in-Write.end ≤ output_size)
     × (InRange most_turn c.in-Write.on.flow
-    × (left records_left c.in-Write.on.flow (record { book = c.take_step.new.1.1.0; tally = c.in-Write.on.tally })
+    × (left records_left c.in-Write.on.flow (record { book = c.take_step.new.book; tally = c.in-Write.on.tally })
     < left records_left c.loop-on.run.flow (record { book = c.loop-on.book; tally = c.loop-on.run.tally }))) = writing_by _ _ c.take_step.ensures.advanced c.in-Write.is in
     written.1.1
 
 pub loop-on-preserved : goal.loop-on-preserved
-loop-on-preserved c =
+loop-on-preserved g c =
     let written : (c.in-Write.end ≤ output_size)
     × (InRange most_turn c.in-Write.on.flow
-    × (left records_left c.in-Write.on.flow (record { book = c.take_step.new.1.1.0; tally = c.in-Write.on.tally })
+    × (left records_left c.in-Write.on.flow (record { book = c.take_step.new.book; tally = c.in-Write.on.tally })
     < left records_left c.loop-on.run.flow (record { book = c.loop-on.book; tally = c.loop-on.run.tally }))) = writing_by _ _ c.take_step.ensures.advanced c.in-Write.is in
     let inv = c.loop-on.invariant in
     let sizes = inv.0.sizes in
@@ -74,19 +74,4 @@ loop-on-preserved c =
     )
 
 pub write-requires-in-Last : goal.write-requires-in-Last
-write-requires-in-Last c = omega (arith, last_by _ _ c.take_step.ensures.advanced c.in-Last.is, c.loop-on.invariant.0.sizes.of_out)
-
-pub shape_of-input-then-not-write : goal.shape_of-input-then-not-write
-shape_of-input-then-not-write c = omega (arith, c.requires.0.running.sizes.of_input)
-
-pub shape_of-out-then-not-write : goal.shape_of-out-then-not-write
-shape_of-out-then-not-write c = omega (arith, c.requires.0.running.sizes.of_out)
-
-pub shape_of-statement-then-not-write : goal.shape_of-statement-then-not-write
-shape_of-statement-then-not-write c = omega (arith, c.requires.1)
-
-pub returns-then-not-write : goal.returns-then-not-write
-returns-then-not-write c = tt
-
-pub returns-in-Last : goal.returns-in-Last
-returns-in-Last c = tt
+write-requires-in-Last g c = omega (arith, last_by _ _ c.take_step.ensures.advanced c.in-Last.is, c.loop-on.invariant.0.sizes.of_out)

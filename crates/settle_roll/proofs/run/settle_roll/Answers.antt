@@ -5,14 +5,14 @@ use Rattle.settle_roll.proofs.Turns.{begins}
 use Rattle.settle_roll.proofs.run.settle_roll.Goals as goal
 
 pub settle_all-requires : goal.settle_all-requires
-settle_all-requires c =
+settle_all-requires g c =
     let fresh = c.fresh_book-book.ensures in
     let header = c.put_header-end in (
       record {
         running =
             record {
               ready = record { read = c.requires; sound_book = fresh.sound_book _ };
-              sizes = record { of_input = search rules; of_out = header.auto.0 };
+              sizes = record { of_input = search rules; of_out = header.auto.out };
               range = record { order = omega arith; inside = omega arith; room_left = omega (arith, header.ensures.room) };
               counting = record { few = omega arith; cents = omega arith };
             };

@@ -4,7 +4,7 @@ use Rattle.settle_roll.proofs.Turns.{room_for_more, asked_on, still_counting, fi
 use Rattle.settle_roll.proofs.run.take_step.Goals as goal
 
 pub read_more-requires : goal.read_more-requires
-read_more-requires c =
+read_more-requires g c =
     let turned = c.take_turn in
     let room = room_for_more c.args.input.now c.requires.0.range c.requires.0.sizes.of_input turned.ensures c.in-More.is in
     record {
@@ -15,17 +15,17 @@ read_more-requires c =
     }
 
 pub overflow_add-on : goal.overflow_add-on
-overflow_add-on c =
+overflow_add-on g c =
     let turned = c.take_turn in
     omega (arith, c.requires.0.range.inside, fits c.args.input.now c.requires.0.range c.requires.0.sizes.of_input turned.ensures c.in-On.is)
 
 pub make_room-requires : goal.make_room-requires
-make_room-requires c =
+make_room-requires g c =
     let turned = c.take_turn in
     (on_inside c.args.input.now c.requires.0.range c.requires.0.sizes.of_input turned.ensures c.in-On.is, omega arith)
 
 pub returns-in-More : goal.returns-in-More
-returns-in-More c =
+returns-in-More g c =
     let turned = c.take_turn in
     let read = c.read_more in
     rw c.go_on.ensures
@@ -36,7 +36,7 @@ returns-in-More c =
     })
 
 pub returns-in-On : goal.returns-in-On
-returns-in-On c =
+returns-in-On g c =
     let turned = c.take_turn in
     let made = c.make_room in
     rw c.go_on-in-On.ensures
@@ -47,6 +47,6 @@ returns-in-On c =
     })
 
 pub returns-in-Over : goal.returns-in-Over
-returns-in-Over c =
+returns-in-Over g c =
     let turned = c.take_turn in
     record { again = turned.ensures.again; counting = tt; advanced = over c.args.input.now c.requires.0.range c.requires.0.sizes.of_input turned.ensures c.in-Over.is }

@@ -1,6 +1,5 @@
 -- `input::keep` meets its contract. The loop's invariant: the first `i` bytes are moved, and the others stand where they stood. The measure is
 -- the bytes that are left to move.
-use Prim.Native.Nat.{◌-◌}
 use native.Mathlib.Omega.{arith}
 use lib.ListN.{length-set}
 use Rattle.streams.proofs.Moves.{none_moved, one_moved, all_moved}

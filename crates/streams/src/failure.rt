@@ -1,0 +1,11 @@
+// What is told of a read or a write that failed.
+use std::io::Error;
+
+// A line on standard error: what failed, and why. Where no line can be written there either, nothing is told.
+pub fn tell(rt: &impl Eprint, what: &[u8], error: Error) {
+    let what = match str::from_utf8(what) {
+        Ok(text) => text,
+        Err(_) => "a file",
+    };
+    let _ = eprintln!(rt; "{what}: {error}");
+}
