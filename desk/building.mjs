@@ -5,7 +5,7 @@ import path from 'node:path';
 import { createInterface } from 'node:readline';
 
 /** The path of milecopper.wasm, built where it is not there or not of this state; null where that failed. */
-export const builtWasm = (root, words, tell) => built(root, 'wasm', 'milecopper', words, tell);
+export const builtWasm = (root, words, tell) => built(root, 'wasm', 'milecopper_c', words, tell);
 
 /** The path of the program that salvages rolls, likewise. */
 export const builtSalvager = (root, words, tell) => built(root, 'salvager', 'salvage_roll', words, tell);
@@ -20,17 +20,19 @@ async function built(root, what, crate, words, tell) {
     return status === 0 ? lines.at(-1) : null;
 }
 
-/** Proves the crates, which takes the time, and tells of each as it is proved, with the time since the start. Whether it went well, the building shows. */
+/**
+ * Proves the crates, which takes the time, and tells of each as it is proved, with the time since the start. Each comes behind those that it stands on,
+ * and nothing is said of one that is proved already. Whether it went well, the building shows.
+ */
 async function proved(root, due, words, tell) {
-    const all = cratesBelow(root, due).length;
+    const all = cratesBelow(root, due);
     const start = Date.now();
-    let crate = 0;
+    let crate = null;
     tell(words.building);
-    await run(root, 'rt', ['check', due], 'ignore', (line) => {
-        const found = /^rt: (\S+) proved \((unchanged)?/.exec(line);
-        if (!found) return;
-        crate += 1;
-        if (!found[2]) tell(`${minutesSince(start)} ${words.proved(crate, all, found[1])}`);
+    await run(path.join(root, 'crates', due), 'rt', ['check'], 'ignore', (line) => {
+        crate = /^rt: chose --jobs \S+ for (\S+)$/.exec(line)?.[1] ?? crate;
+        if (!line.startsWith('logic=proved ') || !all.includes(crate)) return;
+        tell(`${minutesSince(start)} ${words.proved(all.indexOf(crate) + 1, all.length, crate)}`);
     });
 }
 
@@ -40,16 +42,17 @@ function minutesSince(start) {
     return `${Math.floor(seconds / 60)}:${String(seconds % 60).padStart(2, '0')}`;
 }
 
-/** A crate and all that it stands on, but for the toolchain's own libraries: crates.txt has each below those. */
-function cratesBelow(root, name) {
-    const [due, found] = [new Set([name]), []];
-    const lines = fs.readFileSync(path.join(root, 'crates.txt'), 'utf8').split('\n').reverse();
-    for (const line of lines) {
-        const [crate, ...below] = line.split(/[: ]+/).filter(Boolean);
-        if (!due.has(crate)) continue;
-        found.push(crate);
-        for (const other of below) due.add(other);
-    }
+/** A crate and all that it stands on, but for the toolchain's own libraries, each behind those that it stands on itself: so they are proved. */
+function cratesBelow(root, due) {
+    const lines = fs.readFileSync(path.join(root, 'crates.txt'), 'utf8').split('\n').filter((line) => /^[a-z]/.test(line));
+    const crates = new Map(lines.map((line) => line.split(':').map((part) => part.split(/\s+/).filter(Boolean))).map(([[name], below]) => [name, below]));
+    const found = [];
+    const put = (name) => {
+        if (!crates.has(name) || found.includes(name)) return;
+        for (const other of crates.get(name)) put(other);
+        found.push(name);
+    };
+    put(due);
     return found;
 }
 

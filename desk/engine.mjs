@@ -20,7 +20,7 @@ export const LONGEST_RECORD_BYTES = 1026;
 // The library's memory is one page that cannot grow, and a slice may be of any length. So at most these first bytes of
 // each are copied and their number given as its length. They decide: the answer is that of the whole slice.
 const DECIDING_BYTES = {
-    // Proved, `first-file-decides` in crates/editions/proofs/Lengths.antt: the largest tariff and one record too many.
+    // Proved, `first_file_decides` in crates/editions/proofs/Lengths.antt: the largest tariff and one record too many.
     tariff: LARGEST_TARIFF_BYTES + LONGEST_RECORD_BYTES,
     // A book of another length is refused whatever it holds.
     book: BOOK_BYTES + 1,

@@ -7,17 +7,20 @@ import { builtWasm } from '../building.mjs';
 
 const WORDS = { building: 'building', proved: (crate, all, name) => `${crate} of ${all}: ${name}` };
 
+const PROVED = ['building', '0:00 2 of 4: wire', '0:00 3 of 4: milecopper', '0:00 4 of 4: milecopper_c'];
+
 /** A checkout with stand-ins for the prover and the builder. */
 function checkout(built) {
     const root = fs.mkdtempSync(path.join(os.tmpdir(), 'build-'));
     const script = (name, text) => fs.writeFileSync(path.join(root, name), `#!/bin/sh\n${text}\n`, { mode: 0o755 });
-    const crates = ['# NAME: what it stands on', 'units:', 'wire: units', 'other: units', 'milecopper: wire', ''];
+    const crates = ['# NAME: what it stands on', 'units:', 'wire: units', 'other: units', 'milecopper: wire', 'milecopper_c staticlib: milecopper', ''];
     fs.writeFileSync(path.join(root, 'crates.txt'), crates.join('\n'));
-    for (const name of ['host', 'crates/units/src']) fs.mkdirSync(path.join(root, name), { recursive: true });
+    for (const name of ['host', 'crates/units/src', 'crates/milecopper_c/src']) fs.mkdirSync(path.join(root, name), { recursive: true });
     fs.writeFileSync(path.join(root, 'crates/units/src/lib.rt'), '');
     fs.mkdirSync(path.join(root, 'target/native'), { recursive: true });
-    const lines = ['units proved (unchanged since it was last proved)', 'wire proved (8 s)', 'milecopper proved (1 s)'];
-    script('rt', lines.map((line) => `echo 'rt: ${line}'`).join('\n'));
+    // units is proved already
+    const lines = ['wire', 'milecopper', 'milecopper_c'].flatMap((name) => [`rt: chose --jobs 2 for ${name}`, `fn ${name}::one: proved`, 'logic=proved functions=1']);
+    script('rt', ['[ "${PWD##*/} $1" = "milecopper_c check" ] || exit 1', ...lines.map((line) => `echo '${line}'`)].join('\n'));
     script('host/built', built);
     return root;
 }
@@ -41,7 +44,7 @@ const builder = (had, status) =>
 test('the first time each crate that is proved is told, of how many', async () => {
     assert.deepEqual(await told(checkout(builder(3, 0))), {
         wasm: '/some/milecopper.wasm',
-        lines: ['building', '0:00 2 of 3: wire', '0:00 3 of 3: milecopper'],
+        lines: PROVED,
     });
 });
 
@@ -52,6 +55,6 @@ test('where it is there, nothing is told and nothing proved, and no prover is as
 });
 
 test('where it is not of this state, it is told again; and a building that fails gives nothing', async () => {
-    assert.deepEqual((await told(checkout(builder(3, 0)))).lines, ['building', '0:00 2 of 3: wire', '0:00 3 of 3: milecopper']);
+    assert.deepEqual((await told(checkout(builder(3, 0)))).lines, PROVED);
     assert.equal((await told(checkout(builder(3, 1)))).wasm, null);
 });

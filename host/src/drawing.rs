@@ -44,7 +44,10 @@ pub fn drawing_of(crates: &str, is_program: &dyn Fn(&str) -> bool) -> String {
 /// Each crate's name, and those that it uses, by their places in the list; the toolchain's own are left out.
 fn read(crates: &str) -> (Vec<&str>, Vec<Vec<usize>>) {
     let lines = crates.lines().filter(|line| !line.starts_with('#'));
-    let parted: Vec<(&str, &str)> = lines.filter_map(|line| line.split_once(':')).collect();
+    // a static library has a word behind its name
+    let parted = lines.filter_map(|line| line.split_once(':'));
+    let parted: Vec<(&str, &str)> =
+        parted.map(|(name, below)| (name.split_whitespace().next().unwrap_or_default(), below)).collect();
     let names: Vec<&str> = parted.iter().map(|(name, _)| *name).collect();
     let place = |name: &str| names.iter().position(|other| *other == name);
     let uses = parted.iter().map(|(_, below)| below.split_whitespace().filter_map(place).collect()).collect();

@@ -23,7 +23,7 @@ fn entries(words: &[&str]) -> Vec<(&'static str, Vec<u32>)> {
 /// The date from which the file's one edition is valid.
 fn date() -> Vec<u32> {
     let numbers =
-        CASES.lines().find_map(|line| line.strip_prefix("sample = openingBytes ")?.strip_suffix(" ++ sampleTariff"));
+        CASES.lines().find_map(|line| line.strip_prefix("sample = opening_bytes ")?.strip_suffix(" ++ sample_tariff"));
     numbers.expect("the sample's opening").split(' ').map(|number| number.parse().expect("a number")).collect()
 }
 
@@ -45,7 +45,7 @@ fn record(kind: u8, widths: &[usize], fields: &[u32]) -> Vec<u8> {
 fn area(word: &str, fields: &[u32]) -> Vec<u8> {
     let all = [&fields[..5], &[50, 50], &fields[5..]].concat();
     match word {
-        "sampleArea" => record(1, &AREA, &all),
+        "sample_area" => record(1, &AREA, &all),
         _ => record(8, &[&AREA[..], &MORE[..]].concat(), &all),
     }
 }
@@ -53,9 +53,9 @@ fn area(word: &str, fields: &[u32]) -> Vec<u8> {
 #[test]
 fn the_proved_sample_is_the_file() {
     let opening = record(9, &DATE, &date());
-    let areas = entries(&["sampleArea", "aachenArea"]).into_iter().map(|(word, fields)| area(word, &fields));
-    let factors = entries(&["sampleFactor"]).into_iter().map(|(_, fields)| record(5, &FACTOR, &fields));
-    let stops = entries(&["sampleStop"]).into_iter().map(|(_, fields)| record(2, &STOP, &fields));
+    let areas = entries(&["sample_area", "aachen_area"]).into_iter().map(|(word, fields)| area(word, &fields));
+    let factors = entries(&["sample_factor"]).into_iter().map(|(_, fields)| record(5, &FACTOR, &fields));
+    let stops = entries(&["sample_stop"]).into_iter().map(|(_, fields)| record(2, &STOP, &fields));
     let bytes: Vec<u8> = [opening].into_iter().chain(areas).chain(factors).chain(stops).flatten().collect();
     assert_eq!(bytes, SAMPLE);
 }

@@ -22,6 +22,8 @@ fn a_line_that_follows_from_others_is_left_out() {
     assert_eq!([drawing.matches("<path").count(), drawing.matches("<text").count()], [2, 3]);
     let twice = drawn("units:\nwire:\nlayout: units wire\n");
     assert_eq!([twice.matches("<path").count(), twice.matches("<text").count()], [2, 3]);
+    let static_library = drawn("units:\nfor_c staticlib: units\n");
+    assert_eq!([static_library.matches("<path").count(), static_library.matches(">for_c<").count()], [1, 1]);
 }
 
 #[test]
@@ -31,7 +33,7 @@ fn the_table_has_every_crate() {
     let rows = table.lines().take_while(|line| line.starts_with('|')).filter_map(|line| line.strip_prefix("| `"));
     let told: BTreeSet<&str> = rows.filter_map(|row| row.split('`').next()).collect();
     let crates = include_str!("../../crates.txt").lines().filter(|line| !line.starts_with('#'));
-    let due: BTreeSet<&str> = crates.filter_map(|line| line.split(':').next()).collect();
+    let due: BTreeSet<&str> = crates.filter_map(|line| line.split([' ', ':']).next()).collect();
     let apart: Vec<&&str> = due.symmetric_difference(&told).collect();
     assert!(apart.is_empty(), "only one of crates.txt and CONTRIBUTING.md has these crates: {apart:?}");
 }
