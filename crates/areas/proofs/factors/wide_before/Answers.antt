@@ -1,6 +1,6 @@
 -- `areas::factors::wide_before` meets its contract. The loop's invariant: it has counted the areas before `i`, and the place is that of area
 -- `i`. The measure is the areas left.
-use Prim.Native.Nat.{◌-◌, ◌≤◌}
+use Prim.Native.Nat.{◌≤◌}
 use native.Mathlib.Omega.{arith}
 use mathlib.Core.Path.{◌≡◌, sym}
 use lib.ListN.{length}

@@ -1,6 +1,6 @@
 -- `kilometres::first_enough` meets its contract: the number stays one that is not enough, and the loop ends where one more is. What is not enough
 -- is below 1,415, and the measure is what is left up to there.
-use Prim.Native.Nat.{◌+◌, ◌-◌}
+use Prim.Native.Nat.{◌+◌}
 use native.Mathlib.Omega.{arith}
 use Rattle.fare.proofs.Distance.{fits, short_range, first_reached}
 use Rattle.fare.proofs.kilometres.first_enough.Goals as goal

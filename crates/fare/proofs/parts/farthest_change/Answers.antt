@@ -8,8 +8,7 @@ use Rattle.fare.proofs.parts.farthest_change.Goals as goal
 use Rattle.fare.proofs.parts.farthest_change.Goals.{then-far-next, else-far-next}
 
 pub loop-i-init : goal.loop-i-init
-loop-i-init c =
-    (
+loop-i-init c = (
   omega arith,
   (
     omega arith,

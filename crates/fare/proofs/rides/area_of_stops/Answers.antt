@@ -1,6 +1,5 @@
 -- At each turn the area is the smallest that contains the stops from the first to the one just taken; one stop more, and it is the
 -- smallest that contains the area so far and that stop.
-use Prim.Native.Nat.{◌-◌}
 use native.Mathlib.Omega.{arith}
 use mathlib.Core.Path.{◌≡◌, subst}
 use Rattle.fare.specs.Rides.{AreaOfStops}

@@ -1,5 +1,5 @@
 -- After i turns the first i pairs have second-class sums and gaps of no more than those with their bits put together.
-use Rattle.std.proofs.Common.{◌-◌, arith}
+use Rattle.std.proofs.Common.{arith}
 use mathlib.Core.Bool.{false≢true}
 use Rattle.ledger.proofs.GapLaws.{gaps_start, gaps_turn, gaps_end}
 use Rattle.ledger.proofs.gaps.pairs_clear.Goals as goal

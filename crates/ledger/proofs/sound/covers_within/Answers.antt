@@ -1,6 +1,6 @@
 -- `ledger::sound::covers_within` meets its contract: after i turns the flag says whether the first i bicycle words are right, and each turn is
 -- one test more.
-use Rattle.std.proofs.Common.{ℕ, ◌-◌, leb, sym, ap, ◌∙◌, arith}
+use Rattle.std.proofs.Common.{ℕ, leb, sym, ap, ◌∙◌, arith}
 use Rattle.wire.proofs.Each.{each_none}
 use Rattle.ledger.specs.Words.{word}
 use Rattle.ledger.specs.Sound.{covers_sound}

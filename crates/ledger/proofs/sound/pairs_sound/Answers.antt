@@ -1,5 +1,5 @@
 -- `ledger::sound::pairs_sound` meets its contract: where the fast way says so, all pairs are right; else after i turns the flag says whether the first i pairs are right, and each turn is one pair more.
-use Rattle.std.proofs.Common.{◌-◌, sym, arith}
+use Rattle.std.proofs.Common.{sym, arith}
 use Rattle.wire.proofs.Each.{each_none}
 use Rattle.ledger.specs.Words.{pairs}
 use Rattle.ledger.specs.Sound.{pairs_sound}
@@ -13,8 +13,7 @@ pub loop-i-init : goal.loop-i-init
 loop-i-init c = (omega arith, sym (each_none (pair_right c.args.book.now c.args.most)))
 
 pub loop-i-preserved : goal.loop-i-preserved
-loop-i-preserved c =
-    (
+loop-i-preserved c = (
   omega arith,
   one_pair_more c.args.book.now _ _ _ _ _ _ c.loop-i.invariant.1
       c.pair_at-place.ensures.0

@@ -1,6 +1,6 @@
 -- `ledger::sound::payments_sound` meets its contract: after i turns the flag says whether the first i payments are right, and each turn is
 -- one test more.
-use Rattle.std.proofs.Common.{ℕ, ◌-◌, leb, sym, ap, ◌∙◌, arith}
+use Rattle.std.proofs.Common.{ℕ, leb, sym, ap, ◌∙◌, arith}
 use Rattle.wire.proofs.Each.{each_none}
 use Rattle.ledger.specs.Words.{word}
 use Rattle.ledger.specs.Sound.{most_paid, payments_sound}

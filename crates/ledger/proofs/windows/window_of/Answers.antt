@@ -21,8 +21,7 @@ pub overflow_add-opening : goal.overflow_add-opening
 overflow_add-opening c = omega (arith, opening_most _ c.requires.0, c.get-opening.ensures.value)
 
 pub returns-then-trips-checkout : goal.returns-then-trips-checkout
-returns-then-trips-checkout c =
-    (
+returns-then-trips-checkout c = (
   same_window _ _ _ _ _ _ c.get-trips.ensures.value c.get-opening.ensures.value _
       c.get-edition.ensures.value
       c.if-trips-checkout.true,
@@ -30,8 +29,7 @@ returns-then-trips-checkout c =
 )
 
 pub returns-else-trips-checkout : goal.returns-else-trips-checkout
-returns-else-trips-checkout c =
-    (
+returns-else-trips-checkout c = (
   next_window _ _ _ _ _ _ c.get-trips.ensures.value c.get-opening.ensures.value c.if-trips-checkout.false,
   omega arith,
 )
