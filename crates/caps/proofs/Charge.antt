@@ -9,8 +9,8 @@ use mathlib.Core.Logic.{⊎_elim}
 use mathlib.Core.Bool.{true}
 use borrow.Author.Tests.{ne_eqb}
 use Rattle.caps.specs.declared.Caps.{Caps}
-use Rattle.caps.specs.Limits.{capped_here, AtMost, Left}
-use Rattle.caps.specs.Tree.{fold_up, Tree, IsTree, climb, within, charge_in, SmallestLeft}
+use Rattle.caps.specs.Limits.{capped_here, AtMost}
+use Rattle.caps.specs.Tree.{fold_up, Tree, IsTree, within, charge_in, SmallestLeft}
 use Rattle.caps.proofs.OneArea.{Fills, less_left, here_most, here_left, here_greatest, here_full, here_again}
 use Rattle.caps.proofs.Climb.{fold_related, upwards, climb_top, climb_up, climb_past, within_self, within_parent, top_alone, within_cases}
 

@@ -9,7 +9,7 @@ use mathlib.Core.Path.{◌≡◌, refl, sym, ap, subst, ◌∙◌}
 use mathlib.Core.Logic.{◌⊎◌, inl, inr, ⊎_elim}
 use mathlib.Core.Bool.{Bool, true, false, cond}
 use borrow.Author.Tests.{eq-eqb, ne_eqb, eqb-true, le-leb, lt-leb}
-use lib.Dec.{eqb, leb}
+use lib.Dec.{eqb}
 use Rattle.units.specs.Caps.{capped_by}
 use Rattle.units.specs.declared.Cap.{Cap}
 use Rattle.units.specs.declared.Cap.TheVariants.{NoCap, UpTo}
@@ -17,7 +17,7 @@ use Rattle.caps.specs.declared.Caps.{Caps}
 use Rattle.caps.specs.declared.Name.{Name}
 use Rattle.caps.specs.declared.Rest.{Rest}
 use Rattle.caps.specs.Limits.{left_of, capped_here, AtMost, Left}
-use Rattle.caps.specs.Tree.{fold_up, Tree, IsTree, climb, charge_in}
+use Rattle.caps.specs.Tree.{fold_up, Tree, IsTree, charge_in}
 use Rattle.caps.specs.Named.{no_name, leaves, named_here, name_in}
 use Rattle.caps.specs.Clauses.{rest_under, limit_of, LeftBy, rest_with, RestWith, rest_here, uncapped_at, name_of}
 use Rattle.caps.proofs.OneArea.{fits_capped, less_left, here_most, here_left}

@@ -16,21 +16,7 @@ use Rattle.caps.specs.declared.Caps.{Caps}
 use Rattle.caps.specs.declared.Name.{Name}
 use Rattle.caps.specs.Limits.{left_of, AtMost, Full, Left}
 use Rattle.caps.specs.Tree.{Tree, IsTree, climb, within, charge_in}
-use Rattle.caps.specs.Named.{
-  no_name,
-  leaves,
-  named_here,
-  name_in,
-  CapHere,
-  all_classes,
-  second_class,
-  CapLeft,
-  NamedCap,
-  cap_named,
-  sum_named,
-  Passed,
-  FullOrPassed,
-}
+use Rattle.caps.specs.Named.{no_name, leaves, named_here, name_in, CapHere, all_classes, second_class, CapLeft, NamedCap, cap_named, sum_named, FullOrPassed}
 use Rattle.caps.proofs.Climb.{
   upwards,
   climb_top,

@@ -6,8 +6,8 @@ use Rattle.units.specs.Day.{day_minutes}
 use Rattle.calendar.specs.Stamps.{is_date, is_clock, local_minute}
 use Rattle.calendar.specs.declared.Stamp.{Stamp}
 use Rattle.trip.specs.declared.Party.{Party}
-use Rattle.trip.specs.Record.{body_size, checkin_place, checkout_place, class_at, level_at, party_at, count_at, stop_number}
-use Rattle.trip.specs.Moments.{stamp_at, checkin_of, checkout_of}
+use Rattle.trip.specs.Record.{body_size, checkin_place, checkout_place, count_at, stop_number}
+use Rattle.trip.specs.Moments.{stamp_at}
 
 -- no trip record at a place: frame broken, kind not 7, body under 20 or not 20 + 2n
 pub data NoTripAt (b : List ℕ) (at : ℕ) : Type 0 where

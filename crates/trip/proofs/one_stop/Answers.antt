@@ -1,6 +1,5 @@
 -- `trip::one_stop` meets its contract. The loop's invariant: the answer so far is the test of the stops passed. The measure is the
 -- stops left.
-use Prim.Native.Nat.{◌-◌}
 use native.Mathlib.Omega.{arith}
 use mathlib.Core.Path.{◌≡◌, sym}
 use Rattle.trip.proofs.Known.{one_none, one_more}

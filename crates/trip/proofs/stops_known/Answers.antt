@@ -1,6 +1,5 @@
 -- `trip::stops_known` meets its contract. The loop's invariant: the answer so far is the test of the stops passed. The measure is the
 -- stops left.
-use Prim.Native.Nat.{◌-◌}
 use native.Mathlib.Omega.{arith}
 use mathlib.Core.Path.{◌≡◌, sym}
 use Rattle.trip.proofs.Known.{known_none, known_more}

@@ -1,6 +1,5 @@
 -- `behind::put_text` meets its contract. The loop's invariant: behind the place stand the text's first `i` bytes. The measure is the bytes
 -- that are left to put.
-use Prim.Native.Nat.{◌-◌}
 use native.Mathlib.Omega.{arith}
 use mathlib.Core.Path.{◌≡◌}
 use lib.ListN.{length, length-set}

@@ -1,6 +1,6 @@
 -- `digits::put_before` meets its contract. The loop's invariant: the digits that are left, in front of those that stand, are the number's, and
 -- there is a place for each. The measure is the place.
-use Prim.Native.Nat.{◌+◌, ◌-◌, ◌/◌, ◌%◌, ◌<◌}
+use Prim.Native.Nat.{◌+◌, ◌/◌, ◌%◌, ◌<◌}
 use native.Mathlib.Omega.{arith}
 use mathlib.Core.Path.{refl, sym, ap, ◌∙◌}
 use mathlib.Core.List.{◌++◌}

@@ -1,6 +1,6 @@
 -- `digits::put_long_before` is safe, and puts 21 digits at most. The loop's invariant: what is left has no more digits than there are places left
 -- of twenty, and eleven places at most are taken, since what is put here does not fit 32 bits. The measure is the place.
-use Prim.Native.Nat.{◌-◌, ◌<◌}
+use Prim.Native.Nat.{◌<◌}
 use native.Mathlib.Omega.{arith}
 use mathlib.Core.Path.{refl, ◌∙◌}
 use lib.ListN.{length-set}
