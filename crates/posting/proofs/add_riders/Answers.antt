@@ -1,5 +1,4 @@
 -- Each turn adds one rider's charge on the way up, which leaves the sums of the riders to come as they were.
-use Prim.Native.Nat.{◌-◌}
 use native.Mathlib.Omega.{arith}
 use mathlib.Core.Path.{sym, ap, ◌∙◌}
 use Rattle.wire.specs.Number.{get_le}

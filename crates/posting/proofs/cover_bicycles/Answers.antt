@@ -1,6 +1,5 @@
 -- Each turn reads one bicycle's two words and writes them, and leaves those of the bicycles to come as they were. What is held of the bicycle before
 -- is right for its words, so it is right for a bicycle that has the same.
-use Prim.Native.Nat.{◌-◌}
 use native.Mathlib.Omega.{arith}
 use mathlib.Core.Path.{sym, ap, ◌∙◌}
 use lib.ListN.{length}

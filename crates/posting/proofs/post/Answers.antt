@@ -1,13 +1,11 @@
 -- Each step finds what it asks, since the record says what the part is, and the steps before left the words that it speaks of; and the books follow
 -- one another as the definition has them. The loop's invariant: the charges of the groups before the one at hand are added.
-use Prim.Native.Nat.{◌+◌, ◌-◌}
+use Prim.Native.Nat.{◌+◌}
 use native.Mathlib.Omega.{arith}
 use mathlib.Core.Path.{ap, ◌∙◌}
-use Rattle.statement.specs.Record.{Part}
 use Rattle.ledger.proofs.SoundLaws.{fresh_is}
 use Rattle.charging.proofs.ChargeLaws.{ride_book}
-use Rattle.posting.specs.Clauses.{Postable}
-use Rattle.posting.proofs.PostSteps.{no_group, group_more, Said, said, head_inside, group_ready, groups_size, covers_ready, all_posted, record_ends}
+use Rattle.posting.proofs.PostSteps.{no_group, group_more, said, head_inside, group_ready, groups_size, covers_ready, all_posted, record_ends}
 use Rattle.posting.proofs.post.Goals as goal
 
 pub area_at-at-requires : goal.area_at-at-requires
