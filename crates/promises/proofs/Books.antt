@@ -260,7 +260,7 @@ second_or_not tariff counts ride rider area =
     ]
 
 aachen_or_not : (tariff : List ℕ) (counts : Counts) (area : ℕ) → Dec (is_aachen tariff area ≡ true)
-aachen_or_not tariff counts area = go (is_aachen tariff area)
+aachen_or_not tariff _ area = go (is_aachen tariff area)
   where
     go : (aachen : Bool) → Dec (aachen ≡ true)
     go true = yes refl
