@@ -193,8 +193,8 @@ pub head_says :
 unfolding one_more
 head_says [] says some = absurd (omega arith)
 head_says (part ∷ []) (more s none) some = record { trips = s.trips; opening = s.opening; last_out = s.last_out; edition = s.edition }
-head_says (part ∷ next ∷ parts) (more s rest) some =
-    let after = head_says (next ∷ parts) rest (omega arith) in
+head_says {book = book} (part ∷ next ∷ parts) (more {between = between} s rest) some =
+    let after = head_says {book = between} (next ∷ parts) rest (omega arith) in
     record { trips = omega (arith, after.trips); opening = after.opening; last_out = after.last_out; edition = after.edition }
 
 module _ {file book bytes : List ℕ} {room : ℕ} {new : List ℕ} {parts : List Part} (a : AcceptedBy file book bytes room new parts) where
@@ -260,7 +260,7 @@ second_or_not tariff counts ride rider area =
     ]
 
 aachen_or_not : (tariff : List ℕ) (counts : Counts) (area : ℕ) → Dec (is_aachen tariff area ≡ true)
-aachen_or_not tariff counts area = go (is_aachen tariff area)
+aachen_or_not tariff _ area = go (is_aachen tariff area)
   where
     go : (aachen : Bool) → Dec (aachen ≡ true)
     go true = yes refl

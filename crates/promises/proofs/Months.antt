@@ -214,7 +214,9 @@ from_stage {ceiling} {month} {charged} {kept} {book} (call ∷ []) s (held under
     (after_trip charged (found (goes_on kept book call c.is) c.of_month s) c (under c))
 from_stage {ceiling} {month} {charged} {kept} {book} (call ∷ later) s (held under rest) (later_call ends) =
     subst (λ (n : ℕ). Amount ceiling month n (kept_from (kept_by kept book call) (book_by kept book call) later)) (add_assoc charged (adds_to month kept book call) _)
-    (from_stage later (next_stage call s under) rest ends)
+    (from_stage {charged = charged + adds_to month kept book call} {kept = kept_by kept book call} {book = book_by kept book call} later
+    (next_stage call s under) rest ends)
+from_stage [] s always ends = elim ends [ ]
 
 -- fresh, nothing was collected in any month
 fresh_collected : (month : ℕ) → collected_in fresh_kept month ≡ 0

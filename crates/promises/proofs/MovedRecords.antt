@@ -119,10 +119,14 @@ module _ {d : ℕ} {p p' q q' : Part} (m : MovedPart d p p') (n : MovedPart d q 
 later : {d : ℕ} {ps ps' qs qs' : List Part} → MovedParts d ps ps' → MovedParts d qs qs' → SameFields ps qs → SameFields ps' qs'
 later no_part no_part no_fields = no_fields
 later (one_part m ms) (one_part n ns) (then-fields e rest) = then-fields (part_later m n e) (later ms ns rest)
+later no_part (one_part n ns) same = elim same [ ]
+later (one_part m ms) no_part same = elim same [ ]
 
 earlier : {d : ℕ} {ps ps' qs qs' : List Part} → MovedParts d ps ps' → MovedParts d qs qs' → SameFields ps' qs' → SameFields ps qs
 earlier no_part no_part no_fields = no_fields
 earlier (one_part m ms) (one_part n ns) (then-fields e rest) = then-fields (part_earlier m n e) (earlier ms ns rest)
+earlier no_part (one_part n ns) same = elim same [ ]
+earlier (one_part m ms) no_part same = elim same [ ]
 
 -- The records of parts so moved are records so moved.
 pub records_moved :

@@ -117,10 +117,14 @@ module _ (file book trip : List ℕ) (room : ℕ) where
       there : (q : Quote) (o : Outcome) → Made q o → q ≡ unquoted n place → o ≡ refused n place
       there (unquoted m at) (refused m' at') both_refuse e = let same : m ≡ n = cc in let same' : at ≡ place = cc in rw (same, same')
       there (priced parts) (accepted new parts') both_accept e = absurd (let z : ◌≡◌ {A = ℕ} 0 1 = cc in omega arith)
+      there (unquoted m at) (accepted new parts') made' e = elim made' [ ]
+      there (priced parts) (refused m' at') made' e = elim made' [ ]
 
       back : (q : Quote) (o : Outcome) → Made q o → o ≡ refused n place → q ≡ unquoted n place
       back (unquoted m at) (refused m' at') both_refuse e = let same : m ≡ n = cc in let same' : at ≡ place = cc in rw (same, same')
       back (priced parts) (accepted new parts') both_accept e = absurd (let z : ◌≡◌ {A = ℕ} 0 1 = cc in omega arith)
+      back (unquoted m at) (accepted new parts') made' e = elim made' [ ]
+      back (priced parts) (refused m' at') made' e = elim made' [ ]
 
   -- And it tells the parts that settling would charge.
   pub quote_accepts_alike :
@@ -131,10 +135,14 @@ module _ (file book trip : List ℕ) (room : ℕ) where
       there : (q : Quote) (o : Outcome) → Made q o → q ≡ priced parts → (new : List ℕ) × (o ≡ accepted new parts)
       there (unquoted m at) (refused m' at') both_refuse e = absurd (let z : ◌≡◌ {A = ℕ} 0 1 = cc in omega arith)
       there (priced these) (accepted new these') both_accept e = let same : these ≡ parts = cc in (new, rw same)
+      there (unquoted m at) (accepted new these') made' e = elim made' [ ]
+      there (priced these) (refused m' at') made' e = elim made' [ ]
 
       back : (q : Quote) (o : Outcome) → Made q o → (new : List ℕ) → o ≡ accepted new parts → q ≡ priced parts
       back (unquoted m at) (refused m' at') both_refuse new e = absurd (let z : ◌≡◌ {A = ℕ} 0 1 = cc in omega arith)
       back (priced these) (accepted new' these') both_accept new e = let same : these ≡ parts = cc in rw same
+      back (unquoted m at) (accepted new' these') made' new e = elim made' [ ]
+      back (priced these) (refused m' at') made' new e = elim made' [ ]
 
   -- So each of 1 to 12 is given for a quote exactly under its own condition, in the table's order.
   pub quote_refused_exactly : (n place : ℕ) → quoted file book trip room ≡ unquoted n place ↔ RefusedBy file book trip room n place
@@ -424,3 +432,5 @@ in-two-calls file book trip statement {s₁} {b₂} {b₃} {s₃} {r₁} {r₂} 
           posting'.book_is ∙ sym settling'.book_is,
           posting'.answer ∙ new_size file book trip (length statement) is,
         )
+    go (unquoted n place) (accepted new parts') steps is quoting' settling' = elim steps [ ]
+    go (priced parts) (refused n' place') steps is quoting' settling' = elim steps [ ]

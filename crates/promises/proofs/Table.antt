@@ -269,6 +269,7 @@ computed = refl
 on_each : {A B : Type 0} (f g : A → B) (l : List A) → map f l ≡ map g l → (x : A) → Memᴰ x l → f x ≡ g x
 on_each f g (y ∷ l) e x (Memᴰ.head is) = rw is (cc e)
 on_each f g (y ∷ l) e x (Memᴰ.tail there) = on_each f g l (cc e) x there
+on_each f g [] e x there = elim there [ ]
 
 -- Every sum comes out, its trips settled one after another from a fresh book on.
 pub table : (c : Case) → Memᴰ c cases → Holds c
