@@ -8,6 +8,7 @@ ghost use Rattle.print_statement.specs.Clauses.{Running, went_on, StepTaken, Beg
 use csv_table::rows::put_header;
 use csv_table::turns::{ROOM, Turn, take_turn};
 use std::io;
+use std::io::Read;
 use std::process::ExitCode;
 use streams::flow::{Flow, Flowed, INPUT, OUTPUT, make_room, read_more};
 use streams::output::{status_after, write};
@@ -45,7 +46,13 @@ fn go_on(flowed: Flowed, number: u64) -> Next
 }
 
 // A turn, and what it asks for: bytes read, or bytes to be written.
-fn take_step(rt: &(impl Input + Eprint), input: &mut [u8], out: &mut [u8], run: Run) -> Next
+fn take_step<F: Read>(
+    rt: &impl Eprint,
+    stdin: &mut F,
+    input: &mut [u8],
+    out: &mut [u8],
+    run: Run,
+) -> Next
     requires { Running input.old out.old run }
     ensures { StepTaken run input.old out.old input.new out.new result }
 {
@@ -54,7 +61,7 @@ fn take_step(rt: &(impl Input + Eprint), input: &mut [u8], out: &mut [u8], run: 
     let to = flow.to;
     let more = flow.more;
     match take_turn(&input[from..to], more, out, flow.end, run.number) {
-        Turn::More => go_on(read_more(rt, input, flow), run.number),
+        Turn::More => go_on(read_more(rt, stdin, input, flow), run.number),
         Turn::On { used, end, number } => {
             let on = Flow {
                 from: from + used,
@@ -69,8 +76,9 @@ fn take_step(rt: &(impl Input + Eprint), input: &mut [u8], out: &mut [u8], run: 
 }
 
 // Turn after turn, until the run is over. All that is written is written here, as each step tells it: this loop and `write` are trusted.
-fn print_all(
-    rt: &(impl Input + Print + Eprint),
+fn print_all<F: Read>(
+    rt: &(impl Print + Eprint),
+    stdin: &mut F,
     input: &mut [u8],
     out: &mut [u8],
     first: Run,
@@ -79,7 +87,7 @@ fn print_all(
 {
     let mut run = first;
     loop {
-        match take_step(rt, input, out, run) {
+        match take_step(rt, stdin, input, out, run) {
             Next::On(on) => {
                 run = on;
             }
@@ -107,5 +115,5 @@ fn main(rt: HostRuntime) -> ExitCode {
         },
         number: 0,
     };
-    status_after(print_all(&rt, &mut input, &mut out, first))
+    status_after(print_all(&rt, &mut rt.stdin(), &mut input, &mut out, first))
 }

@@ -12,6 +12,7 @@ use files::{remove_earlier, save};
 use input::read_roll;
 use salvage::{LINES, ROLL, Salvaged, salvage};
 use std::io;
+use std::io::Read;
 use std::process::ExitCode;
 use std::rt::Files;
 use streams::output::{status_after, write};
@@ -40,9 +41,9 @@ fn hand_over(
 }
 
 // A byte more than a roll may have is enough to tell that it is too long.
-fn salvage_input(rt: &(impl Files + Input + Print + Eprint)) -> io::Result<()> {
+fn salvage_input<F: Read>(rt: &(impl Files + Print + Eprint), stdin: &mut F) -> io::Result<()> {
     let mut roll = [0u8; ROLL + 1];
-    let got = read_roll(rt, &mut roll);
+    let got = read_roll(rt, stdin, &mut roll);
     if got.failed {
         return Ok(());
     }
@@ -53,7 +54,7 @@ fn salvage_input(rt: &(impl Files + Input + Print + Eprint)) -> io::Result<()> {
 
 fn main(rt: HostRuntime) -> ExitCode {
     if remove_earlier(&rt) {
-        return status_after(salvage_input(&rt));
+        return status_after(salvage_input(&rt, &mut rt.stdin()));
     }
     ExitCode::SUCCESS
 }

@@ -10,6 +10,7 @@ use input::load_tariff;
 use lines::texts::put_fault;
 use run::settle_roll;
 use std::io;
+use std::io::Read;
 use std::process::ExitCode;
 use streams::output::{status_after, write};
 
@@ -24,10 +25,14 @@ fn print_fault(rt: &(impl Print + Eprint), number: u8, at: usize) -> io::Result<
 }
 
 // A refused tariff gives its one line; under any other the roll is settled.
-fn settle_or_refuse(rt: &(impl Input + Print + Eprint), file: &[u8]) -> io::Result<()> {
+fn settle_or_refuse<F: Read>(
+    rt: &(impl Print + Eprint),
+    stdin: &mut F,
+    file: &[u8],
+) -> io::Result<()> {
     match read_file(file) {
         FileReading::Fault { number, at } => print_fault(rt, number, at),
-        FileReading::Faultless(editions) => settle_roll(rt, file, editions),
+        FileReading::Faultless(editions) => settle_roll(rt, stdin, file, editions),
     }
 }
 
@@ -38,5 +43,5 @@ fn main(rt: HostRuntime) -> ExitCode {
         return ExitCode::SUCCESS;
     }
     let bytes = got.bytes;
-    status_after(settle_or_refuse(&rt, &file[..bytes]))
+    status_after(settle_or_refuse(&rt, &mut rt.stdin(), &file[..bytes]))
 }

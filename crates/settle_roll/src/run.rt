@@ -10,6 +10,7 @@ use lines::texts::put_header;
 use lines::turns::{ROOM, Turn, take_turn};
 use roll::{fresh_book, statement_room};
 use std::io;
+use std::io::Read;
 use streams::flow::{Flow, Flowed, INPUT, OUTPUT, make_room, read_more};
 use streams::output::write;
 
@@ -46,8 +47,9 @@ fn go_on(flowed: Flowed, tally: Tally) -> Next
 }
 
 // A turn, and what it asks for: bytes read, or bytes to be written.
-fn take_step(
-    rt: &(impl Input + Eprint),
+fn take_step<F: Read>(
+    rt: &impl Eprint,
+    stdin: &mut F,
     file: &[u8],
     editions: Editions,
     book: &mut [u8],
@@ -75,7 +77,7 @@ fn take_step(
         flow.end,
         run.tally,
     ) {
-        Turn::More => go_on(read_more(rt, input, flow), run.tally),
+        Turn::More => go_on(read_more(rt, stdin, input, flow), run.tally),
         Turn::On { used, end, tally } => {
             let on = Flow {
                 from: from + used,
@@ -90,8 +92,9 @@ fn take_step(
 }
 
 // Turn after turn, until the run is over. All that is written is written here, as each step tells it: this loop and `write` are trusted.
-fn settle_all(
-    rt: &(impl Input + Print + Eprint),
+fn settle_all<F: Read>(
+    rt: &(impl Print + Eprint),
+    stdin: &mut F,
     file: &[u8],
     editions: Editions,
     book: &mut [u8],
@@ -104,7 +107,7 @@ fn settle_all(
 {
     let mut run = first;
     loop {
-        match take_step(rt, file, editions, book, input, out, statement, run) {
+        match take_step(rt, stdin, file, editions, book, input, out, statement, run) {
             Next::On(on) => {
                 run = on;
             }
@@ -120,8 +123,9 @@ fn settle_all(
 }
 
 // The roll from standard input, under a faultless file, from a fresh book.
-pub fn settle_roll(
-    rt: &(impl Input + Print + Eprint),
+pub fn settle_roll<F: Read>(
+    rt: &(impl Print + Eprint),
+    stdin: &mut F,
     file: &[u8],
     editions: Editions,
 ) -> io::Result<()>
@@ -147,6 +151,7 @@ pub fn settle_roll(
     };
     settle_all(
         rt,
+        stdin,
         file,
         editions,
         &mut book,

@@ -2,6 +2,9 @@
 use std::io::Error;
 
 // A line on standard error: what failed, and why. Where no line can be written there either, nothing is told.
+// It is called seldom, and its text takes stack: so it stands in no other function's frame.
+#[cold]
+#[inline(never)]
 pub fn tell(rt: &impl Eprint, what: &[u8], error: Error) {
     let what = match str::from_utf8(what) {
         Ok(text) => text,

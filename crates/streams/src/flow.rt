@@ -3,6 +3,7 @@ ghost use Rattle.std.specs.Prelude.{◌≤◌};
 ghost use Rattle.streams.specs.Flows.{output_size, Inside, MoreToRead, CameMore, Made};
 
 use crate::input::{keep, read_next};
+use std::io::Read;
 
 // Room for the bytes that come: a record has 1,026 at most.
 pub const INPUT: usize = 8_192;
@@ -32,13 +33,13 @@ pub enum Flowed {
 }
 
 // The bytes that are not used yet, and the next ones behind them. After a failed read no turn is taken: what was put so far is to be written.
-pub fn read_more(rt: &(impl Input + Eprint), input: &mut [u8], flow: Flow) -> Flowed
+pub fn read_more<F: Read>(rt: &impl Eprint, stdin: &mut F, input: &mut [u8], flow: Flow) -> Flowed
     requires { MoreToRead input.old flow }
     ensures { CameMore flow input.old input.new result }
 {
     let end = flow.end;
     let kept = keep(input, flow.from, flow.to);
-    let got = read_next(rt, input, kept);
+    let got = read_next(rt, stdin, input, kept);
     if got.failed {
         return Flowed::Stopped(end);
     }

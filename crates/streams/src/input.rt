@@ -39,12 +39,11 @@ pub fn read_at<F: Read>(
 }
 
 // Standard input's next bytes, behind those that are there already.
-pub fn read_next(rt: &(impl Input + Eprint), room: &mut [u8], place: usize) -> Got
+pub fn read_next<F: Read>(rt: &impl Eprint, stdin: &mut F, room: &mut [u8], place: usize) -> Got
     requires { place < length room.old }
     ensures { Came room.old place room.new result.bytes }
 {
-    let mut input = rt.reader();
-    read_at(rt, &mut input, b"standard input", room, place)
+    read_at(rt, stdin, b"standard input", room, place)
 }
 
 // Moves the bytes from `from` to `to` to the start of the room. The answer is how many they are.

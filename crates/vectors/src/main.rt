@@ -277,13 +277,12 @@ fn sections(rt: &impl Print, input: &[u8], book: &mut [u8]) {
 }
 
 // Standard input's first bytes: all of them that can be read, or as many as there is room for.
-fn read_input(rt: &impl Input, room: &mut [u8]) -> usize
+fn read_input<F: Read>(stdin: &mut F, room: &mut [u8]) -> usize
     ensures { result ≤ length room.old }
 {
-    let mut input = rt.reader();
     let mut end = 0;
     while end < room.len() {
-        let bytes = input.read(&mut room[end..]).unwrap_or(0);
+        let bytes = stdin.read(&mut room[end..]).unwrap_or(0);
         if bytes == 0 {
             break;
         }
@@ -294,7 +293,7 @@ fn read_input(rt: &impl Input, room: &mut [u8]) -> usize
 
 fn main(rt: HostRuntime) {
     let mut room = [0u8; ROOM];
-    let end = read_input(&rt, &mut room);
+    let end = read_input(&mut rt.stdin(), &mut room);
     let mut book = [0u8; SIZE];
     sections(&rt, &room[..end], &mut book);
 }
