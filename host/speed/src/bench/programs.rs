@@ -31,7 +31,7 @@ pub struct Times {
 }
 
 /// `settle_roll`, and the tuned ones beside this program. MILECOPPER_PROGRAM is the first one's path, seen from this
-/// package's folder: ../../target/bin/settle_roll unless set.
+/// package's folder: ../../target/native/settle_roll unless set.
 pub struct Programs {
     pub names: PerProgram<&'static str>,
     pub paths: PerProgram<PathBuf>,
@@ -42,7 +42,7 @@ pub struct Programs {
 impl Programs {
     pub fn find(with_tuned: bool) -> Result<Programs, String> {
         let own = env::current_exe().map_err(|error| format!("this program cannot be found: {error}"))?;
-        let program = env::var("MILECOPPER_PROGRAM").unwrap_or("../../target/bin/settle_roll".to_string());
+        let program = env::var("MILECOPPER_PROGRAM").unwrap_or("../../target/native/settle_roll".to_string());
         let mut names = vec!["settle_roll"];
         let mut paths = vec![package().join(program)];
         if with_tuned {
