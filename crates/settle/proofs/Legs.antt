@@ -16,7 +16,7 @@ use Rattle.trip.specs.declared.Earlier.{Earlier}
 use Rattle.trip.specs.declared.Earlier.TheVariants.{Nothing, Part}
 use Rattle.fare.specs.Rides.{ride_between, duration_of, last_of, ride_of}
 use Rattle.fare.specs.Parts.{break_of, first_part, second_part, rides_of}
-use Rattle.fare.specs.Clauses.{Riding, InOrder, more}
+use Rattle.fare.specs.Clauses.{Riding, InOrder}
 use Rattle.fare.proofs.GoodTrips.{riding, in-order}
 use Rattle.fare.proofs.Stops.{times}
 use Rattle.fare.proofs.Breaks.{broken_between}

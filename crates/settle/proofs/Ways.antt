@@ -17,7 +17,7 @@ use Rattle.deciding.specs.declared.decide.Decision.{Decision}
 use Rattle.deciding.specs.declared.decide.Decision.TheVariants.{Refused, Clear}
 use Rattle.deciding.specs.declared.refusals.Refusal.{Refusal}
 use Rattle.deciding.specs.declared.refusals.Refusal.TheVariants as why
-use Rattle.deciding.specs.Refusals.{refusal, sound_in, rows, nothing}
+use Rattle.deciding.specs.Refusals.{refusal, sound_in, rows}
 use Rattle.deciding.specs.Deciding.{decided_under}
 use Rattle.settle.specs.Outcome.{
   Quote,

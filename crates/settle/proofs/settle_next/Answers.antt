@@ -25,7 +25,7 @@ slice_bounds-post_records-end c =
     omega (arith, near.0, near.1)
 
 pub post_records-requires : goal.post_records-requires
-post_records-requires c = records-postable (start c).requires c.state_trip.ensures c.in-Records.is
+post_records-requires c = records-postable c.requires c.state_trip.ensures c.in-Records.is
 
 pub returns-in-Refused : goal.returns-in-Refused
 returns-in-Refused c =
@@ -36,4 +36,4 @@ returns-in-Refused c =
     }
 
 pub returns-in-Records : goal.returns-in-Records
-returns-in-Records c = settled-told (start c).requires c.state_trip.ensures c.in-Records.is c.post_records.ensures
+returns-in-Records c = settled-told c.requires c.state_trip.ensures c.in-Records.is c.post_records.ensures

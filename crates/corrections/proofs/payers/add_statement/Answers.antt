@@ -10,8 +10,7 @@ pub loop-next-init : goal.loop-next-init
 loop-next-init c = passed_none _ c.requires.records
 
 pub add_record-requires : goal.add_record-requires
-add_record-requires c =
-    (
+add_record-requires c = (
   record_next c.loop-next-test.true c.loop-next.invariant.records,
   at_most_more (omega arith) (passed_most c.loop-next.invariant c.requires.sums_most),
 )

@@ -11,5 +11,5 @@ pub returns : goal.returns
 returns c =
     let after = c.count-after in
     let args = c.args in
-    last_taken args.tally (Refused 5) 0 true after.result after.ensures refl (behind_same c.put_refused.ensures refl (omega arith))
+    last_taken args.tally (Refused 5) 0 true after.result after.ensures refl (behind_same c.put_refused-end.ensures refl (omega arith))
     c.put_tail.ensures

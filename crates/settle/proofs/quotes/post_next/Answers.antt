@@ -10,15 +10,15 @@ use Rattle.settle.proofs.Answers.{why-refused, slice-near, size-near, records-po
 use Rattle.settle.proofs.quotes.post_next.Goals as goal
 
 pub slice_bounds-quote-end : goal.slice_bounds-quote-end
-slice_bounds-quote-end c = omega (arith, (size-near (start c).requires c.state_trip.ensures c.in-Records.is).1)
+slice_bounds-quote-end c = omega (arith, (size-near c.requires c.state_trip.ensures c.in-Records.is).1)
 
 pub slice_bounds-same_bytes-end : goal.slice_bounds-same_bytes-end
-slice_bounds-same_bytes-end c = sym (length-take-le _ _ (omega (arith, (size-near (start c).requires c.state_trip.ensures c.in-Records.is).1)))
+slice_bounds-same_bytes-end c = sym (length-take-le _ _ (omega (arith, (size-near c.requires c.state_trip.ensures c.in-Records.is).1)))
 
 pub returns-then-not-same_bytes : goal.returns-then-not-same_bytes
 returns-then-not-same_bytes c =
     rw c.number-then-not-same_bytes.ensures
-    (other-refused (start c).requires c.state_trip.ensures c.in-Records.is _ refl
+    (other-refused c.requires c.state_trip.ensures c.in-Records.is _ refl
     (sym c.same_bytes.ensures ∙ c.if-not-same_bytes.true))
 
 pub slice_bounds-post_records-count : goal.slice_bounds-post_records-count
@@ -40,7 +40,7 @@ slice_bounds-post_records-end c =
     omega (arith, near.0, near.1)
 
 pub post_records-requires : goal.post_records-requires
-post_records-requires c = records-postable (start c).requires c.state_trip.ensures c.in-Records.is
+post_records-requires c = records-postable c.requires c.state_trip.ensures c.in-Records.is
 
 pub returns-in-Refused : goal.returns-in-Refused
 returns-in-Refused c =
@@ -49,5 +49,5 @@ returns-in-Refused c =
 
 pub returns-else-not-same_bytes : goal.returns-else-not-same_bytes
 returns-else-not-same_bytes c =
-    quote-posted (start c).requires c.state_trip.ensures c.in-Records.is _ refl
+    quote-posted c.requires c.state_trip.ensures c.in-Records.is _ refl
     (sym c.same_bytes.ensures ∙ c.if-not-same_bytes.false) c.post_records.ensures

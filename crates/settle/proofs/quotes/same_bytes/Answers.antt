@@ -1,5 +1,4 @@
 -- `settle::quotes::same_bytes` meets its contract: after i turns it is known whether the first i bytes are the same.
-use Prim.Native.Nat.{◌-◌}
 use native.Mathlib.Omega.{arith}
 use mathlib.Core.Path.{refl, sym}
 use borrow.Author.Tests.{eq-eqb, ne_eqb}

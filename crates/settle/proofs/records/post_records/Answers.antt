@@ -1,5 +1,4 @@
 -- `settle::records::post_records` meets its contract: at each turn records of some rides are left, on the book that the ones before them left.
-use Prim.Native.Nat.{◌-◌}
 use native.Mathlib.Omega.{arith}
 use mathlib.Core.Path.{refl}
 use borrow.Author.Rules.{rules}

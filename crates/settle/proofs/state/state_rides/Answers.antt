@@ -1,6 +1,5 @@
 -- `settle::state::state_rides` meets its contract: at each turn the whole trip, both parts, the second or nothing is left to state, and in the end the
 -- trip's records are written.
-use Prim.Native.Nat.{◌-◌}
 use native.Mathlib.Omega.{arith}
 use Rattle.statement.proofs.Wrote.{length_wrote}
 use Rattle.settle.proofs.Legs.{there, order, legs_begin, leg_goes, leg_stateable, leg_next, legs_end}

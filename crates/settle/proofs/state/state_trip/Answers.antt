@@ -10,25 +10,25 @@ use Rattle.settle.proofs.state.state_trip.Goals as goal
 
 pub slice_bounds-state_rides-count : goal.slice_bounds-state_rides-count
 slice_bounds-state_rides-count c =
-    let near : (c.start_in-from.result ≤ c.end_in-to.result) × (c.end_in-to.result ≤ length c.args.file.now) = let there = stands _ _ (start c).requires.read c.in-Clear.window.edition in
+    let near : (c.start_in-from.result ≤ c.end_in-to.result) × (c.end_in-to.result ≤ length c.args.file.now) = let there = stands _ _ c.requires.read c.in-Clear.window.edition in
     (omega (arith, c.start_in-from.ensures, c.end_in-to.ensures, there.order), omega (arith, c.end_in-to.ensures, there.within)) in
     near.0
 
 pub slice_bounds-state_rides-start : goal.slice_bounds-state_rides-start
 slice_bounds-state_rides-start c =
-    let near : (c.start_in-from.result ≤ c.end_in-to.result) × (c.end_in-to.result ≤ length c.args.file.now) = let there = stands _ _ (start c).requires.read c.in-Clear.window.edition in
+    let near : (c.start_in-from.result ≤ c.end_in-to.result) × (c.end_in-to.result ≤ length c.args.file.now) = let there = stands _ _ c.requires.read c.in-Clear.window.edition in
     (omega (arith, c.start_in-from.ensures, c.end_in-to.ensures, there.order), omega (arith, c.end_in-to.ensures, there.within)) in
     omega (arith, near.0, near.1)
 
 pub slice_bounds-state_rides-end : goal.slice_bounds-state_rides-end
 slice_bounds-state_rides-end c =
-    let near : (c.start_in-from.result ≤ c.end_in-to.result) × (c.end_in-to.result ≤ length c.args.file.now) = let there = stands _ _ (start c).requires.read c.in-Clear.window.edition in
+    let near : (c.start_in-from.result ≤ c.end_in-to.result) × (c.end_in-to.result ≤ length c.args.file.now) = let there = stands _ _ c.requires.read c.in-Clear.window.edition in
     (omega (arith, c.start_in-from.ensures, c.end_in-to.ensures, there.order), omega (arith, c.end_in-to.ensures, there.within)) in
     omega (arith, near.0, near.1)
 
 pub state_rides-size-requires : goal.state_rides-size-requires
 state_rides-size-requires c =
-    clear-there (start c).requires (sym c.decide.ensures ∙ c.in-Clear.is) c.start_in-from.ensures
+    clear-there c.requires (sym c.decide.ensures ∙ c.in-Clear.is) c.start_in-from.ensures
     c.end_in-to.ensures c.counts_in-counts.ensures
 
 pub returns-in-Refused : goal.returns-in-Refused
@@ -36,5 +36,5 @@ returns-in-Refused c = refusal-stated (sym c.decide.ensures ∙ c.in-Refused.is)
 
 pub returns-in-Clear : goal.returns-in-Clear
 returns-in-Clear c =
-    records-stated (start c).requires (sym c.decide.ensures ∙ c.in-Clear.is) c.start_in-from.ensures
+    records-stated c.requires (sym c.decide.ensures ∙ c.in-Clear.is) c.start_in-from.ensures
     c.end_in-to.ensures c.counts_in-counts.ensures c.state_rides-size.ensures
