@@ -51,18 +51,7 @@ use Rattle.accounts.specs.Lent.{place_posted, page_posted}
 use Rattle.accounts.specs.Calls.{Call, adds, closes, settles, posts, page_with, page_from, stays, steps_of, settlements_of}
 use Rattle.page.proofs.Replacing.{byte_there}
 use Rattle.page.proofs.Conditions.{found_there, not_both}
-use Rattle.page.proofs.Touching.{
-  other_place,
-  other_number,
-  other_book,
-  passing_again,
-  place_touched,
-  place_is,
-  place_number,
-  book_touched,
-  book_is,
-  number_kept,
-}
+use Rattle.page.proofs.Touching.{other_number, other_book, passing_again, place_touched, place_is, place_number, book_touched, book_is, number_kept}
 use Rattle.accounts.proofs.Effects.{
   accepted_size,
   cleared_long,

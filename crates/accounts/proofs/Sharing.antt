@@ -13,7 +13,7 @@ use Rattle.statement.specs.Record.{statement_of}
 use Rattle.settle.specs.Posting.{posting_answer}
 use Rattle.settle.specs.Runs.{Settlement}
 use Rattle.settle.specs.Steps.{each_from, book_after_each}
-use Rattle.page.specs.Pages.{places, book_at, changed}
+use Rattle.page.specs.Pages.{book_at, changed}
 use Rattle.page.specs.InWords.{InNone, Lowest}
 use Rattle.accounts.specs.Calls.{Call, adds, closes, settles, posts, page_with, page_from, stays, steps_of, settlements_of}
 use Rattle.accounts.specs.Associations.{own_places, first_place, added_for, closed_for, Association, AgreeFor, OnlyOf}
