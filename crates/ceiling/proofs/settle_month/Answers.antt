@@ -13,8 +13,7 @@ returns-then-is_uncollectable c =
     month_refused (wrong_way a.ceiling a.kept.now a.file.now a.book.now a.trip.now (length a.statement.now) (length a.due.now) (sym c.is_uncollectable.ensures ∙ c.if-is_uncollectable.true)) (omega arith)
 
 pub settle_within-requires : goal.settle_within-requires
-settle_within-requires c =
-    (
+settle_within-requires c = (
   collectable _ _ (sym c.is_uncollectable.ensures ∙ c.if-is_uncollectable.false),
   sym c.read_file.ensures ∙ c.in-Faultless.is,
 )

@@ -1,11 +1,7 @@
 -- `ceiling::settle_within` meets its contract: a refusal leaves all; else the charges of the records are collected in the month of the check-in.
-use Prim.Native.Nat.{ℕ}
 use mathlib.Core.Path.{sym}
-use mathlib.Core.List.{List}
-use lib.ListN.{take}
 use lib.Seq.{length-take-le}
-use Rattle.settle.specs.Clauses.{UnderSettled}
-use Rattle.ceiling.proofs.Outcomes.{LentTold, refused_within, written, written_within}
+use Rattle.ceiling.proofs.Outcomes.{refused_within, written, written_within}
 use Rattle.ceiling.proofs.settle_within.Goals as goal
 
 pub slice_bounds-settle_under-end : goal.slice_bounds-settle_under-end
