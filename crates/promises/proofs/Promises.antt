@@ -1,6 +1,6 @@
 -- Promise 3, about settling itself.
 --
--- A run is any list of trips, each offered to `settled` or, with any bytes as a record, to `postingOf`, the definitions that the exported
+-- A run is any list of trips, each offered to `settled` or, with any bytes as a record, to `posting_of`, the definitions that the exported
 -- functions' contracts cite, one after another from a fresh book under one faultless file of editions. A rider is the account holder (0), a
 -- carried adult (1 to 10) or a carried child (11 to 20). The windows of a run are read off the check-ins and check-outs of its accepted trips
 -- alone, and the edition in force at a window's opening settles all of it; a ride's area, class and price are those of the accepted trip's part,

@@ -287,7 +287,7 @@ abbrev pub results : Case → List Result
 results c = map (λ t. t.1) c.trips
 
 -- It holds: the trips, settled one after another from a fresh book under the sample, come to that; and the rides are the rider's in the window
--- that is open at the end. Of one trip it says what `settled sample freshBook` of it is.
+-- that is open at the end. Of one trip it says what `settled sample fresh_book` of it is.
 pub record Holds (c : Case) : Type 0 where
   pub results_are : results_of c.rider (run_from sample fresh_book (offers c)) ≡ results c
   pub window_is : rides_of sample sample_editions c.rider (settlings (offers c)) ≡ rides_in (results c) []
