@@ -14,7 +14,6 @@ use Rattle.roll.specs.declared.Line.TheVariants.{Charged, Both, Refused}
 use Rattle.roll.specs.declared.Step.{Step}
 use Rattle.roll.specs.declared.Step.TheVariants.{End, More, Record, Broken}
 use Rattle.deciding.specs.Clauses.{Ready}
-use Rattle.roll.specs.Pieces.{step_of}
 use Rattle.roll.specs.Clauses.{line_cents, step_cents, most_line_cents, Stepped}
 use Rattle.roll.proofs.Starts.{record_within, more_short}
 use Rattle.lines.specs.declared.tally.Tally.{Tally}
@@ -24,21 +23,7 @@ use Rattle.lines.specs.Text.{line_text}
 use Rattle.roll.specs.Lines.{most_records}
 use Rattle.lines.specs.Turns.{records, counted, tail_of, Effect, asks, puts, ends, line_effect, effect_of}
 use Rattle.text.specs.Clauses.{Behind}
-use Rattle.lines.specs.Clauses.{
-  most_line,
-  most_record,
-  most_turn,
-  CentsFit,
-  Counting,
-  Counted,
-  Did,
-  asked,
-  put,
-  ended,
-  LineTaken,
-  Range,
-  Turned,
-}
+use Rattle.lines.specs.Clauses.{most_line, most_record, most_turn, Counting, Counted, Did, asked, put, ended, LineTaken, Range, Turned}
 use Rattle.text.proofs.Puts.{behind_join, behind_same}
 
 -- A run that goes on has not come to its last record.

@@ -1,6 +1,6 @@
 -- What a turn does tells what stood at the start of the bytes that had come.
 -- Assumes nothing.
-use Prim.Native.Nat.{ℕ, ◌+◌}
+use Prim.Native.Nat.{ℕ}
 use native.Mathlib.Omega.{arith}
 use mathlib.Core.Path.{◌≡◌, refl, sym, ◌∙◌}
 use mathlib.Core.Bool.{Bool, true, false, ◌||◌}
@@ -14,7 +14,7 @@ use Rattle.roll.specs.declared.Step.TheVariants.{End, More, Record, Broken}
 use Rattle.lines.specs.declared.tally.Tally.{Tally}
 use Rattle.lines.specs.Text.{line_text}
 use Rattle.roll.specs.Lines.{most_records}
-use Rattle.lines.specs.Turns.{records, counted, tail_of, Effect, asks, puts, ends, line_effect, effect_of}
+use Rattle.lines.specs.Turns.{records, counted, tail_of, Effect, asks, puts, ends, effect_of}
 use Rattle.lines.proofs.Taken.{last_effect, on_effect}
 
 -- what a turn does is one thing

@@ -2,7 +2,7 @@
 -- with them, the first records are these parts' exactly where the second are. So what quotes wrote in two nights, one d minutes after the
 -- other, are records so moved.
 -- Assumes nothing.
-use Prim.Native.Nat.{ℕ, ◌+◌}
+use Prim.Native.Nat.{ℕ}
 use native.Mathlib.Omega.{arith}
 use mathlib.Core.Path.{◌≡◌, refl, sym, ap, subst, ◌∙◌}
 use mathlib.Core.List.{List, [], ◌∷◌, ◌++◌, append-nil}

@@ -1,5 +1,4 @@
 -- `corrections::has_record` meets its contract: the loop has passed as many whole frames as it counted. The measure is the records that are left.
-use Prim.Native.Nat.{◌-◌}
 use native.Mathlib.Omega.{arith}
 use native.Mathlib.Nat.{le_antisymm}
 use mathlib.Core.Path.{sym, ◌∙◌}

@@ -1,5 +1,5 @@
 -- `corrections::payers::add_charges` meets its contract: the loop has added the charges that it passed. The measure is the charges that are left.
-use Prim.Native.Nat.{◌+◌, ◌-◌}
+use Prim.Native.Nat.{◌+◌}
 use native.Mathlib.Omega.{arith}
 use native.Mathlib.Nat.{le_antisymm}
 use Rattle.corrections.proofs.Paid.{added_most, charges_none, charges_more}

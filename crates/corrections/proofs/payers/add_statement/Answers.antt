@@ -1,6 +1,5 @@
 -- `corrections::payers::add_statement` meets its contract: the loop has added the charges of the records that it passed. The measure is the bytes that
 -- are left.
-use Prim.Native.Nat.{◌-◌}
 use native.Mathlib.Omega.{arith}
 use Rattle.statement.proofs.Sums.{record_next}
 use Rattle.corrections.proofs.Paid.{passed_none, passed_most, passed_more, passed_all, at_most_more}

@@ -1,6 +1,5 @@
 -- `corrections::payers::put_differences` meets its contract: the loop has put the differences of the payers that it passed. The measure is the payers
 -- that are left.
-use Prim.Native.Nat.{◌-◌}
 use native.Mathlib.Omega.{arith}
 use Rattle.corrections.proofs.Differences.{put_none, put_long, put_more, put_all}
 use Rattle.corrections.proofs.payers.put_differences.Goals as goal

@@ -1,5 +1,5 @@
 -- `corrections::runs::clear` meets its contract: each turn stores one 0 more, and there are as many turns as the book has bytes.
-use Prim.Native.Nat.{ℕ, ◌-◌}
+use Prim.Native.Nat.{ℕ}
 use native.Mathlib.Omega.{arith}
 use mathlib.Core.Path.{sym, ap, ◌∙◌}
 use mathlib.Core.List.{List}
