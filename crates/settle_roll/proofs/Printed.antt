@@ -10,7 +10,7 @@ use mathlib.Core.List.{List, [], ◌∷◌, ◌++◌, append-nil}
 use borrow.Author.Tests.{eqb-false}
 use lib.ListN.{drop}
 use lib.Seq.{drop-append-le}
-use Rattle.streams.specs.Runs.{Effect, asks, puts, ends, Prints}
+use Rattle.streams.specs.Runs.{asks, puts, ends, Prints}
 use Rattle.streams.proofs.Printed.{Still, Tells, Ends}
 use Rattle.streams.proofs.Printed as run
 use Rattle.ledger.specs.Words.{fresh_book}
@@ -138,6 +138,7 @@ module _ (file kept : List ℕ) (more : Bool) (on : Carried) (rest : List ℕ) (
 
   over_text : {text : List ℕ} (step : Step) → step_here ≡ step → told.Ends on.tally text step → text_left file on (kept ++ rest) ≡ text
   unfolding after_step text_left
+  over_text More e none = elim none [ ]
   over_text End e (at_end is) =
       let none = left_lines End e (λ more. let z : ◌≡◌ {A = ℕ} 0 1 = cc in omega arith) in rw none (rest_none on.tally) ∙ sym is
   over_text Broken e (at_broken is) =

@@ -1,6 +1,6 @@
 -- What a turn leaves of a run.
 -- Assumes nothing.
-use Prim.Native.Nat.{ℕ, ◌+◌, ◌-◌, ◌≤◌, ◌<◌}
+use Prim.Native.Nat.{ℕ, ◌+◌, ◌≤◌, ◌<◌}
 use native.Mathlib.Omega.{arith}
 use mathlib.Core.Path.{◌≡◌, subst, ◌∙◌}
 use mathlib.Core.Bool.{true}
@@ -9,7 +9,7 @@ use lib.ListN.{length}
 use Rattle.streams.specs.declared.flow.Flow.{Flow}
 use Rattle.streams.specs.declared.flow.Flowed.{Flowed}
 use Rattle.streams.specs.declared.flow.Flowed.TheVariants as flowed
-use Rattle.streams.specs.Runs.{State, puts, ends, turn_at}
+use Rattle.streams.specs.Runs.{State, turn_at}
 use Rattle.streams.specs.Flows.{input_size, output_size, Inside, InRange, unused, CameMore, Made, left, Advanced}
 use Rattle.streams.proofs.Steps.{onward, unused_length, more_room, fed_on, stopped, put_on, put_out, at_last, on_is, writing_is, last_is}
 use Rattle.ledger.specs.Words.{fresh_book}

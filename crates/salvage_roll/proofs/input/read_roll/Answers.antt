@@ -1,5 +1,4 @@
 -- `input::read_roll` meets its contract: each read goes behind the bytes that came before. The measure is the bytes that are left to fill.
-use Prim.Native.Nat.{◌-◌}
 use native.Mathlib.Omega.{arith}
 use Rattle.salvage_roll.proofs.Pieces.{nothing_came, more_came, none_came}
 use Rattle.salvage_roll.proofs.input.read_roll.Goals as goal
