@@ -10,7 +10,7 @@ use std::process::ExitCode;
 const CLOSED: u8 = 141;
 
 // Writes a buffer's bytes up to a place. A failure is told on standard error; that nobody reads any more is not, since it is no failure of the
-// program's. The error is handed on, so that the program ends as it tells.
+// program's. Then some of the bytes may have been written, and the error is the system's: it is handed on, so that the program ends.
 pub fn write(rt: &(impl Print + Eprint), out: &[u8], end: usize) -> io::Result<()>
     requires { end ≤ length out.now }
 {
