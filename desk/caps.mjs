@@ -1,7 +1,6 @@
 // What an area's caps come to: the day cap, for all classes raised by the first-class surcharge, for a child reduced
 // (docs/RULES.md, R10.2 and R10.3). The library computes these amounts, not the desk: a trip cap is raised and reduced
 // in the same steps (R8.3, R8.5, R8.6), so the price of a trip under a trip cap as high as the day cap is the cap.
-import { DAY, dayOf, momentOf } from './clock.mjs';
 import { FIRST_DAY } from './editions.mjs';
 import { BOOK_BYTES } from './engine.mjs';
 import { openingRecord, recordBytes } from './tariff.mjs';
@@ -38,9 +37,8 @@ function tariffWith({ dayCap, first, child }) {
 
 /** Three hours: six times the base price, which is the highest day cap, so that the trip cap is what counts. */
 function pricesOf(engine, tariff, number) {
-    const noon = dayOf('2026-01-01') * DAY + 11 * 60; // by the clock, an hour ahead of UTC
-    const [checkIn, checkOut] = [noon, noon + 180].map((minute) => momentOf({ minute, offset: 60 }));
-    const ride = { checkIn, checkOut, from: 0, to: 0, via: [], level: null, class: number };
+    const at = (hour) => ({ local: `2026-01-01T${hour}:00`, offset: '+01:00' });
+    const ride = { checkIn: at(12), checkOut: at(15), from: 0, to: 0, via: [], level: null, class: number };
     const trip = tripBytes({ ...ride, party: { adults: 0, children: 1, bicycles: 0 } });
     const { statement } = engine.quote(tariff, new Uint8Array(BOOK_BYTES), trip);
     const [adult, child] = engine.read(statement, 0).fields.charges;

@@ -3,14 +3,7 @@
 import { remembered } from './remembered.mjs';
 
 export const DAY = 1440; // minutes
-const MINUTE_MS = 60000;
 const EPOCH = Date.UTC(2000, 0, 1);
-
-/**
- * How many units of so many milliseconds it is from minute 0 to a time, where that is a whole number. It is rounded
- * since a quotient is kept as a fraction otherwise, and so is all that is counted from it: a box of memory for each.
- */
-const countTo = (time, milliseconds) => Math.round((time - EPOCH) / milliseconds);
 
 /**
  * The days from 2000-01-01 to a date of 2000 to 2099, written 2026-10-31, 31.10.2026 or 31.10.26; null for any other
@@ -24,7 +17,7 @@ export function dayOf(text) {
     const [year, month, day] = written.map(Number);
     const date = new Date(Date.UTC(year, month - 1, day));
     const same = date.getUTCFullYear() === year && date.getUTCMonth() === month - 1 && date.getUTCDate() === day;
-    return same && year >= 2000 && year <= 2099 ? countTo(date, DAY * MINUTE_MS) : null;
+    return same && year >= 2000 && year <= 2099 ? (date.getTime() - EPOCH) / (DAY * 60000) : null;
 }
 
 /**
@@ -46,9 +39,9 @@ function makeClock(zone) {
     const format = new Intl.DateTimeFormat('en', { ...numeric, timeZone: zone, hourCycle: 'h23', calendar: 'gregory' });
     const asked = (minute) => {
         const shown = {};
-        for (const { type, value } of format.formatToParts(EPOCH + minute * MINUTE_MS)) shown[type] = Number(value);
+        for (const { type, value } of format.formatToParts(EPOCH + minute * 60000)) shown[type] = Number(value);
         const wall = Date.UTC(shown.year, shown.month - 1, shown.day, shown.hour, shown.minute);
-        return countTo(wall, MINUTE_MS) - minute;
+        return (wall - EPOCH) / 60000 - minute;
     };
     const offsetsIn = remembered((day) => offsetsOf(asked, day * DAY));
     const offsetAt = (minute) => {
@@ -139,10 +132,10 @@ function onlyOne(readings) {
     return { faults: faults.filter(({ offsets }) => offsets.length > 1) };
 }
 
-/** A day as '2026-10-31', its month, '2026-10', and the numbers of year, month and day. */
-const dateOf = remembered((day) => {
-    const text = new Date(EPOCH + day * DAY * MINUTE_MS).toISOString().slice(0, 10);
-    return { text, month: text.slice(0, 7), numbers: text.split('-').map(Number) };
+/** A day as '2026-10-31', and its month, '2026-10'. */
+const wordsOf = remembered((day) => {
+    const date = new Date(EPOCH + day * DAY * 60000).toISOString().slice(0, 10);
+    return { date, month: date.slice(0, 7) };
 });
 
 /** A number in two figures at least: '05'. */
@@ -153,7 +146,7 @@ const CLOCK_TIMES = Array.from({ length: DAY }, (_, minute) => `T${two(Math.floo
 /** A minute of the wall as '2026-10-31T23:50'. */
 function wallText(wall) {
     const day = Math.floor(wall / DAY);
-    return dateOf(day).text + CLOCK_TIMES[wall - day * DAY];
+    return wordsOf(day).date + CLOCK_TIMES[wall - day * DAY];
 }
 
 /** What the clock shows at a minute: '2026-10-31T23:50'. */
@@ -161,48 +154,19 @@ export function localOf(clock, minute) {
     return wallText(minute + clock.offsetAt(minute));
 }
 
-/**
- * A minute, and by how many minutes the clock is `ahead` of UTC then. What it shows is worked out when it is asked for:
- * each trip has two moments, and wages need no text of them.
- */
-class Moment {
-    constructor(minute, ahead) {
-        this.minute = minute;
-        this.ahead = ahead;
-    }
-
-    /** '2026-10-31T23:50' */
-    get local() {
-        return wallText(this.minute + this.ahead);
-    }
-
-    /** '+01:00' */
-    get offset() {
-        return offsetText(this.ahead);
-    }
-
-    /** The numbers of year, month and day. */
-    get date() {
-        return dateOf(Math.floor((this.minute + this.ahead) / DAY)).numbers;
-    }
-
-    /** The minutes since that day began. */
-    get minuteOfDay() {
-        return (this.minute + this.ahead) % DAY;
-    }
+/** A minute with what the clock shows then, `offset` ahead of UTC. */
+export function momentOf({ minute, offset }) {
+    return { minute, local: wallText(minute + offset), offset: offsetText(offset) };
 }
-
-/** Such a moment, `offset` ahead of UTC. */
-export const momentOf = ({ minute, offset }) => new Moment(minute, offset);
 
 /** The month that a minute belongs to in a zone, '2026-10': the one place that decides to whose wages a trip goes. */
 export function monthOf(zone, minute) {
-    return dateOf(Math.floor((minute + clockOf(zone).offsetAt(minute)) / DAY)).month;
+    return wordsOf(Math.floor((minute + clockOf(zone).offsetAt(minute)) / DAY)).month;
 }
 
 /** Today's date in a zone, '2026-11-03', by the machine's clock. */
 export function todayIn(zone) {
-    return localOf(clockOf(zone), Math.floor((Date.now() - EPOCH) / MINUTE_MS)).slice(0, 10);
+    return localOf(clockOf(zone), Math.floor((Date.now() - EPOCH) / 60000)).slice(0, 10);
 }
 
 /** An offset in minutes as it is written: '+01:00'. */

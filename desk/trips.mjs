@@ -24,8 +24,7 @@ export const TRIP_COLUMNS = {
  */
 export function readTrips(files, editions, { zone, monthZone }, mistakes, corrections = null) {
     const sheet = { clock: clockOf(zone), monthZone, editions, stopIn: stopFinder(editions) };
-    const lists = files.map((file) => tripsIn(file, sheet, mistakes, corrections));
-    return [].concat(...lists); // as a whole, where flat would take the trips one by one
+    return files.flatMap((file) => tripsIn(file, sheet, mistakes, corrections));
 }
 
 function tripsIn(file, sheet, mistakes, corrections) {
@@ -54,9 +53,7 @@ function readTrip(file, row, { clock, monthZone, editions, stopIn }, note) {
     if (member === '') note('blank', { column: 'member' });
     const { checkIn, checkOut, month } = timesIn(row, clock, monthZone, note);
     const names = namesIn(row, stopIn, editionsAt(editions, checkIn), note);
-    const travelClass = classIn(row, note);
-    const level = levelIn(row, note);
-    const party = partyIn(row, note);
+    const [travelClass, level, party] = [classIn(row, note), levelIn(row, note), partyIn(row, note)];
     const none = undefined; // what is put into a trip later has its place from the start: each is of one form and size
     const trip = {
         file, line: row.line, member, checkIn, checkOut, month, names, edition: none, from: none, to: none, via: none,
@@ -245,13 +242,15 @@ function partyIn(row, note) {
 export function tripsByMember(trips) {
     const members = new Map();
     for (const trip of trips) {
-        const own = members.get(trip.member);
-        if (own) own.push(trip);
-        else members.set(trip.member, [trip]);
+        if (!members.has(trip.member)) members.set(trip.member, []);
+        members.get(trip.member).push(trip);
     }
     for (const own of members.values()) own.sort((a, b) => a.checkIn.minute - b.checkIn.minute);
     return members;
 }
+
+/** The number that two figures of a text say. */
+const figures = (text, at) => 10 * (text.charCodeAt(at) - 48) + text.charCodeAt(at + 1) - 48;
 
 /** A number as two bytes, the lower one first. */
 function putTwo(bytes, at, number) {
@@ -259,14 +258,11 @@ function putTwo(bytes, at, number) {
     bytes[at + 1] = number >> 8;
 }
 
-/** Year, month, day, hour, minute and hours ahead of a moment, as seven bytes. */
-function putStamp(bytes, at, { date, minuteOfDay, ahead }) {
-    putTwo(bytes, at, date[0]);
-    bytes[at + 2] = date[1];
-    bytes[at + 3] = date[2];
-    bytes[at + 4] = Math.floor(minuteOfDay / 60);
-    bytes[at + 5] = minuteOfDay % 60;
-    bytes[at + 6] = Math.floor(Math.abs(ahead) / 60);
+/** Year, month, day, hour, minute and hours ahead, from '2026-10-31T23:50' and '+01:00', as seven bytes. */
+function putStamp(bytes, at, { local, offset }) {
+    putTwo(bytes, at, 100 * figures(local, 0) + figures(local, 2));
+    for (let i = 0; i < 4; i += 1) bytes[at + 2 + i] = figures(local, 5 + 3 * i);
+    bytes[at + 6] = figures(offset, 1);
 }
 
 /**

@@ -112,9 +112,8 @@ A,2026-10-26,01:50,01:51,Bielefeld Brackwede,Bielefeld Hbf,,,,,,
     assert.deepEqual(said(result), []);
     const { entries, windows } = result.members[0];
     assert.deepEqual(entries.map(({ parts }) => parts[0].minutes), [20, 20, 20, 1]);
-    const shown = ({ minute, local, offset }) => [minute, local, offset];
-    assert.deepEqual(shown(entries[0].checkIn), [14103410, '2026-10-25T02:50', '+02:00']);
-    assert.deepEqual(shown(entries[0].checkOut), [14103430, '2026-10-25T02:10', '+01:00']);
+    assert.deepEqual(entries[0].checkIn, { minute: 14103410, local: '2026-10-25T02:50', offset: '+02:00' });
+    assert.deepEqual(entries[0].checkOut, { minute: 14103430, local: '2026-10-25T02:10', offset: '+01:00' });
     // 24 hours from 02:50 summer time are over at 01:50
     assert.deepEqual(
         windows.map((window) => window.entries.length),

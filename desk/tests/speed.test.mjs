@@ -1,4 +1,4 @@
-// What 100,000 trips of 1,000 members may cost: 2 s of processor time and 300 MB, the command's start included. Machines differ, so the test
+// What 100,000 trips of 1,000 members may cost: 2.5 s of processor time and 300 MB, the command's start included. Machines differ, so the test
 // fails at twice the time: an old way of reading or settling takes more than that.
 import assert from 'node:assert/strict';
 import { spawnSync } from 'node:child_process';
@@ -8,7 +8,7 @@ import path from 'node:path';
 import { test } from 'node:test';
 import { ROOT, SAMPLE, numbers, sample } from './support.mjs';
 
-const MOST_SECONDS = 4;
+const MOST_SECONDS = 5;
 const MOST_MEGABYTES = 300;
 
 const MEMBERS = 1000;
