@@ -1,23 +1,19 @@
 //! The benchmark: the proved library and the program beside the plain implementation of the rules and the tuned one,
 //! which is the yardstick. It prints a page of tables in Markdown.
 //!
-//! - [`sides`]: those that settle, and [`ways`], in which the tuned one is compiled; [`functions`]: the library's others;
-//! - [`agree`]: all make the same of every case before anything is measured;
-//! - [`inputs`], [`cases`], [`rolls`]: the tariffs, the calls and the rolls, all seeded; [`calls`]: what is compared;
+//! - [`sides`]: those that settle; [`agree`]: all make the same of every case before anything is measured;
+//! - [`inputs`], [`cases`], [`rolls`]: the tariffs, the calls and the rolls, all seeded;
 //! - [`timing`]: medians of alternating samples; [`counting`]: instructions, by callgrind;
 //! - [`sizes`]: bytes of the archive and the programs;
 //! - [`machine`]: what all these need and safe Rust cannot do;
-//! - [`programs`]: the program that settles a roll and the tuned ones, run as processes;
-//! - [`report`], [`beside`], [`runs`], [`tables`]: what is printed;
+//! - [`programs`]: the program that settles a roll and the tuned one, run as processes;
+//! - [`report`], [`runs`], [`tables`]: what is printed;
 //! - [`effort`]: how much is measured; [`room`]: a temporary folder.
 
 mod agree;
-mod beside;
-mod calls;
 mod cases;
 mod counting;
 mod effort;
-mod functions;
 mod inputs;
 mod machine;
 mod programs;
@@ -29,18 +25,16 @@ mod sides;
 mod sizes;
 mod tables;
 mod timing;
-mod ways;
 
-use calls::{Cases, Contest};
 use cases::{Case, Group};
 use effort::Effort;
 use milecopper_host::stack;
 use programs::Programs;
 use report::Measured;
-use sides::{sides, sides_counted_elsewhere, LIBRARY};
+use sides::sides;
 use std::process::Command;
 use std::{env, fs};
-use tables::{decimal, with_commas, Verdicts};
+use tables::{with_commas, Verdicts};
 
 pub const USAGE: &str = "usage: bench [--quick | --check] [--without-tuned]
   --quick           fewer samples
@@ -56,99 +50,62 @@ pub fn run(arguments: impl Iterator<Item = String>) -> Result<(), String> {
     let arguments: Vec<String> = arguments.collect();
     let with_tuned = !arguments.iter().any(|word| word == WITHOUT_TUNED);
     let words: Vec<&str> = arguments.iter().map(String::as_str).filter(|&word| word != WITHOUT_TUNED).collect();
-    let cases = Cases::new();
+    let cases = cases::all();
     match words[..] {
         [] => measure(&cases, &effort::FULL, with_tuned),
         ["--quick"] => measure(&cases, &effort::QUICK, with_tuned),
         ["--check"] => check(&cases, with_tuned),
         ["--cases"] => {
-            print!("{}", cases::in_c(&cases.of_sides));
+            print!("{}", cases::in_c(&cases));
             Ok(())
         }
-        ["--counted", file] => report_counted(&cases.of_sides, file),
+        ["--counted", file] => report_counted(&cases, file),
         [counting::SWITCH] => {
-            counting::make_calls(&cases.contests(sides(with_tuned)));
+            counting::make_calls(&cases, sides(with_tuned));
             Ok(())
         }
         _ => Err(USAGE.to_string()),
     }
 }
 
-fn check(cases: &Cases, with_tuned: bool) -> Result<(), String> {
-    all_agree(cases, with_tuned)?;
+fn check(cases: &[Case], with_tuned: bool) -> Result<(), String> {
+    agree::all_agree(cases, sides(with_tuned))?;
     let programs = match runs::agree(&Programs::find(with_tuned)?)? {
         0 => "the programs were NOT compared, as one is for another processor".to_string(),
         rolls => format!("the programs agree on {rolls} rolls"),
     };
     let names: Vec<&str> = sides(with_tuned).iter().map(|side| side.name).collect();
-    let (many, accounts) = (cases.of_sides.len(), cases.accounts.len());
-    println!(
-        "bench: {} agree on {many} cases, library and plain on {accounts} of other functions; {programs}",
-        names.join(", ")
-    );
+    println!("bench: {} agree on {} cases; {programs}", names.join(", "), cases.len());
     Ok(())
 }
 
-fn all_agree(cases: &Cases, with_tuned: bool) -> Result<(), String> {
-    agree::all_agree(&cases.of_sides, sides(with_tuned))?;
-    functions::all_agree(&cases.accounts)
-}
-
-fn measure(cases: &Cases, effort: &Effort, with_tuned: bool) -> Result<(), String> {
+fn measure(cases: &[Case], effort: &Effort, with_tuned: bool) -> Result<(), String> {
     let sides = sides(with_tuned);
     let programs = Programs::find(with_tuned)?;
     let verdicts = &mut Verdicts::default();
-    all_agree(cases, with_tuned)?;
+    agree::all_agree(cases, sides)?;
     eprintln!("counting the instructions of calls");
-    let contests = cases.contests(sides);
     let switches = [counting::SWITCH, WITHOUT_TUNED];
-    let counts = counting::count(&contests, if with_tuned { &switches[..1] } else { &switches });
+    let counts = counting::count(cases, sides, if with_tuned { &switches[..1] } else { &switches });
     head(effort, counts.as_ref().err());
-    if with_tuned {
-        println!("{BOTH_WAYS}");
-    } else {
+    if !with_tuned {
         println!("- The tuned side is left out: it lags behind the rules");
         verdicts.leave_out("the ratios to the tuned side, which lags behind the rules");
     }
     eprintln!("timing calls");
-    let measured = measured(&contests, counts.as_deref().ok(), effort);
-    let (of_sides, others) = measured.split_at(cases.of_sides.len());
-    let (accounts, editions) = others.split_at(cases.accounts.len());
-    report::report(of_sides, sides, verdicts);
-    beside::report_editions(editions, verdicts);
-    beside::report_functions(accounts, verdicts);
-    report_spread(&measured);
+    let measured: Vec<Measured> = (0..cases.len())
+        .map(|place| {
+            let case = &cases[place];
+            let times = (case.group != Group::Refused).then(|| timing::time(case, effort, sides));
+            Measured { case, times, instructions: counts.as_ref().ok().map(|counts| counts[place].clone()) }
+        })
+        .collect();
+    report::report(&measured, sides, verdicts);
     runs::report(&programs, effort, counts.is_ok(), verdicts)?;
-    report_stack(&cases.of_sides, verdicts);
+    report_stack(cases, verdicts);
     sizes::report(&programs)?;
     print!("\n## The aims\n\n{verdicts}");
     Ok(())
-}
-
-/// What is said of the yardstick.
-const BOTH_WAYS: &str = "\
-- The tuned side is compiled twice, for the processor's baseline: by the toolchain's own compiler, which made the \
-library (`host/speed/by-toolchain`), and by rustc. **The faster of the two counts**, in each row and for each measure: \
-its figure is bold, and the ratios library/tuned are to it";
-
-fn measured<'a>(contests: &'a [Contest], counts: Option<&[Vec<u64>]>, effort: &Effort) -> Vec<Measured<'a>> {
-    let one = |(place, contest): (usize, &'a Contest)| {
-        let times = contest.is_timed().then(|| timing::time(&contest.calls, effort));
-        Measured { case: contest.case(), times, instructions: counts.map(|counts| as_figures(&counts[place])) }
-    };
-    contests.iter().enumerate().map(one).collect()
-}
-
-fn as_figures(counts: &[u64]) -> Vec<f64> {
-    counts.iter().map(|&count| count as f64).collect()
-}
-
-fn report_spread(measured: &[Measured]) {
-    let spread = measured.iter().filter_map(|row| row.times.as_ref()).map(|times| times.spread).fold(0.0, f64::max);
-    println!(
-        "\nThe middle half of a call's samples spans {} % of its median at most, in all tables above.",
-        decimal(100.0 * spread, 1)
-    );
 }
 
 /// The tables of the instructions that were counted for x86-64 on another processor (x86-64).
@@ -158,19 +115,18 @@ fn report_counted(cases: &[Case], file: &str) -> Result<(), String> {
     println!("- CPU: none; the toolchain's emulator shows each instruction, and no time is taken");
     println!("- The library: the archive as it is shipped");
     println!(
-        "- The tuned side: {}'s LLVM module, compiled by the toolchain's compiler alone for baseline x86-64; rustc's own \
-         back end, which counts besides on an x86-64 machine, is left out",
+        "- The tuned side: {}'s LLVM module, compiled by the toolchain's compiler for baseline x86-64",
         version("rustc")
     );
     println!("- Copying and filling count as a loop of moves of 16 bytes (`host/speed/x86_64/calls.c`)");
     let verdicts = &mut Verdicts::default();
-    let row = |case, counts: &[u64]| Measured { case, times: None, instructions: Some(as_figures(counts)) };
-    let measured: Vec<Measured> = cases.iter().zip(&counts).map(|(case, counts)| row(case, counts)).collect();
-    report::report(&measured, sides_counted_elsewhere(), verdicts);
-    let pairs = cases::with_two_editions(cases).into_iter();
-    let editions = pairs.map(|pair| row(&cases[pair[0]], &pair.map(|place| counts[place][LIBRARY])));
-    beside::report_editions(&editions.collect::<Vec<_>>(), verdicts);
-    verdicts.leave_out("times, the library's other functions, and the programs");
+    let measured: Vec<Measured> = cases
+        .iter()
+        .zip(counts)
+        .map(|(case, counts)| Measured { case, times: None, instructions: Some(counts) })
+        .collect();
+    report::report(&measured, sides(true), verdicts);
+    verdicts.leave_out("times, and the programs");
     print!("\n## The aims\n\n{verdicts}");
     Ok(())
 }
@@ -189,7 +145,7 @@ fn report_stack(cases: &[Case], verdicts: &mut Verdicts) {
         return;
     }
     let depth = |case: &Case| {
-        let slices = [&case.tariff[..], &case.book, &case.trip, &case.statement];
+        let slices = [&case.tariff[..], &case.book, &case.trip, &vec![0; case.room]];
         stack::depth_of(stack::SETTLE, &stack::Call::of(&slices, [0; 2]))
     };
     let most = cases.iter().filter(|case| case.group != Group::Tariff).map(depth).max().unwrap_or(0);
@@ -204,10 +160,10 @@ fn report_stack(cases: &[Case], verdicts: &mut Verdicts) {
 fn head(effort: &Effort, uncounted: Option<&String>) {
     println!("# Measured on {}\n\n`host/benchmark` wrote this page.\n", env::consts::ARCH);
     println!("- CPU: {} ({})", cpu().unwrap_or("unknown".to_string()), env::consts::ARCH);
-    println!("- Rust: {}, release without link-time optimisation", version("rustc"));
+    println!("- Rust: {}, release with link-time optimisation", version("rustc"));
     println!(
-        "- Times: medians of {} samples of each call, those that are compared alternating; a sample is some {} µs of calls, \
-         each on one of {} books in turn; of the programs, medians of the processor's time of {} alternating runs",
+        "- Times: medians of {} samples a side, the sides alternating; a sample is some {} µs of calls, each on one of \
+         {} books in turn; of the programs, medians of the processor's time of {} alternating runs",
         effort.samples,
         effort.sample.as_micros(),
         timing::BOOKS,

@@ -1,7 +1,6 @@
-//! The tuned side with C's names, for the toolchain's compiler (`../by-toolchain`): a library of its own, which cargo knows
-//! nothing of.
+//! The tuned side with C's names, to be compiled for x86-64 on another processor (`../x86-64`): a library of its own, which
+//! cargo knows nothing of.
 
-mod program;
 mod tuned;
 
 use std::slice::{from_raw_parts, from_raw_parts_mut};
@@ -28,10 +27,4 @@ pub unsafe extern "C" fn tuned_settle(
 #[no_mangle]
 pub unsafe extern "C" fn tuned_check_tariff(tariff: *const u8, tariff_len: usize) -> u64 {
     tuned::check_tariff(from_raw_parts(tariff, tariff_len))
-}
-
-/// The whole program but for its arguments; whether all went well.
-#[no_mangle]
-pub extern "C" fn tuned_settle_files() -> bool {
-    program::settle_files()
 }

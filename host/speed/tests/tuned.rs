@@ -1,11 +1,11 @@
 //! The tuned implementation settles as the model does, and its program prints what the model's prints.
 
-use milecopper_host::differential::{compare, number_of, Check, Functions, Options, Settle, MODEL};
+use milecopper_host::differential::{compare, number_of, Functions, Options, MODEL};
 use milecopper_host::maker::bytes_of;
 use milecopper_host::model;
 use milecopper_host::model::book::BOOK_BYTES;
 use milecopper_host::model::roll::settle_roll;
-use milecopper_speed::{by_toolchain, tuned};
+use milecopper_speed::tuned;
 use std::io::{self, Read};
 
 const TARIFF: &[u8] = include_bytes!("../../../samples/tariff.bin");
@@ -14,17 +14,9 @@ const PAPER_ROLL: &[u8] = include_bytes!("../../../samples/paper-roll.bin");
 
 #[test]
 fn it_settles_as_the_model_does() {
-    settles_as_the_model("the tuned implementation", tuned::check_tariff, tuned::settle);
-}
-
-#[test]
-fn it_does_so_as_the_toolchain_compiles_it_too() {
-    settles_as_the_model("the same by the toolchain's compiler", by_toolchain::check_tariff, by_toolchain::settle);
-}
-
-fn settles_as_the_model(name: &'static str, check: Check, settle: Settle) {
     let options = Options { seeds: vec![5, 6], longer: 1, part: None, names: Vec::new() };
-    if let Err(difference) = compare(name, Functions { check, settle, ..MODEL }, &options) {
+    let functions = Functions { check: tuned::check_tariff, settle: tuned::settle, ..MODEL };
+    if let Err(difference) = compare("the tuned implementation", functions, &options) {
         panic!("{difference}");
     }
 }

@@ -5,10 +5,7 @@ use milecopper_host::differential::books::{fresh, set_word, BICYCLES, TRIPS};
 use milecopper_host::differential::random::Random;
 use milecopper_host::differential::trips::Plan;
 use milecopper_host::model;
-use milecopper_host::model::book::BOOK_BYTES;
-use milecopper_host::model::page::{self, ASSOCIATIONS, PAGE_BYTES, PLACES_OF_EACH};
 use milecopper_host::model::statement::LARGEST_STATEMENT;
-use std::ops::Range;
 
 /// In which table a case stands.
 #[derive(Clone, Copy, Debug, PartialEq, Eq)]
@@ -25,8 +22,6 @@ pub enum Group {
     Areas,
     Stops,
     Party,
-    /// A book on a page of accounts, for the library's other functions.
-    Account,
 }
 
 /// One call: what is given to each side, and what it is for.
@@ -37,37 +32,19 @@ pub struct Case {
     /// So many areas, stops or persons, where the cost grows with them.
     pub size: usize,
     pub tariff: Vec<u8>,
-    /// The book, or a page with it.
     pub book: Vec<u8>,
     pub trip: Vec<u8>,
-    /// The statement before the call: any bytes. Of an account it is the trip's quote, which a posting is given.
-    pub statement: Vec<u8>,
+    /// Bytes of the statement.
+    pub room: usize,
     /// The number of the refusal that is due; 0 where the trip is to be accepted.
     pub refusal: u64,
-    pub aim: Option<Aim>,
+    /// What the library's ratio to the tuned side is to be at most, if something was aimed at.
+    pub aim: Option<f64>,
 }
 
-impl Case {
-    /// Where the book stands: the bytes that a call may change.
-    pub fn account(&self) -> Range<usize> {
-        match self.group {
-            Group::Account => ACCOUNT,
-            _ => 0..self.book.len(),
-        }
-    }
-}
-
-/// What the library's ratio to the tuned side is to be at most, and in which calls.
-#[derive(Clone)]
-pub struct Aim {
-    pub calls: String,
-    pub most: f64,
-}
-
-/// The account that is settled: the last one of a page that is full.
-pub const ASSOCIATION: u32 = ASSOCIATIONS as u32 - 1;
-pub const MEMBER: u32 = PLACES_OF_EACH as u32;
-pub const ACCOUNT: Range<usize> = PAGE_BYTES - BOOK_BYTES..PAGE_BYTES;
+/// The aims: on the largest tariffs, and on the sample with a fresh book; with a used book and a party of 31.
+const AIM: f64 = 1.05;
+const AIM_USED: f64 = 1.15;
 
 /// The charge record of a party of 31.
 const LARGEST_RECORD: usize = 266;
@@ -99,38 +76,6 @@ pub fn all() -> Vec<Case> {
     cases
 }
 
-/// Those of the library's other functions, on used books.
-pub fn accounts() -> Vec<Case> {
-    let settled = [largest(), longest(), sample()].into_iter().flat_map(|network| settled(&network));
-    let telling = |case: &Case| ["used book, in a", "and back"].iter().any(|part| case.name.contains(part));
-    settled.filter(telling).map(in_account).collect()
-}
-
-fn in_account(case: Case) -> Case {
-    let mut page = vec![0; PAGE_BYTES];
-    for association in 0..=ASSOCIATION {
-        for member in 1..=MEMBER {
-            page::add(&mut page, association, member).expect("a place is free");
-        }
-    }
-    page[ACCOUNT].copy_from_slice(&case.book);
-    let mut statement = case.statement;
-    let quoted = model::quote(&case.tariff, &case.book, &case.trip, &mut statement).expect("the trip is accepted");
-    statement.truncate(quoted);
-    Case { group: Group::Account, book: page, statement, aim: None, ..case }
-}
-
-/// Where each call under the longest tariff stands, and the same one under a file of two such editions.
-pub fn with_two_editions(cases: &[Case]) -> Vec<[usize; 2]> {
-    let compared = |case: &&Case| [Group::Settled, Group::Tariff].contains(&case.group);
-    let place = |group: Group, name: &str| cases.iter().position(|case| case.group == group && case.name == name);
-    let pair = |case: &Case| {
-        let rest = case.name.strip_prefix("longest")?;
-        Some([place(case.group, &case.name)?, place(case.group, &format!("two editions{rest}"))?])
-    };
-    cases.iter().filter(compared).filter_map(pair).collect()
-}
-
 /// The cases as x86_64/calls.c has them.
 pub fn in_c(cases: &[Case]) -> String {
     let array = |name: &str, at: usize, bytes: &[u8]| {
@@ -138,14 +83,13 @@ pub fn in_c(cases: &[Case]) -> String {
         format!("static const byte {name}_{at}[] = {{{}}};\n", bytes.join(","))
     };
     let (mut arrays, mut calls) = (String::new(), String::new());
-    for (at, Case { group, tariff, book, trip, statement, .. }) in cases.iter().enumerate() {
+    for (at, Case { group, tariff, book, trip, room, .. }) in cases.iter().enumerate() {
         arrays += &(array("tariff", at, tariff) + &array("book", at, book) + &array("trip", at, trip));
         calls += &format!(
-            "{{tariff_{at}, book_{at}, trip_{at}, {}, {}, {}, {}, {}}},\n",
+            "{{tariff_{at}, book_{at}, trip_{at}, {}, {}, {}, {room}, {}}},\n",
             tariff.len(),
             book.len(),
             trip.len(),
-            statement.len(),
             u8::from(*group == Group::Tariff)
         );
     }
@@ -175,7 +119,7 @@ fn used(network: &Network) -> Vec<u8> {
 
 fn case(group: Group, name: String, network: &Network, book: &[u8], plan: &Plan) -> Case {
     let (tariff, book, trip) = (network.tariff.clone(), book.to_vec(), plan.bytes());
-    Case { group, name, size: 0, tariff, book, trip, statement: vec![0x5b; LARGEST_STATEMENT], refusal: 0, aim: None }
+    Case { group, name, size: 0, tariff, book, trip, room: LARGEST_STATEMENT, refusal: 0, aim: None }
 }
 
 fn settled(network: &Network) -> Vec<Case> {
@@ -193,24 +137,15 @@ fn settled(network: &Network) -> Vec<Case> {
             let riders = 1 + party.iter().sum::<u64>();
             let name = format!("{}, {state}, {where_to}, party of {riders}", network.name);
             let plan = Plan { stops: stops(network, reach, many), ..plan(network, reach, check_in, party) };
-            let aim = aim_of(network.name, riders, state, where_to);
+            let aim = match (state, party) {
+                ("fresh book", _) => Some(AIM),
+                (_, FULL) => Some(AIM_USED),
+                _ => (network.name != "sample").then_some(AIM),
+            };
             cases.push(Case { aim, ..case(Group::Settled, name, network, &book, &plan) });
         }
     }
     cases
-}
-
-/// A file of two editions is judged beside one of them; nothing was aimed at for one person on the sample's used books.
-fn aim_of(network: &str, riders: u64, state: &str, where_to: &str) -> Option<Aim> {
-    let (which, most) = match (network, riders) {
-        ("largest" | "longest", 1) => ("", 1.0),
-        ("largest" | "longest", _) => ("", 1.1),
-        ("sample", 1) if state == "fresh book" => (" on a fresh book", 1.05),
-        ("sample", 31) if where_to.ends_with("and back") => (" there and back", 1.4),
-        ("sample", 31) => (" not there and back", 1.2),
-        _ => return None,
-    };
-    Some(Aim { calls: format!("the {network} tariff, party of {riders}{which}"), most })
 }
 
 /// Nothing but the tariff is looked at.
@@ -292,7 +227,7 @@ fn trip_too_long(case: &mut Case) {
 
 /// For a trip of a party of 31 that is not broken.
 fn no_room(case: &mut Case) {
-    case.statement.truncate(LARGEST_RECORD - 1);
+    case.room = LARGEST_RECORD - 1;
 }
 
 /// The same trip of one person on a fresh book, from stop 0 to stop 1.
@@ -318,11 +253,12 @@ mod tests {
 
     #[test]
     fn each_is_answered_as_it_is_meant() {
-        for Case { group, name, size, tariff, mut book, trip, mut statement, refusal, .. } in all() {
+        for Case { group, name, size, tariff, mut book, trip, room, refusal, .. } in all() {
             if group == Group::Tariff {
                 assert_eq!(model::check_tariff(&tariff), Ok(tariff.len()), "{name}");
                 continue;
             }
+            let mut statement = vec![0; room];
             match model::settle(&tariff, &mut book, &trip, &mut statement) {
                 Ok(written) => {
                     let records = ChargeRecord::read_all(&statement[..written]).expect("charge records");
@@ -332,46 +268,6 @@ mod tests {
                 }
                 Err(found) => assert_eq!(u64::from(found.number), refusal, "{name}"),
             }
-        }
-    }
-
-    #[test]
-    fn aims_are_of_the_calls_that_they_name() {
-        let aims = all().into_iter().filter_map(|case| Some((case.name, case.aim?)));
-        let mut many = [0; 5];
-        for (name, Aim { calls, most }) in aims {
-            let place = [1.0, 1.05, 1.1, 1.2, 1.4].iter().position(|&aim| aim == most).expect("an aim");
-            many[place] += 1;
-            assert!(name
-                .starts_with(calls.strip_prefix("the ").and_then(|calls| calls.split(' ').next()).expect("a tariff")));
-            assert_eq!(calls.contains("party of 31"), name.contains("party of 31"), "{name}");
-            assert_eq!(most == 1.4, name.contains("sample") && name.contains("and back"), "{name}");
-        }
-        assert_eq!(many, [10, 1, 10, 4, 1]);
-    }
-
-    #[test]
-    fn a_quote_can_be_posted_in_each_account() {
-        let accounts = accounts();
-        assert_eq!(accounts.len(), 12);
-        for Case { name, tariff, book: page, trip, statement, .. } in accounts {
-            let (mut settled, mut posted) = (page.clone(), page[ACCOUNT].to_vec());
-            let written =
-                page::settle_member(&tariff, &mut settled, ASSOCIATION, MEMBER, &trip, &mut statement.clone());
-            assert_eq!(written, Ok(statement.len()), "{name}");
-            model::post(&tariff, &mut posted, &trip, &statement).expect("the quote is posted");
-            assert_eq!(settled[ACCOUNT], posted, "{name}");
-        }
-    }
-
-    #[test]
-    fn each_call_under_the_longest_tariff_is_made_under_two_editions() {
-        let cases = all();
-        let pairs = with_two_editions(&cases);
-        assert_eq!(pairs.len(), 11);
-        for [one, two] in pairs.into_iter().map(|pair| pair.map(|place| &cases[place])) {
-            assert_eq!((one.group, &one.trip), (two.group, &two.trip));
-            assert_eq!(one.name.strip_prefix("longest"), two.name.strip_prefix("two editions"));
         }
     }
 

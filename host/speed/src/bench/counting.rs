@@ -3,11 +3,10 @@
 //! One run of this very program under callgrind counts all calls: it tells callgrind before each call to count, and
 //! after it to write the count into a file of its own. A call of a side that does nothing tells what counting costs.
 
-use super::calls::{Call, Contest};
 use super::cases::Case;
 use super::machine::{tell_callgrind, Word};
 use super::room::Room;
-use super::sides::{nothing, PerSide};
+use super::sides::{nothing, PerSide, Side};
 use milecopper_host::differential::Settle;
 use std::ffi::OsStr;
 use std::fs::{self, File};
@@ -23,16 +22,15 @@ pub const SWITCH: &str = "--calls-to-count";
 /// any to copy and fill memory, so that a copied book counts as what a loop of the processor's widest moves counts.
 const SETTINGS: &str = "glibc.cpu.x86_rep_movsb_threshold=1000000000:glibc.cpu.x86_rep_stosb_threshold=1000000000";
 
-/// Makes the calls to be counted: those of each contest, and one that does nothing.
-pub fn make_calls(contests: &[Contest]) {
-    for contest in contests {
-        let nothing = Call { case: contest.case(), function: nothing };
-        for Call { case, function } in contest.calls.iter().copied().chain([nothing]) {
-            let mut statement = case.statement.clone();
+/// Makes the calls to be counted: for each case one of each side, and one that does nothing.
+pub fn make_calls(cases: &[Case], sides: &[Side]) {
+    for case in cases {
+        for settle in sides.iter().map(|side| side.function(case)).chain([nothing as Settle]) {
+            let mut statement = vec![0; case.room];
             // Once before, so that what a first call costs is not counted.
-            black_box(function)(&case.tariff, &mut case.book.clone(), &case.trip, &mut statement);
+            black_box(settle)(&case.tariff, &mut case.book.clone(), &case.trip, &mut statement);
             let mut book = case.book.clone();
-            counted_call(black_box(function), &case.tariff, &mut book, &case.trip, &mut statement);
+            counted_call(black_box(settle), &case.tariff, &mut book, &case.trip, &mut statement);
         }
     }
 }
@@ -46,24 +44,22 @@ fn counted_call(settle: Settle, tariff: &[u8], book: &mut [u8], trip: &[u8], sta
     tell_callgrind(Word::Dump);
 }
 
-/// The instructions of each call of each contest; this program is run with these arguments for it.
-pub fn count(contests: &[Contest], arguments: &[&str]) -> Result<Vec<Vec<u64>>, String> {
+/// The instructions of each case on each side; this program is run with these arguments for it.
+pub fn count(cases: &[Case], sides: &[Side], arguments: &[&str]) -> Result<Vec<PerSide<u64>>, String> {
     let room = Room::new()?;
     let program = std::env::current_exe().map_err(|error| format!("this program cannot be found: {error}"))?;
     let out = room.path().join("counts");
     let mut callgrind = callgrind(&out);
     callgrind.arg("--collect-atstart=no").arg(program).args(arguments).stdout(Stdio::null());
     run(&mut callgrind)?;
-    let mut counts = (1..).map(|call: usize| total_in(&out.with_extension(call.to_string())));
-    let of_contest = |contest: &Contest| {
-        let counts = counts.by_ref().take(contest.calls.len() + 1).collect::<Result<Vec<u64>, String>>()?;
-        own_counts(&counts)
-    };
-    contests.iter().map(of_contest).collect()
+    let calls = sides.len() + 1;
+    let counts = (1..=calls * cases.len()).map(|call| total_in(&out.with_extension(call.to_string())));
+    let counts = counts.collect::<Result<Vec<u64>, String>>()?;
+    counts.chunks(calls).map(own_counts).collect()
 }
 
-/// The counts that x86-64 found, a line a call: of each case the library's, that of the tuned side as the toolchain compiled
-/// it, and that of a call which does nothing. The plain side has none.
+/// The counts that x86-64 found, a line a call: of each case the library's, the tuned side's, and that of a call which does
+/// nothing. The plain side has none.
 pub fn read_counts(file: &str, cases: &[Case]) -> Result<Vec<PerSide<u64>>, String> {
     let text = fs::read_to_string(file).map_err(|error| format!("{file}: {error}"))?;
     let counts: Option<Vec<u64>> = text.lines().map(|line| line.parse().ok()).collect();
@@ -73,11 +69,11 @@ pub fn read_counts(file: &str, cases: &[Case]) -> Result<Vec<PerSide<u64>>, Stri
     counts.chunks(3).map(of_sides).collect()
 }
 
-/// The counts of the calls less that of the one which does nothing, the last.
-fn own_counts(of_contest: &[u64]) -> Result<Vec<u64>, String> {
-    let fault = || format!("callgrind's counts are not those of single calls: {of_contest:?}");
-    let (&nothing, calls) = of_contest.split_last().filter(|(&nothing, _)| nothing < 200).ok_or_else(fault)?;
-    calls.iter().map(|count| count.checked_sub(nothing)).collect::<Option<_>>().ok_or_else(fault)
+/// The counts of the sides less that of the one which does nothing, the last.
+fn own_counts(of_case: &[u64]) -> Result<PerSide<u64>, String> {
+    let fault = || format!("callgrind's counts are not those of single calls: {of_case:?}");
+    let (&nothing, sides) = of_case.split_last().filter(|(&nothing, _)| nothing < 200).ok_or_else(fault)?;
+    sides.iter().map(|count| count.checked_sub(nothing)).collect::<Option<_>>().ok_or_else(fault)
 }
 
 /// The instructions of a whole run of a program that reads this roll and the tariff in this folder.

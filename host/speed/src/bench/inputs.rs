@@ -233,7 +233,7 @@ fn three_areas_stops(random: &mut Random, reach: Reach, many: usize) -> Vec<usiz
 
 /// Where all stops are one, every change breaks a trip: one that is not to be broken has none.
 fn smallest_stops(_: &mut Random, _: Reach, many: usize) -> Vec<usize> {
-    vec![0; if many.is_multiple_of(2) { 2 } else { many }]
+    vec![0; if many % 2 == 0 { 2 } else { many }]
 }
 
 fn to_and_fro(ends: [usize; 2], many: usize) -> Vec<usize> {

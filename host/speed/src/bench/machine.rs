@@ -1,6 +1,5 @@
 //! What safe Rust cannot do: a word to callgrind, the processor's time of programs. All `unsafe` code of the benchmark
-//! stands here, but for the calls of what the toolchain compiled ([`crate::by_toolchain`]). For Linux on x86-64 and
-//! aarch64.
+//! stands here. For Linux on x86-64 and aarch64.
 
 #[cfg(any(target_arch = "x86_64", target_arch = "aarch64"))]
 use std::arch::asm;

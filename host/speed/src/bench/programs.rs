@@ -1,4 +1,4 @@
-//! The program that settles a roll, beside the tuned ones that print the same text, where they are not left out.
+//! The program that settles a roll, beside the tuned one that prints the same text where that is not left out.
 
 use super::counting::count_program;
 use super::effort::Effort;
@@ -7,7 +7,6 @@ use super::machine::time_of_programs;
 use super::rolls::roll;
 use super::room::Room;
 use super::timing::{median, spread};
-use super::ways::WAYS;
 use milecopper_host::model::settle_roll;
 use std::fs::{self, File, OpenOptions};
 use std::io::Read;
@@ -15,11 +14,8 @@ use std::path::{Path, PathBuf};
 use std::process::{Command, Stdio};
 use std::{env, io};
 
-/// One value for the proved program, and one for each tuned one where they are measured.
+/// One value for the proved program, and one for the tuned one where it is measured.
 pub type PerProgram<T> = Vec<T>;
-
-/// The first of the tuned ones, one for each way of compiling it.
-pub const TUNED: usize = 1;
 
 /// What a run takes of each program. It is the processor's time for it, which others at work change less than the time
 /// that passes.
@@ -30,7 +26,7 @@ pub struct Times {
     pub spread: f64,
 }
 
-/// `settle_roll`, and the tuned ones beside this program. MILECOPPER_PROGRAM is the first one's path, seen from this
+/// `settle_roll`, and `tuned_roll` beside this program. MILECOPPER_PROGRAM is the first one's path, seen from this
 /// package's folder: ../../target/native/settle_roll unless set.
 pub struct Programs {
     pub names: PerProgram<&'static str>,
@@ -46,8 +42,8 @@ impl Programs {
         let mut names = vec!["settle_roll"];
         let mut paths = vec![package().join(program)];
         if with_tuned {
-            names.extend(WAYS);
-            paths.extend(["tuned_roll_by_toolchain", "tuned_roll_by_rustc"].map(|name| own.with_file_name(name)));
+            names.push("tuned_roll");
+            paths.push(own.with_file_name("tuned_roll"));
         }
         if let Some(path) = paths.iter().find(|path| !path.is_file()) {
             return Err(format!("{} is not there: host/benchmark builds it", path.display()));
@@ -72,7 +68,7 @@ pub fn package() -> &'static Path {
 /// A folder with a tariff and rolls, in which the programs are run.
 pub struct Site<'a> {
     programs: &'a Programs,
-    pub network: &'a Network,
+    network: &'a Network,
     room: Room,
 }
 
@@ -102,9 +98,9 @@ impl Site<'_> {
             self.run(program, &roll, printed)?;
             texts.push(fs::read_to_string(&out).map_err(|error| told(&out, error))?);
         }
-        for (name, text) in self.programs.names.iter().zip(&texts) {
-            if *text != texts[0] {
-                return Err(differ("settle_roll", &texts[0], name, text, self.network));
+        if let [printed, tuned] = &texts[..] {
+            if printed != tuned {
+                return Err(differ("settle_roll", printed, "tuned_roll", tuned, self.network));
             }
         }
         Ok(texts.swap_remove(0))
@@ -120,29 +116,33 @@ impl Site<'_> {
         Ok(())
     }
 
-    /// Runs each program once on a roll and notes what it took; they take turns at being the first.
-    fn take_turn(&self, turn: usize, records: usize, times: &mut PerProgram<Vec<f64>>) -> Result<(), String> {
+    /// Times the runs of each program on a roll; two take turns at being the first.
+    pub fn time(&self, records: usize, effort: &Effort) -> Result<Times, String> {
         let roll = self.roll(records)?;
         let out = self.room.path().join("written");
         let many = self.programs.paths.len();
-        for program in (0..many).map(|program| (turn + program) % many) {
-            // The file is never cut, so that no run makes it grow but the first, which does not count.
-            let printed = OpenOptions::new().write(true).create(true).truncate(false).open(&out);
-            let printed = printed.map_err(|error| told(&out, error))?;
-            let before = time_of_programs();
-            self.run(&self.programs.paths[program], &roll, printed)?;
-            let time = time_of_programs() - before;
-            if turn > 0 {
-                times[program].push(time.as_nanos() as f64);
+        let mut times = vec![Vec::new(); many];
+        for turn in 0..=effort.runs {
+            for program in (0..many).map(|program| (turn + program) % many) {
+                // The file is never cut, so that no run makes it grow but the first, which does not count.
+                let printed = OpenOptions::new().write(true).create(true).truncate(false).open(&out);
+                let printed = printed.map_err(|error| told(&out, error))?;
+                let before = time_of_programs();
+                self.run(&self.programs.paths[program], &roll, printed)?;
+                let time = time_of_programs() - before;
+                if turn > 0 {
+                    times[program].push(time.as_nanos() as f64);
+                }
             }
         }
-        Ok(())
+        let spread = times.iter().cloned().map(spread).fold(0.0, f64::max);
+        Ok(Times { ns: times.into_iter().map(median).collect(), spread })
     }
 
     /// The instructions of a whole run of each program.
-    pub fn count(&self, records: usize) -> Result<PerProgram<f64>, String> {
+    pub fn count(&self, records: usize) -> Result<PerProgram<u64>, String> {
         let roll = self.roll(records)?;
-        let count = |program: &PathBuf| Ok(count_program(program, self.room.path(), &roll, &self.room)? as f64);
+        let count = |program: &PathBuf| count_program(program, self.room.path(), &roll, &self.room);
         self.programs.paths.iter().map(count).collect()
     }
 
@@ -157,23 +157,6 @@ impl Site<'_> {
             Err(format!("{} ended with {status}", program.display()))
         }
     }
-}
-
-/// Times the runs of each program on a roll in each folder. The folders take turns too, so that what else the machine does
-/// meanwhile falls on all of them.
-pub fn time(sites: &[Site], records: usize, effort: &Effort) -> Result<Vec<Times>, String> {
-    let none = |site: &Site| vec![Vec::new(); site.programs.paths.len()];
-    let mut times: Vec<PerProgram<Vec<f64>>> = sites.iter().map(none).collect();
-    for turn in 0..=effort.runs {
-        for (site, times) in sites.iter().zip(&mut times) {
-            site.take_turn(turn, records, times)?;
-        }
-    }
-    let of_site = |times: PerProgram<Vec<f64>>| {
-        let spread = times.iter().cloned().map(spread).fold(0.0, f64::max);
-        Times { ns: times.into_iter().map(median).collect(), spread }
-    };
-    Ok(times.into_iter().map(of_site).collect())
 }
 
 fn write(file: &Path, bytes: &[u8]) -> Result<(), String> {

@@ -1,36 +1,32 @@
 //! The tables of the calls.
 
 use super::cases::{Case, Group};
-use super::sides::{Side, LIBRARY, TUNED};
+use super::sides::{PerSide, Side, LIBRARY, TUNED};
 use super::tables::{decimal, ratio, slope, whole, with_commas, Table, Verdicts, NONE};
 use super::timing::Times;
-use super::ways::{marked, ratio_to_faster, tell, Tally};
 
-/// A case with what was measured of each call: no time where only instructions are counted, no instructions where there is
-/// no valgrind.
+/// A case with what was measured: no time where only instructions are counted, no instructions where there is no
+/// valgrind.
 pub struct Measured<'a> {
     pub case: &'a Case,
     pub times: Option<Times>,
-    pub instructions: Option<Vec<f64>>,
+    pub instructions: Option<PerSide<u64>>,
 }
 
-impl Measured<'_> {
-    fn ns(&self) -> Option<&[f64]> {
-        self.times.as_ref().map(|times| &times.ns[..])
-    }
-}
-
-/// All tables of the calls on all sides.
+/// All tables of the calls, in the demands' order.
 pub fn report(measured: &[Measured], sides: &[Side], verdicts: &mut Verdicts) {
     let of = |group: Group| -> Vec<&Measured> { measured.iter().filter(|row| row.case.group == group).collect() };
     println!("\n## One call\n");
     print!("{}", timed(&of(Group::Settled), sides, Some(verdicts)));
-    tell_ways(&of(Group::Settled));
     println!("\n## One call that only checks\n");
     println!("Tariff, book and trip are read through, and nothing is written.\n");
     print!("{}", timed(&of(Group::Checked), sides, None));
     println!("\n## A tariff checked alone\n");
     print!("{}", timed(&of(Group::Tariff), sides, None));
+    let spread = measured.iter().filter_map(|row| row.times.as_ref()).map(|times| times.spread).reduce(f64::max);
+    if let Some(spread) = spread {
+        println!("\nThe middle half of a side's samples spans {} % of its median at most.", decimal(100.0 * spread, 1));
+    }
     println!("\n## The refusals, in instructions\n");
     println!("The largest tariff, a used book, a party of 31; each fault as late in the bytes as it can stand.\n");
     print!("{}", counted(&of(Group::Refused), sides));
@@ -45,16 +41,9 @@ pub fn report(measured: &[Measured], sides: &[Side], verdicts: &mut Verdicts) {
     print!("{}", growth("party of", "person or bicycle", &of(Group::Party), sides));
 }
 
-/// Which way the tuned side was compiled where it was the faster.
-fn tell_ways(rows: &[&Measured]) {
-    let times: Vec<&[f64]> = rows.iter().filter_map(|row| row.ns()).collect();
-    let counts: Vec<&[f64]> = rows.iter().filter_map(|row| row.instructions.as_deref()).collect();
-    tell([Tally::of("time", &times, TUNED), Tally::of("instructions", &counts, TUNED)]);
-}
-
-/// The library, and the tuned side, compiled each way, where it is measured.
+/// The library, and the tuned side where it is measured.
 fn compared(sides: &[Side]) -> impl Iterator<Item = usize> + '_ {
-    [LIBRARY].into_iter().chain(TUNED..sides.len())
+    [LIBRARY, TUNED].into_iter().filter(|&side| side < sides.len())
 }
 
 /// Such a heading for each of these sides.
@@ -75,10 +64,10 @@ fn timed(rows: &[&Measured], sides: &[Side], mut verdicts: Option<&mut Verdicts>
     let mut table = Table::of(head);
     for row in rows {
         let mut cells = vec![row.case.name.clone()];
-        cells.extend(figures(row.ns(), sides, 0..sides.len()));
-        cells.extend(figures(row.instructions.as_deref(), sides, compared(sides)));
+        cells.extend((0..sides.len()).map(|side| ns(row, side)));
+        cells.extend(compared(sides).map(|side| instructions(row, side)));
         if with_tuned {
-            let found = [row.ns(), row.instructions.as_deref()].map(ratio_of);
+            let found = [time_ratio(row), instruction_ratio(row)];
             cells.extend(found.map(|found| found.map_or(NONE.to_string(), ratio)));
             if let Some(verdicts) = &mut verdicts {
                 cells.extend(judged(row.case, found, verdicts));
@@ -97,8 +86,8 @@ fn counted(rows: &[&Measured], sides: &[Side]) -> Table {
     let mut table = Table::of(head);
     for row in rows {
         let mut cells = vec![row.case.name.clone()];
-        cells.extend(figures(row.instructions.as_deref(), sides, compared(sides)));
-        cells.extend(with_tuned.then(|| ratio_of(row.instructions.as_deref()).map_or(NONE.to_string(), ratio)));
+        cells.extend(compared(sides).map(|side| instructions(row, side)));
+        cells.extend(with_tuned.then(|| instruction_ratio(row).map_or(NONE.to_string(), ratio)));
         table.row(cells);
     }
     table
@@ -106,11 +95,11 @@ fn counted(rows: &[&Measured], sides: &[Side]) -> Table {
 
 /// The aim, and what is to be said of the ratio of times and of that of instructions.
 fn judged(case: &Case, found: [Option<f64>; 2], verdicts: &mut Verdicts) -> Vec<String> {
-    let aim = case.aim.as_ref();
-    let mut cells = vec![aim.map_or(NONE.to_string(), |aim| format!("{:.2}", aim.most))];
+    let mut cells = vec![case.aim.map_or(NONE.to_string(), |aim| format!("{aim:.2}"))];
     for (what, found) in ["time", "instructions"].into_iter().zip(found) {
-        let verdict = aim.zip(found).map(|(aim, found)| {
-            verdicts.judge_ratio(&format!("a call's {what} on {}, library/tuned", aim.calls), found, aim.most)
+        let verdict = case.aim.zip(found).map(|(aim, found)| {
+            let of = case.name.split(',').next().unwrap_or("");
+            verdicts.judge_ratio(&format!("a call's {what} on the {of} tariff, library/tuned"), found, aim)
         });
         cells.push(verdict.unwrap_or(NONE).to_string());
     }
@@ -125,13 +114,13 @@ fn growth(sizes: &str, item: &str, rows: &[&Measured], sides: &[Side]) -> Table 
     let mut table = Table::of(head);
     for row in rows {
         let mut cells = vec![with_commas(row.case.size as u64)];
-        cells.extend(figures(row.ns(), sides, compared(sides)));
-        cells.extend(figures(row.instructions.as_deref(), sides, compared(sides)));
+        cells.extend(compared(sides).map(|side| ns(row, side)));
+        cells.extend(compared(sides).map(|side| instructions(row, side)));
         table.row(cells);
     }
     let mut cells = vec![format!("per {item}")];
-    cells.extend(compared(sides).map(|side| slope_of(rows, 2, |row| row.ns().map(|ns| ns[side]))));
-    let count_of = |row: &Measured, side: usize| row.instructions.as_ref().map(|counts| counts[side]);
+    cells.extend(compared(sides).map(|side| slope_of(rows, 2, |row| row.times.as_ref().map(|times| times.ns[side]))));
+    let count_of = |row: &Measured, side: usize| row.instructions.as_ref().map(|counts| counts[side] as f64);
     cells.extend(compared(sides).map(|side| slope_of(rows, 1, |row| count_of(row, side))));
     table.row(cells);
     table
@@ -142,13 +131,18 @@ fn slope_of(rows: &[&Measured], decimals: usize, value: impl Fn(&Measured) -> Op
     points.map_or(NONE.to_string(), |points| decimal(slope(&points), decimals))
 }
 
-/// A cell for each of these sides; that of the faster tuned one stands out.
-fn figures(values: Option<&[f64]>, sides: &[Side], of: impl Iterator<Item = usize>) -> Vec<String> {
-    let cells = values.map_or(vec![NONE.to_string(); sides.len()], |values| marked(values, TUNED, whole));
-    of.map(|side| cells[side].clone()).collect()
+fn ns(row: &Measured, side: usize) -> String {
+    row.times.as_ref().map_or(NONE.to_string(), |times| whole(times.ns[side]))
 }
 
-/// The library's to the faster tuned side's.
-fn ratio_of(values: Option<&[f64]>) -> Option<f64> {
-    ratio_to_faster(values?, TUNED)
+fn instructions(row: &Measured, side: usize) -> String {
+    row.instructions.as_ref().map_or(NONE.to_string(), |counts| with_commas(counts[side]))
+}
+
+fn time_ratio(row: &Measured) -> Option<f64> {
+    row.times.as_ref().map(|times| times.ns[LIBRARY] / times.ns[TUNED])
+}
+
+fn instruction_ratio(row: &Measured) -> Option<f64> {
+    row.instructions.as_ref().map(|counts| counts[LIBRARY] as f64 / counts[TUNED] as f64)
 }

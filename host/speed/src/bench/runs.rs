@@ -2,14 +2,12 @@
 
 use super::effort::Effort;
 use super::inputs::{largest, longest, smallest, three_areas, Network};
-use super::programs::{time, PerProgram, Programs, Site, Times, TUNED};
+use super::programs::{PerProgram, Programs, Site, Times};
 use super::rolls::RECORDS;
-use super::tables::{decimal, ratio, slope, whole, with_commas, Table, Verdicts, NONE};
-use super::ways::{marked, ratio_to_faster, tell, Tally};
-use std::slice;
+use super::tables::{decimal, ratio, slope, with_commas, Table, Verdicts, NONE};
 
-/// The aim of the program's ratio to the faster tuned one.
-const AIM: f64 = 1.5;
+/// The aim of the program's ratio to the tuned one.
+const AIM: f64 = 1.4;
 /// The aim of a trip's cost on the largest tariff against that on one of the same depth.
 const AIM_OF_SIZE: f64 = 1.05;
 
@@ -49,14 +47,15 @@ pub fn report(programs: &Programs, effort: &Effort, counts: bool, verdicts: &mut
         return Ok(());
     }
     let networks = networks();
-    eprintln!("the programs on rolls");
-    let runs = measure(programs, &networks, effort, counts)?;
+    let mut runs = Vec::new();
+    for network in &networks {
+        eprintln!("the programs on the tariff '{}'", network.name);
+        runs.push(measure(programs, network, effort, counts)?);
+    }
     println!(
         "The same trips on each tariff, but for their stops. A trip's cost leaves out what an empty roll costs.\n"
     );
-    print!("{}", table_of(programs, &runs, verdicts));
-    tell_ways(&runs);
-    println!();
+    println!("{}", table_of(programs, &runs, verdicts));
     for run in &runs {
         println!("- {}: {}", run.name, run.tail);
     }
@@ -69,30 +68,20 @@ pub fn report(programs: &Programs, effort: &Effort, counts: bool, verdicts: &mut
     Ok(())
 }
 
-fn measure(programs: &Programs, networks: &[Network], effort: &Effort, counts: bool) -> Result<Vec<Run>, String> {
-    let sites: Vec<Site> = networks.iter().map(|network| Site::new(programs, network)).collect::<Result<_, _>>()?;
-    let printed: Vec<String> = sites.iter().map(|site| site.agree(RECORDS)).collect::<Result<_, _>>()?;
-    let (whole, empty) = (time(&sites, RECORDS, effort)?, time(&sites, 0, effort)?);
-    let mut runs = Vec::new();
-    for (((whole, empty), printed), site) in whole.into_iter().zip(empty).zip(printed).zip(&sites) {
-        let tail = printed.lines().last().unwrap_or("").to_string();
-        let instructions = if counts { Some(per_record(site, effort.counted)?) } else { None };
-        runs.push(Run { name: site.network.name, tail, whole, empty, instructions });
-    }
-    Ok(runs)
-}
-
-/// Which way the tuned program was compiled where it was the faster.
-fn tell_ways(runs: &[Run]) {
-    let times: Vec<&[f64]> = runs.iter().map(|run| &run.whole.ns[..]).collect();
-    let counts: Vec<&[f64]> = runs.iter().filter_map(|run| run.instructions.as_deref()).collect();
-    tell([Tally::of("time", &times, TUNED), Tally::of("instructions", &counts, TUNED)]);
+fn measure(programs: &Programs, network: &Network, effort: &Effort, counts: bool) -> Result<Run, String> {
+    let site = Site::new(programs, network)?;
+    let printed = site.agree(RECORDS)?;
+    let tail = printed.lines().last().unwrap_or("").to_string();
+    let whole = site.time(RECORDS, effort)?;
+    let empty = site.time(0, effort)?;
+    let instructions = if counts { Some(per_record(&site, effort.counted)?) } else { None };
+    Ok(Run { name: network.name, tail, whole, empty, instructions })
 }
 
 /// The instructions of a record, by the difference of two rolls.
 fn per_record(site: &Site, [short, long]: [usize; 2]) -> Result<PerProgram<f64>, String> {
     let (less, more) = (site.count(short)?, site.count(long)?);
-    Ok(less.iter().zip(&more).map(|(less, more)| (more - less) / (long - short) as f64).collect())
+    Ok(less.iter().zip(&more).map(|(&less, &more)| (more as f64 - less as f64) / (long - short) as f64).collect())
 }
 
 /// Such a heading for each program.
@@ -101,22 +90,20 @@ fn headed<'a>(programs: &'a Programs, unit: &'a str) -> impl Iterator<Item = Str
 }
 
 fn table_of(programs: &Programs, runs: &[Run], verdicts: &mut Verdicts) -> Table {
-    let is_judged = programs.names.len() > TUNED;
+    let is_judged = programs.names.len() == 2;
     let mut head = vec!["tariff".to_string()];
     head.extend(headed(programs, "ms"));
     head.extend(headed(programs, "ns a trip"));
     head.extend(headed(programs, "instr. a record"));
     if is_judged {
-        head.extend(
-            ["time settle_roll/tuned", "instr. settle_roll/tuned", "aim", "time", "instr."].map(str::to_string),
-        );
+        head.extend(["time settle_roll/tuned_roll", "instr.", "aim", "time", "instr."].map(str::to_string));
     }
     let mut table = Table::of(head);
     for run in runs {
         let mut cells = vec![run.name.to_string()];
-        cells.extend(marked(&run.whole.ns, TUNED, |ns| decimal(ns / 1e6, 2)));
+        cells.extend(run.whole.ns.iter().map(|ns| decimal(ns / 1e6, 2)));
         cells.extend(run.per_trip().iter().map(|&ns| decimal(ns, 1)));
-        cells.extend(counted(programs, run.instructions.as_ref(), |count| decimal(count, 1)));
+        cells.extend(counted(programs, run.instructions.as_ref(), |&count| decimal(count, 1)));
         if is_judged {
             cells.extend(judged(run, verdicts));
         }
@@ -127,19 +114,20 @@ fn table_of(programs: &Programs, runs: &[Run], verdicts: &mut Verdicts) -> Table
 
 /// The ratios of times and of instructions, the aim and the verdicts.
 fn judged(run: &Run, verdicts: &mut Verdicts) -> Vec<String> {
-    let found = [Some(&run.whole.ns), run.instructions.as_ref()].map(|values| ratio_to_faster(values?, TUNED));
+    let found =
+        [Some(&run.whole.ns), run.instructions.as_ref()].map(|values| values.map(|values| values[0] / values[1]));
     let mut cells: Vec<String> = found.iter().map(|found| found.map_or(NONE.to_string(), ratio)).collect();
     cells.push(format!("{AIM:.2}"));
     for (what, found) in ["time", "instructions a record"].into_iter().zip(found) {
-        let aim = format!("the program's {what}, settle_roll/tuned");
+        let aim = format!("the program's {what}, settle_roll/tuned_roll");
         cells.push(found.map_or(NONE, |found| verdicts.judge_ratio(&aim, found, AIM)).to_string());
     }
     cells
 }
 
 /// A cell for each program, also where nothing was counted.
-fn counted(programs: &Programs, counts: Option<&PerProgram<f64>>, text: impl Fn(f64) -> String) -> PerProgram<String> {
-    counts.map_or(vec![NONE.to_string(); programs.names.len()], |counts| marked(counts, TUNED, text))
+fn counted<T>(programs: &Programs, counts: Option<&PerProgram<T>>, text: impl Fn(&T) -> String) -> PerProgram<String> {
+    counts.map_or(vec![NONE.to_string(); programs.names.len()], |counts| counts.iter().map(text).collect())
 }
 
 /// The largest and the longest tariff against one that is as deep as any and has next to no records, and the largest against
@@ -182,14 +170,14 @@ fn growth(programs: &Programs, site: &Site, effort: &Effort, counts: bool) -> Re
     let mut times = Vec::new();
     let mut instructions = Vec::new();
     for records in LENGTHS {
-        let Times { ns, .. } = time(slice::from_ref(site), records, effort)?.swap_remove(0);
+        let Times { ns, .. } = site.time(records, effort)?;
         let count = if counts { Some(site.count(records)?) } else { None };
         let mut cells = vec![with_commas(records as u64)];
-        cells.extend(marked(&ns, TUNED, |ns| decimal(ns / 1e6, 2)));
-        cells.extend(counted(programs, count.as_ref(), whole));
+        cells.extend(ns.iter().map(|ns| decimal(ns / 1e6, 2)));
+        cells.extend(counted(programs, count.as_ref(), |&count| with_commas(count)));
         table.row(cells);
         times.push((records, ns));
-        instructions.extend(count.map(|count| (records, count)));
+        instructions.extend(count.map(|count| (records, count.iter().map(|&count| count as f64).collect())));
     }
     let mut cells = vec![String::from("per record")];
     cells.extend((0..programs.names.len()).map(|program| slope_of(&times, program, " ns")));

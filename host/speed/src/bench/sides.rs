@@ -1,8 +1,7 @@
 //! Those that settle, measured side by side.
 
 use super::cases::{Case, Group};
-use super::ways::WAYS;
-use crate::{by_toolchain, tuned};
+use crate::tuned;
 use milecopper_host::differential::{Settle, MODEL};
 use milecopper_host::library;
 
@@ -28,14 +27,13 @@ pub type PerSide<T> = Vec<T>;
 
 pub const LIBRARY: usize = 0;
 pub const PLAIN: usize = 1;
-/// The first of the tuned ones, one for each way of compiling it. They are the last, as they may be left out.
+/// The last, as it may be left out.
 pub const TUNED: usize = 2;
 
-static ALL: [Side; 4] = [
+static ALL: [Side; 3] = [
     Side { name: "library", settle: library::settle_to_number, check: |tariff, _, _, _| library::check_tariff(tariff) },
     Side { name: "plain", settle: MODEL.settle, check: |tariff, _, _, _| (MODEL.check)(tariff) },
-    Side { name: WAYS[0], settle: by_toolchain::settle, check: |tariff, _, _, _| by_toolchain::check_tariff(tariff) },
-    Side { name: WAYS[1], settle: tuned::settle, check: |tariff, _, _, _| tuned::check_tariff(tariff) },
+    Side { name: "tuned", settle: tuned::settle, check: |tariff, _, _, _| tuned::check_tariff(tariff) },
 ];
 
 /// The sides that are measured.
@@ -45,11 +43,6 @@ pub fn sides(with_tuned: bool) -> &'static [Side] {
     } else {
         &ALL[..TUNED]
     }
-}
-
-/// Those of calls that are counted for x86-64 on another processor, where rustc has no libraries for that one.
-pub fn sides_counted_elsewhere() -> &'static [Side] {
-    &ALL[..=TUNED]
 }
 
 /// Does nothing: what is left is what measuring itself costs.

@@ -1,51 +1,40 @@
 //! Nanoseconds of a call: medians of samples in which the sides alternate.
 
-use super::calls::Call;
 use super::cases::Case;
 use super::effort::Effort;
+use super::sides::{PerSide, Side};
 use milecopper_host::differential::Settle;
 use std::hint::black_box;
-use std::ptr;
 use std::time::{Duration, Instant};
 
 /// A batch is one call on each of so many books, which are put back before it and not within its time.
 pub const BOOKS: usize = 16;
 
-/// Each of four calls comes after each other once; and as often where there are only the first two.
-const ORDERS: [[usize; 4]; 4] = [[0, 1, 3, 2], [1, 2, 0, 3], [2, 3, 1, 0], [3, 0, 2, 1]];
+/// Every order of three sides, so that each comes after each other as often; where the last is left out, so do two.
+const ORDERS: [[usize; 3]; 6] = [[0, 1, 2], [2, 1, 0], [1, 2, 0], [0, 2, 1], [2, 0, 1], [1, 0, 2]];
 
-/// What each of some calls takes.
+/// What a call takes on each side.
 #[derive(Clone)]
 pub struct Times {
     /// The medians, in nanoseconds.
-    pub ns: Vec<f64>,
-    /// What the middle half of a call's samples spans, as a part of its median: the largest of them.
+    pub ns: PerSide<f64>,
+    /// What the middle half of a side's samples spans, as a part of its median: the largest of them.
     pub spread: f64,
 }
 
-/// Times up to four calls in turn.
-pub fn time(calls: &[Call], effort: &Effort) -> Times {
-    let mut benches = Vec::new();
-    let at: Vec<usize> = calls.iter().map(|call| bench_of(&mut benches, call.case)).collect();
-    let batches_for = |place: usize| benches[at[place]].batches_for(calls[place].function, effort.sample);
-    let batches: Vec<u32> = (0..calls.len()).map(batches_for).collect();
-    let mut samples = vec![Vec::new(); calls.len()];
+/// Times a call on each side.
+pub fn time(case: &Case, effort: &Effort, sides: &[Side]) -> Times {
+    let mut bench = Bench::of(case);
+    let batches: PerSide<u32> =
+        sides.iter().map(|side| bench.batches_for(side.function(case), effort.sample)).collect();
+    let mut samples = vec![Vec::new(); sides.len()];
     for order in ORDERS.iter().cycle().take(effort.samples) {
-        for &place in order.iter().filter(|&&place| place < calls.len()) {
-            samples[place].push(benches[at[place]].sample(calls[place].function, batches[place]));
+        for &side in order.iter().filter(|&&side| side < sides.len()) {
+            samples[side].push(bench.sample(sides[side].function(case), batches[side]));
         }
     }
     let spread = samples.iter().cloned().map(spread).fold(0.0, f64::max);
     Times { ns: samples.into_iter().map(median).collect(), spread }
-}
-
-/// Which of the benches is this case's. Calls with the same case share its slices, so that none has better ones.
-fn bench_of<'a>(benches: &mut Vec<Bench<'a>>, case: &'a Case) -> usize {
-    let place = benches.iter().position(|bench| ptr::eq(bench.case, case)).unwrap_or(benches.len());
-    if place == benches.len() {
-        benches.push(Bench::of(case));
-    }
-    place
 }
 
 /// A case, and the slices that are written.
@@ -57,7 +46,7 @@ struct Bench<'a> {
 
 impl Bench<'_> {
     fn of(case: &Case) -> Bench<'_> {
-        Bench { case, books: vec![case.book.clone(); BOOKS], statement: case.statement.clone() }
+        Bench { case, books: vec![case.book.clone(); BOOKS], statement: vec![0; case.room] }
     }
 
     /// So many batches take about this time.
@@ -76,7 +65,7 @@ impl Bench<'_> {
 
     fn batch(&mut self, settle: Settle) -> Duration {
         for book in &mut self.books {
-            book[self.case.account()].copy_from_slice(&self.case.book[self.case.account()]);
+            book.copy_from_slice(&self.case.book);
         }
         let settle = black_box(settle);
         let clock = Instant::now();
@@ -120,12 +109,10 @@ mod tests {
     }
 
     #[test]
-    fn each_call_comes_after_each_other_as_often() {
-        for (first, then) in (0..4).flat_map(|first| (0..4).map(move |then| (first, then))).filter(|(a, b)| a != b) {
-            let follows = |order: &&[usize; 4]| order.windows(2).any(|pair| pair == [first, then]);
-            assert_eq!(ORDERS.iter().filter(follows).count(), 1);
+    fn each_side_comes_after_each_other_as_often() {
+        for (first, then) in [(0, 1), (0, 2), (1, 0), (1, 2), (2, 0), (2, 1)] {
+            let follows = |order: &&[usize; 3]| order.windows(2).any(|pair| pair == [first, then]);
+            assert_eq!(ORDERS.iter().filter(follows).count(), 2);
         }
-        let zero_first = |order: &&[usize; 4]| order.iter().find(|&&place| place < 2) == Some(&0);
-        assert_eq!(ORDERS.iter().filter(zero_first).count(), 2);
     }
 }

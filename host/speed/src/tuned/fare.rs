@@ -121,7 +121,6 @@ pub fn reduced_for_children(area: &Area, amount: Cents) -> Cents {
 
 /// ÷ 100, rounded up: no amount is so large that 99 could not be added first.
 #[inline(always)]
-#[allow(clippy::manual_div_ceil)] // which adds afterwards, if there is a rest
 fn hundredths(amount: u32) -> Cents {
     (amount + 99) / 100
 }

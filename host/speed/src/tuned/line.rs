@@ -6,7 +6,7 @@ static TEXTS: [u64; 1_024] = {
     let mut texts = [0; 1_024];
     let mut number = 0;
     while number < 1_000 {
-        let digits = 0x30_30_30 | (number / 100) | ((number / 10 % 10) << 8) | ((number % 10) << 16);
+        let digits = 0x30_30_30 | number / 100 | (number / 10 % 10) << 8 | (number % 10) << 16;
         let zeros = (number < 100) as u64 + (number < 10) as u64;
         let text = (BLANK | digits) >> (8 * zeros);
         texts[number as usize] = text | (4 - zeros) << 32 | digits << 40;
