@@ -15,7 +15,7 @@ use Rattle.wire.specs.declared.Frame.TheVariants as frame
 use Rattle.wire.proofs.Frames.{whole}
 use Rattle.wire.proofs.Tests.{both_left, both_right}
 use Rattle.reader.specs.Reading.{read_at, broken_frame}
-use Rattle.text.specs.Clauses.{Behind}
+use Rattle.text.specs.Clauses.{Put}
 use Rattle.csv_table.specs.declared.turns.Turn.{Turn}
 use Rattle.csv_table.specs.declared.turns.Turn.TheVariants as turn
 use Rattle.csv_table.specs.Text.{refused_text, record_text}
@@ -59,46 +59,46 @@ module _ (piece : List ℕ) (more : Bool) (number : ℕ) where
   broken_way e = rw (e, effect_of)
 
 -- no byte put
-pub nothing_put : (out : List ℕ) (place : ℕ) → Behind [] most_turn out place out place
-nothing_put out place = record { put = sym (append-nil (take place out)); order = omega arith; room = omega arith }
+pub nothing_put : (out : List ℕ) → Put [] most_turn out out
+nothing_put out = record { put = sym (append-nil out); room = omega arith }
 
 -- ---- What was done, by the turn's answer.
 
-module _ {before : List ℕ} {place : ℕ} {after : List ℕ} where
-  pub asked_by : {d : Effect} → Did before place after d turn.More → (d ≡ asks) × (take place after ≡ take place before)
+module _ {before after : List ℕ} where
+  pub asked_by : {d : Effect} → Did before after d turn.More → (d ≡ asks) × (after ≡ before)
   asked_by (asked same) = (refl, same)
 
   pub put_by :
-      {d : Effect} {used end number : ℕ} → Did before place after d (turn.On used end number)
-      → (text : List ℕ) × (d ≡ puts used text number) × Behind text most_turn before place after end
+      {d : Effect} {used number : ℕ} → Did before after d (turn.On used number)
+      → (text : List ℕ) × (d ≡ puts used text number) × Put text most_turn before after
   put_by (put x) = (_, refl, x)
 
   pub ended_by :
-      {d : Effect} {end : ℕ} → Did before place after d (turn.Over end)
-      → (text : List ℕ) × (d ≡ ends text) × Behind text most_turn before place after end
+      {d : Effect} → Did before after d turn.Over
+      → (text : List ℕ) × (d ≡ ends text) × Put text most_turn before after
   ended_by (ended x) = (_, refl, x)
 
 -- ---- The range of what a turn leaves.
 
-module _ (piece : List ℕ) (more : Bool) (number place : ℕ) {a b : List ℕ} where
+module _ (piece : List ℕ) (more : Bool) (number : ℕ) {a b : List ℕ} where
   put_range :
       {r : Turn} (used : ℕ) (text : List ℕ) (next : ℕ) → used ≤ length piece → next ≡ number + 1 → next < most_records
-      → Did a place b (puts used text next) r → Range piece more number place r
+      → Did a b (puts used text next) r → Range piece more number a b r
   put_range used text next within one few (put x) = (within, (x.room, (one, few)))
 
-  ended_range : {r : Turn} (text : List ℕ) → Did a place b (ends text) r → Range piece more number place r
+  ended_range : {r : Turn} (text : List ℕ) → Did a b (ends text) r → Range piece more number a b r
   ended_range text (ended x) = x.room
 
-  asked_range : {r : Turn} → more ≡ true → length piece < longest_record → Did a place b asks r → Range piece more number place r
+  asked_range : {r : Turn} → more ≡ true → length piece < longest_record → Did a b asks r → Range piece more number a b r
   asked_range can few (asked same) = (can, few)
 
   module _ {r : Turn} where
     -- a whole record
     pub record_turned :
         (kind body : ℕ) → frame_at piece 0 ≡ frame.Whole kind body → number < most_records
-        → Did a place b
+        → Did a b
         (record_effect (length (take (4 + body) piece)) (record_text (number + 1) (read_at (take (4 + body) piece) 0)) (number + 1)) r
-        → Turned piece more number a place b r
+        → Turned piece more number a b r
     record_turned kind body e few d =
         let facts = whole piece 0 kind body e in
         let used_is : length (take (4 + body) piece) ≡ 4 + body = length-take-le (4 + body) piece (omega arith) in
@@ -108,8 +108,8 @@ module _ (piece : List ℕ) (more : Bool) (number place : ℕ) {a b : List ℕ} 
         text : List ℕ
         text = record_text (number + 1) (read_at (take (4 + body) piece) 0)
 
-        go : (t : Bool) → eqb (number + 1) most_records ≡ t → 4 + body ≤ length piece → Did a place b (record_effect (4 + body) text (number + 1)) r
-            → Range piece more number place r
+        go : (t : Bool) → eqb (number + 1) most_records ≡ t → 4 + body ≤ length piece → Did a b (record_effect (4 + body) text (number + 1)) r
+            → Range piece more number a b r
         go true last within d = ended_range text (rw (last_effect (4 + body) text (number + 1) (eqb-true _ _ last)) at d)
         go false on within d =
             let not_last = eqb-false (number + 1) most_records on in
@@ -121,10 +121,10 @@ module _ (piece : List ℕ) (more : Bool) (number place : ℕ) {a b : List ℕ} 
 
     -- none
     pub rest_turned :
-        frame_at piece 0 ≡ frame.Broken → Did a place b (broken_effect (length piece) more (number + 1)) r → Turned piece more number a place b r
+        frame_at piece 0 ≡ frame.Broken → Did a b (broken_effect (length piece) more (number + 1)) r → Turned piece more number a b r
     rest_turned e d = record { did = rw (broken_way piece more number e) d; range = go (more && ltb (length piece) longest_record) refl }
       where
-        go : (t : Bool) → more && ltb (length piece) longest_record ≡ t → Range piece more number place r
+        go : (t : Bool) → more && ltb (length piece) longest_record ≡ t → Range piece more number a b r
         go true t =
             asked_range (both_left more _ t) (ltb-true (length piece) longest_record (both_right more _ t))
             (rw (more_effect (length piece) more (number + 1) t) at d)

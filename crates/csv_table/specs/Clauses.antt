@@ -1,5 +1,5 @@
 -- What the contracts say: the room that a text takes, what a record tells, and what a turn did.
-use Rattle.std.specs.Prelude.{ℕ, ◌+◌, ◌*◌, ◌≤◌, ◌<◌, ◌≡◌, Bool, true, List, ◌++◌, length, take}
+use Rattle.std.specs.Prelude.{ℕ, ◌+◌, ◌*◌, ◌≤◌, ◌<◌, ◌≡◌, Bool, true, List, ◌++◌, length}
 use Rattle.wire.specs.Frame.{longest_record}
 use Rattle.calendar.specs.Stamps.{last_minute}
 use Rattle.calendar.specs.Moments.{moment_of}
@@ -11,7 +11,7 @@ use Rattle.reader.specs.Fields.{charges_of}
 use Rattle.reader.specs.Reading.{head_at}
 use Rattle.reader.specs.Clauses.{ReadableAt}
 use Rattle.text.specs.Texts.{bytes, decimal}
-use Rattle.text.specs.Clauses.{Behind}
+use Rattle.text.specs.Clauses.{Put}
 use Rattle.csv_table.specs.declared.turns.Turn.{Turn}
 use Rattle.csv_table.specs.declared.turns.Turn.TheVariants.{More, On, Over}
 use Rattle.csv_table.specs.Text.{moment_text, off_text, cap_text}
@@ -45,20 +45,19 @@ pub record Tells (statement : List ℕ) (head : Head) (whose : Whose) : Type 0 w
   pub opening : head.opening.0 ≤ last_minute
 
 -- what a turn does stands in the output, and in its answer
-pub data Did (before : List ℕ) (place : ℕ) (after : List ℕ) : Effect → Turn → Type 0 where
-  asked : take place after ≡ take place before → Did before place after asks More
-  put : {used : ℕ} {text : List ℕ} {number : ℕ} {end : ℕ} → Behind text most_turn before place after end
-      → Did before place after (puts used text number) (On used end number)
-  ended : {text : List ℕ} {end : ℕ} → Behind text most_turn before place after end → Did before place after (ends text) (Over end)
+pub data Did (before after : List ℕ) : Effect → Turn → Type 0 where
+  asked : after ≡ before → Did before after asks More
+  put : {used : ℕ} {text : List ℕ} {number : ℕ} → Put text most_turn before after → Did before after (puts used text number) (On used number)
+  ended : {text : List ℕ} → Put text most_turn before after → Did before after (ends text) Over
 
 -- where more bytes are wanted, more can come, and fewer are there than the longest record has; where the run goes on, its number is one more,
--- and another record may come
-abbrev pub Range : List ℕ → Bool → ℕ → ℕ → Turn → Type 0
-Range piece more number place More = (more ≡ true) × (length piece < longest_record)
-Range piece more number place (On used end next) =
-    (used ≤ length piece) × ((end ≤ place + most_turn) × ((next ≡ number + 1) × (next < most_records)))
-Range piece more number place (Over end) = end ≤ place + most_turn
+-- and another record may come; what was put fits the room that a turn takes
+abbrev pub Range : List ℕ → Bool → ℕ → List ℕ → List ℕ → Turn → Type 0
+Range piece more number out out' More = (more ≡ true) × (length piece < longest_record)
+Range piece more number out out' (On used next) =
+    (used ≤ length piece) × ((length out' ≤ length out + most_turn) × ((next ≡ number + 1) × (next < most_records)))
+Range piece more number out out' Over = length out' ≤ length out + most_turn
 
-pub record Turned (piece : List ℕ) (more : Bool) (number : ℕ) (out : List ℕ) (place : ℕ) (out' : List ℕ) (r : Turn) : Type 0 where
-  pub did : Did out place out' (effect_of piece more number) r
-  pub range : Range piece more number place r
+pub record Turned (piece : List ℕ) (more : Bool) (number : ℕ) (out out' : List ℕ) (r : Turn) : Type 0 where
+  pub did : Did out out' (effect_of piece more number) r
+  pub range : Range piece more number out out' r

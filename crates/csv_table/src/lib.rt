@@ -1,4 +1,4 @@
-// What is printed of a statement: a table of comma-separated values, put together in a buffer that the caller lends and writes when it is full.
+// What is printed of a statement: a table of comma-separated values, put into an output that the caller lends and writes when it is full.
 //
 // columns.rt  a comma and a number; a moment of UTC
 // rows.rt     header, the line of a charge, and that of a refused record

@@ -1,10 +1,10 @@
-// The lines of the table, put behind what is there already: each function answers the place behind what it has put.
+// The lines of the table, each put behind what was put before.
 ghost use Rattle.std.specs.Prelude.{◌≡◌, ◌++◌, ◌+◌, ◌≤◌, ◌<◌, length};
 ghost use Rattle.calendar.specs.Stamps.{last_minute};
 ghost use Rattle.calendar.specs.Moments.{moment_of};
 ghost use Rattle.statement.specs.Record.{most_charges};
 ghost use Rattle.text.specs.Texts.{bytes};
-ghost use Rattle.text.specs.Clauses.{Behind};
+ghost use Rattle.text.specs.Clauses.{Put};
 ghost use Rattle.csv_table.specs.Text.{header, moment_text, rider_text, payer_text, is_person, row_text, refused_text};
 ghost use Rattle.csv_table.specs.Clauses.{head_columns, cut_columns, most_row};
 
@@ -12,69 +12,64 @@ use crate::columns::{put_column, put_moment};
 use calendar::moments::moment_of;
 use caps::Cut;
 use reader::{Amount, Head, Whose};
-use text::behind::{put_number, put_text};
+use text::output::Output;
 use trip::Party;
 
 // The first line.
-pub fn put_header(out: &mut [u8]) -> usize
-    requires { 74 ≤ length out.old }
-    ensures { Behind header 74 out.old 0 out.new result }
+pub fn put_header<const N: usize>(out: &mut Output<N>)
+    requires { length out.old + 74 ≤ N }
+    ensures { Put header 74 out.old out.new }
 {
-    put_text(
-        out,
-        0,
-        b"record,opening,area,km,minutes,payer,cents,off,cap_area,cap_class,refused\n",
-    )
+    out.put_text(b"record,opening,area,km,minutes,payer,cents,off,cap_area,cap_class,refused\n");
 }
 
 // The window's opening, as a moment of UTC.
-fn put_opening(out: &mut [u8], place: usize, opening: u32) -> usize
-    requires { (place + 18 ≤ length out.old) × (opening ≤ last_minute) }
-    ensures { Behind (bytes "," ++ moment_text (moment_of opening)) 18 out.old place out.new result }
+fn put_opening<const N: usize>(out: &mut Output<N>, opening: u32)
+    requires { (length out.old + 18 ≤ N) × (opening ≤ last_minute) }
+    ensures { Put (bytes "," ++ moment_text (moment_of opening)) 18 out.old out.new }
 {
-    let start = put_text(out, place, b",");
-    put_moment(out, start, moment_of(opening))
+    out.put_text(b",");
+    put_moment(out, moment_of(opening));
 }
 
 // The record's number, the opening, area, kilometres and minutes.
-fn put_start(out: &mut [u8], place: usize, number: u64, head: Head) -> usize
-    requires { (place + 72 ≤ length out.old) × (head.opening.0 ≤ last_minute) }
-    ensures { Behind (head_columns number head) 72 out.old place out.new result }
+fn put_start<const N: usize>(out: &mut Output<N>, number: u64, head: Head)
+    requires { (length out.old + 72 ≤ N) × (head.opening.0 ≤ last_minute) }
+    ensures { Put (head_columns number head) 72 out.old out.new }
 {
-    let after1 = put_number(out, place, number);
-    let after2 = put_opening(out, after1, head.opening.0);
-    let after3 = put_column(out, after2, b",", head.area as u32);
-    let after4 = put_column(out, after3, b",", head.km.0);
-    put_column(out, after4, b",", head.minutes.0)
+    out.put_number(number);
+    put_opening(out, head.opening.0);
+    put_column(out, b",", head.area as u32);
+    put_column(out, b",", head.km.0);
+    put_column(out, b",", head.minutes.0);
 }
 
 // One of a party, by its place among the charges: the account holder, the adults, the children, the bicycles.
-fn put_rider(out: &mut [u8], place: usize, party: Party, i: usize) -> usize
-    requires { (place + 19 ≤ length out.old) × (i < most_charges) }
-    ensures { Behind (bytes "," ++ rider_text party i) 19 out.old place out.new result }
+fn put_rider<const N: usize>(out: &mut Output<N>, party: Party, i: usize)
+    requires { (length out.old + 19 ≤ N) × (i < most_charges) }
+    ensures { Put (bytes "," ++ rider_text party i) 19 out.old out.new }
 {
     let adults = party.adults as usize;
     let carried = adults + party.children as usize;
     if i == 0 {
-        return put_text(out, place, b",holder");
+        out.put_text(b",holder");
+    } else if i <= adults {
+        put_column(out, b",adult ", i as u32);
+    } else if i <= carried {
+        put_column(out, b",child ", (i - adults) as u32);
+    } else {
+        put_column(out, b",bicycle ", (i - carried) as u32);
     }
-    if i <= adults {
-        return put_column(out, place, b",adult ", i as u32);
-    }
-    if i <= carried {
-        return put_column(out, place, b",child ", (i - adults) as u32);
-    }
-    put_column(out, place, b",bicycle ", (i - carried) as u32)
 }
 
 // Who pays.
-fn put_payer(out: &mut [u8], place: usize, whose: Whose, i: usize) -> usize
-    requires { (place + 19 ≤ length out.old) × (i < most_charges) }
-    ensures { Behind (bytes "," ++ payer_text whose i) 19 out.old place out.new result }
+fn put_payer<const N: usize>(out: &mut Output<N>, whose: Whose, i: usize)
+    requires { (length out.old + 19 ≤ N) × (i < most_charges) }
+    ensures { Put (bytes "," ++ payer_text whose i) 19 out.old out.new }
 {
     match whose {
-        Whose::Unsaid { charges: _ } => put_column(out, place, b",charge ", (i + 1) as u32),
-        Whose::Of(party) => put_rider(out, place, party, i),
+        Whose::Unsaid { charges: _ } => put_column(out, b",charge ", (i + 1) as u32),
+        Whose::Of(party) => put_rider(out, party, i),
     }
 }
 
@@ -89,48 +84,49 @@ fn is_person(whose: Whose, i: usize) -> bool
 }
 
 // What caps took off; and where that is something, the named cap.
-fn put_cut(out: &mut [u8], place: usize, person: bool, cut: Cut) -> usize
-    requires { place + 33 ≤ length out.old }
-    ensures { Behind (cut_columns person cut) 33 out.old place out.new result }
+fn put_cut<const N: usize>(out: &mut Output<N>, person: bool, cut: Cut)
+    requires { length out.old + 33 ≤ N }
+    ensures { Put (cut_columns person cut) 33 out.old out.new }
 {
     let off = cut.reduction.0;
     if !person {
-        return put_text(out, place, b",,,");
+        out.put_text(b",,,");
+        return;
     }
-    let after1 = put_column(out, place, b",", off);
+    put_column(out, b",", off);
     if off == 0 {
-        return put_text(out, after1, b",,");
+        out.put_text(b",,");
+        return;
     }
-    let after2 = put_column(out, after1, b",", cut.area as u32);
-    put_column(out, after2, b",", cut.class as u32)
+    put_column(out, b",", cut.area as u32);
+    put_column(out, b",", cut.class as u32);
 }
 
 // The line of a charge, which is no refused record's: the last column is empty.
-pub fn put_row(
-    out: &mut [u8],
-    place: usize,
+pub fn put_row<const N: usize>(
+    out: &mut Output<N>,
     number: u64,
     head: Head,
     whose: Whose,
     i: usize,
     amount: Amount,
-) -> usize
-    requires { (place + most_row ≤ length out.old) × ((head.opening.0 ≤ last_minute) × (i < most_charges)) }
-    ensures { Behind (row_text number head whose i amount) most_row out.old place out.new result }
+)
+    requires { (length out.old + most_row ≤ N) × ((head.opening.0 ≤ last_minute) × (i < most_charges)) }
+    ensures { Put (row_text number head whose i amount) most_row out.old out.new }
 {
-    let after1 = put_start(out, place, number, head);
-    let after2 = put_payer(out, after1, whose, i);
-    let after3 = put_column(out, after2, b",", amount.charge.0);
-    let after4 = put_cut(out, after3, is_person(whose, i), amount.cut);
-    put_text(out, after4, b",\n")
+    put_start(out, number, head);
+    put_payer(out, whose, i);
+    put_column(out, b",", amount.charge.0);
+    put_cut(out, is_person(whose, i), amount.cut);
+    out.put_text(b",\n");
 }
 
 // The line of a refused record.
-pub fn put_refused(out: &mut [u8], place: usize, number: u64, refusal: u8) -> usize
-    requires { place + most_row ≤ length out.old }
-    ensures { Behind (refused_text number refusal) most_row out.old place out.new result }
+pub fn put_refused<const N: usize>(out: &mut Output<N>, number: u64, refusal: u8)
+    requires { length out.old + most_row ≤ N }
+    ensures { Put (refused_text number refusal) most_row out.old out.new }
 {
-    let after1 = put_number(out, place, number);
-    let after2 = put_column(out, after1, b",,,,,,,,,,", refusal as u32);
-    put_text(out, after2, b"\n")
+    out.put_number(number);
+    put_column(out, b",,,,,,,,,,", refusal as u32);
+    out.put_text(b"\n");
 }

@@ -3,4 +3,3 @@ pub mod Taken
 pub mod Rest
 pub mod Told
 pub mod Example
-pub mod ShortLines

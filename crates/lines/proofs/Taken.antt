@@ -6,7 +6,7 @@ use mathlib.Core.Path.{◌≡◌, refl, sym, subst, ◌∙◌}
 use mathlib.Core.Bool.{Bool, true, false, ◌||◌, false≢true}
 use mathlib.Core.List.{List, ◌++◌}
 use borrow.Author.Tests.{eqb-false}
-use lib.ListN.{length, take}
+use lib.ListN.{length}
 use lib.Dec.{eqb}
 use Rattle.editions.specs.declared.Editions.{Editions}
 use Rattle.roll.specs.declared.Line.{Line}
@@ -22,9 +22,9 @@ use Rattle.lines.specs.declared.turns.Turn.TheVariants as turn
 use Rattle.lines.specs.Text.{line_text}
 use Rattle.roll.specs.Lines.{most_records}
 use Rattle.lines.specs.Turns.{records, counted, tail_of, Effect, asks, puts, ends, line_effect, effect_of}
-use Rattle.text.specs.Clauses.{Behind}
+use Rattle.text.specs.Clauses.{Put}
 use Rattle.lines.specs.Clauses.{most_line, most_record, most_turn, Counting, Counted, Did, asked, put, ended, LineTaken, Range, Turned}
-use Rattle.text.proofs.Puts.{behind_join, behind_same}
+use Rattle.text.proofs.Puts.{put_join, put_same}
 
 -- A run that goes on has not come to its last record.
 going_on : (last : Bool) (n : ℕ) → last || eqb n most_records ≡ false → n ≡ most_records → ⊥
@@ -48,29 +48,29 @@ module _ (tally : Tally) (line : Line) (used : ℕ) (last : Bool) where
 
   module _ (after : Tally) (c : Counted tally line after) where
     pub last_taken :
-        {a b d : List ℕ} {place middle end : ℕ} → last || eqb (records after) most_records ≡ true
-        → Behind (line_text (records after) line) most_record a place b middle → Behind (tail_of after) most_line b middle d end
-        → LineTaken tally line used last a place d (turn.Over end)
+        {a b d : List ℕ} → last || eqb (records after) most_records ≡ true
+        → Put (line_text (records after) line) most_record a b → Put (tail_of after) most_line b d
+        → LineTaken tally line used last a d turn.Over
     last_taken e x y =
-        let tail = behind_join x y in
+        let tail = put_join x y in
         record { did = rw (last_effect (rw c.is at e)) (ended (rw c.is at tail)); cents = rw c.is at c.cents }
 
     pub on_taken :
-        {a b : List ℕ} {place end : ℕ} → last || eqb (records after) most_records ≡ false
-        → Behind (line_text (records after) line) most_record a place b end → LineTaken tally line used last a place b (turn.On used end after)
+        {a b : List ℕ} → last || eqb (records after) most_records ≡ false
+        → Put (line_text (records after) line) most_record a b → LineTaken tally line used last a b (turn.On used after)
     on_taken e x = record { did = rw (on_effect (rw c.is at e)) (rw c.is (put (rw c.is at x))); cents = rw c.is at c.cents }
 
 -- ---- What a turn leaves is in range.
 
 put_range :
-    {a b : List ℕ} {place : ℕ} {r : Turn} (piece : List ℕ) (more : Bool) (tally : Tally) (used : ℕ) (text : List ℕ) (after : Tally)
-    → used ≤ length piece → Counting after → records after ≡ records tally + 1 → Did a place b (puts used text after) r
-    → Range piece more tally place r
+    {a b : List ℕ} {r : Turn} (piece : List ℕ) (more : Bool) (tally : Tally) (used : ℕ) (text : List ℕ) (after : Tally)
+    → used ≤ length piece → Counting after → records after ≡ records tally + 1 → Did a b (puts used text after) r
+    → Range piece more tally a b r
 put_range piece more tally used text after within counting one (put x) = (within, (x.room, (counting, one)))
 
 ended_range :
-    {a b : List ℕ} {place : ℕ} {r : Turn} (piece : List ℕ) (more : Bool) (tally : Tally) (text : List ℕ) → Did a place b (ends text) r
-    → Range piece more tally place r
+    {a b : List ℕ} {r : Turn} (piece : List ℕ) (more : Bool) (tally : Tally) (text : List ℕ) → Did a b (ends text) r
+    → Range piece more tally a b r
 ended_range piece more tally text (ended x) = x.room
 
 pub counted_one : (tally : Tally) (line : Line) → records (counted tally line) ≡ records tally + 1
@@ -80,12 +80,12 @@ counted_one tally (Both one other) = omega arith
 counted_one tally (Refused refusal) = omega arith
 
 line_range :
-    {tally : Tally} {line : Line} {used : ℕ} {last : Bool} {a b : List ℕ} {place : ℕ} {r : Turn} (piece : List ℕ) (more : Bool)
-    → LineTaken tally line used last a place b r → Counting tally → used ≤ length piece → Range piece more tally place r
-line_range {tally = tally} {line = line} {used = used} {last = last} {place = place} {r = r} piece more taken counting within =
+    {tally : Tally} {line : Line} {used : ℕ} {last : Bool} {a b : List ℕ} {r : Turn} (piece : List ℕ) (more : Bool)
+    → LineTaken tally line used last a b r → Counting tally → used ≤ length piece → Range piece more tally a b r
+line_range {tally = tally} {line = line} {used = used} {last = last} {a = a} {b = b} {r = r} piece more taken counting within =
     go (last || eqb (records (counted tally line)) most_records) refl
   where
-    go : (t : Bool) → last || eqb (records (counted tally line)) most_records ≡ t → Range piece more tally place r
+    go : (t : Bool) → last || eqb (records (counted tally line)) most_records ≡ t → Range piece more tally a b r
     go true e = ended_range piece more tally _ (rw (last_effect tally line used last e) at taken.did)
     go false e =
         let one = counted_one tally line in
@@ -101,31 +101,30 @@ module _ {file : List ℕ} {editions : Editions} {book piece : List ℕ} {more :
     again : Ready file editions book'
     again = record { read = ready.read; sound_book = step.sound_again }
 
-    pub more_turned : {a : List ℕ} {place : ℕ} → s ≡ More → Turned file editions book piece more tally a place book' a turn.More
+    pub more_turned : {a : List ℕ} → s ≡ More → Turned file editions book piece more tally a book' a turn.More
     unfolding effect_of
     more_turned is =
         let found = sym step.found ∙ is in
         record { did = rw found (asked refl); book_is = step.book_is; again = again; range = more_short file book piece more found }
 
     pub end_turned :
-        {a b : List ℕ} {place end : ℕ} → s ≡ End → Behind (tail_of tally) most_line a place b end
-        → Turned file editions book piece more tally a place book' b (turn.Over end)
+        {a b : List ℕ} → s ≡ End → Put (tail_of tally) most_line a b → Turned file editions book piece more tally a book' b turn.Over
     unfolding effect_of
     end_turned is x =
         let found = sym step.found ∙ is in
-        record { did = rw found (ended (behind_same x refl (omega arith))); book_is = step.book_is; again = again; range = omega (arith, x.room) }
+        record { did = rw found (ended (put_same x refl (omega arith))); book_is = step.book_is; again = again; range = omega (arith, x.room) }
 
     pub broken_turned :
-        {a b : List ℕ} {place : ℕ} {r : Turn} → s ≡ Broken → LineTaken tally (Refused 5) 0 true a place b r
-        → Turned file editions book piece more tally a place book' b r
+        {a b : List ℕ} {r : Turn} → s ≡ Broken → LineTaken tally (Refused 5) 0 true a b r
+        → Turned file editions book piece more tally a book' b r
     unfolding effect_of
     broken_turned is x =
         let found = sym step.found ∙ is in
         record { did = rw found x.did; book_is = step.book_is; again = again; range = line_range piece more x counting (omega arith) }
 
     pub record_turned :
-        {line : Line} {used : ℕ} {a b : List ℕ} {place : ℕ} {r : Turn} → s ≡ Record line used → LineTaken tally line used false a place b r
-        → Turned file editions book piece more tally a place book' b r
+        {line : Line} {used : ℕ} {a b : List ℕ} {r : Turn} → s ≡ Record line used → LineTaken tally line used false a b r
+        → Turned file editions book piece more tally a book' b r
     unfolding effect_of
     record_turned {line} {used} is x =
         let found = sym step.found ∙ is in
@@ -142,14 +141,14 @@ record_cents line used range is = subst (λ (t : Step). step_cents t ≤ most_li
 
 -- ---- What was done, by the turn's answer.
 
-module _ {before : List ℕ} {place : ℕ} {after : List ℕ} where
-  pub asked_by : {d : Effect} → Did before place after d turn.More → (d ≡ asks) × (take place after ≡ take place before)
+module _ {before after : List ℕ} where
+  pub asked_by : {d : Effect} → Did before after d turn.More → (d ≡ asks) × (after ≡ before)
   asked_by (asked same) = (refl, same)
 
   pub put_by :
-      {d : Effect} {used end : ℕ} {tally : Tally} → Did before place after d (turn.On used end tally)
-      → (text : List ℕ) × (d ≡ puts used text tally) × Behind text most_record before place after end
+      {d : Effect} {used : ℕ} {tally : Tally} → Did before after d (turn.On used tally)
+      → (text : List ℕ) × (d ≡ puts used text tally) × Put text most_record before after
   put_by (put x) = (_, refl, x)
 
-  pub ended_by : {d : Effect} {end : ℕ} → Did before place after d (turn.Over end) → (text : List ℕ) × (d ≡ ends text) × Behind text most_turn before place after end
+  pub ended_by : {d : Effect} → Did before after d turn.Over → (text : List ℕ) × (d ≡ ends text) × Put text most_turn before after
   ended_by (ended x) = (_, refl, x)

@@ -1,14 +1,13 @@
 -- What the contracts say: what a turn did, and that every sum fits.
-use Rattle.std.specs.Prelude.{ℕ, ◌+◌, ◌*◌, ◌≤◌, ◌<◌, ◌≡◌, Bool, true, List, [], ◌∷◌, ◌++◌, length, take}
+use Rattle.std.specs.Prelude.{ℕ, ◌+◌, ◌*◌, ◌≤◌, ◌<◌, ◌≡◌, Bool, true, List, ◌++◌, length}
 use Rattle.text.specs.Texts.{bytes, decimal}
-use Rattle.text.specs.Clauses.{Behind}
+use Rattle.text.specs.Clauses.{Put}
 use Rattle.editions.specs.declared.Editions.{Editions}
 use Rattle.roll.specs.declared.Line.{Line}
 use Rattle.statement.specs.Record.{most_parts}
 use Rattle.deciding.specs.Clauses.{Ready}
 use Rattle.roll.specs.Pieces.{step_of, book_step}
 use Rattle.roll.specs.Clauses.{most_line_cents}
-use Rattle.lines.specs.Text.{spaced}
 use Rattle.lines.specs.declared.tally.Tally.{Tally}
 use Rattle.lines.specs.declared.turns.Turn.{Turn}
 use Rattle.lines.specs.declared.turns.Turn.TheVariants.{More, On, Over}
@@ -32,10 +31,6 @@ ride_text number area km minutes = ((decimal number ++ (bytes " " ++ decimal are
 abbrev pub most_ride : ℕ
 most_ride = 43
 
--- a part's line by its numbers
-abbrev pub numbers_text : ℕ → ℕ → ℕ → ℕ → ℕ → ℕ → List ℕ
-numbers_text number area km minutes opening cents = decimal number ++ spaced (area ∷ km ∷ minutes ∷ opening ∷ cents ∷ [])
-
 -- each record has added what its parts can say at most
 abbrev pub CentsFit : Tally → Type 0
 CentsFit tally = tally.cents ≤ records tally * most_line_cents
@@ -51,29 +46,27 @@ pub record Counted (tally : Tally) (line : Line) (r : Tally) : Type 0 where
   pub cents : CentsFit r
 
 -- what a turn does stands in the output, and in its answer
-pub data Did (before : List ℕ) (place : ℕ) (after : List ℕ) : Effect → Turn → Type 0 where
-  asked : take place after ≡ take place before → Did before place after asks More
-  put : {used : ℕ} {text : List ℕ} {tally : Tally} {end : ℕ} → Behind text most_record before place after end
-      → Did before place after (puts used text tally) (On used end tally)
-  ended : {text : List ℕ} {end : ℕ} → Behind text most_turn before place after end → Did before place after (ends text) (Over end)
+pub data Did (before after : List ℕ) : Effect → Turn → Type 0 where
+  asked : after ≡ before → Did before after asks More
+  put : {used : ℕ} {text : List ℕ} {tally : Tally} → Put text most_record before after → Did before after (puts used text tally) (On used tally)
+  ended : {text : List ℕ} → Put text most_turn before after → Did before after (ends text) Over
 
-pub record LineTaken (tally : Tally) (line : Line) (used : ℕ) (last : Bool) (out : List ℕ) (place : ℕ) (out' : List ℕ) (r : Turn) : Type 0 where
-  pub did : Did out place out' (line_effect tally line used last) r
+pub record LineTaken (tally : Tally) (line : Line) (used : ℕ) (last : Bool) (out out' : List ℕ) (r : Turn) : Type 0 where
+  pub did : Did out out' (line_effect tally line used last) r
   pub cents : CentsFit (counted tally line)
 
 -- where more bytes are wanted, fewer are there than the longest record has; where the run goes on, it has one record more, and another
--- may come
-abbrev pub Range : List ℕ → Bool → Tally → ℕ → Turn → Type 0
-Range piece more tally place More = (more ≡ true) × (length piece < 1026)
-Range piece more tally place (On used end after) =
-    (used ≤ length piece) × ((end ≤ place + most_record) × (Counting after × (records after ≡ records tally + 1)))
-Range piece more tally place (Over end) = end ≤ place + most_turn
+-- may come; what was put fits the room that a turn takes
+abbrev pub Range : List ℕ → Bool → Tally → List ℕ → List ℕ → Turn → Type 0
+Range piece more tally out out' More = (more ≡ true) × (length piece < 1026)
+Range piece more tally out out' (On used after) =
+    (used ≤ length piece) × ((length out' ≤ length out + most_record) × (Counting after × (records after ≡ records tally + 1)))
+Range piece more tally out out' Over = length out' ≤ length out + most_turn
 
 pub record Turned
-    (file : List ℕ) (editions : Editions) (book piece : List ℕ) (more : Bool) (tally : Tally) (out : List ℕ) (place : ℕ) (book' out' : List ℕ)
-    (r : Turn)
+    (file : List ℕ) (editions : Editions) (book piece : List ℕ) (more : Bool) (tally : Tally) (out book' out' : List ℕ) (r : Turn)
     : Type 0 where
-  pub did : Did out place out' (effect_of (step_of file book piece more) tally) r
+  pub did : Did out out' (effect_of (step_of file book piece more) tally) r
   pub book_is : book' ≡ book_step file book piece more
   pub again : Ready file editions book'
-  pub range : Range piece more tally place r
+  pub range : Range piece more tally out out' r

@@ -1,25 +1,24 @@
-// Numbers behind a blank, put behind what is there already. Each function answers the place behind what it has put.
+// Numbers behind a blank.
 ghost use Rattle.std.specs.Prelude.{◌+◌, ◌≤◌, ◌++◌, length};
 ghost use Rattle.text.specs.Texts.{bytes, decimal};
-ghost use Rattle.text.specs.Clauses.{Behind};
+ghost use Rattle.text.specs.Clauses.{Put};
 
-use text::behind::{put_byte, put_number};
-use text::fours::put_small;
+use text::output::Output;
 
 // A blank, and a number behind it.
-pub fn put_spaced(out: &mut [u8], place: usize, number: u32) -> usize
-    requires { place + 11 ≤ length out.old }
-    ensures { Behind (bytes " " ++ decimal number) 11 out.old place out.new result }
+pub fn put_spaced<const N: usize>(out: &mut Output<N>, number: u32)
+    requires { length out.old + 11 ≤ N }
+    ensures { Put (bytes " " ++ decimal number) 11 out.old out.new }
 {
-    let next = put_byte(out, place, b' ');
-    put_small(out, next, number)
+    out.put_byte(b' ');
+    out.put_small(number);
 }
 
-// The same of a long number.
-pub fn put_long_spaced(out: &mut [u8], place: usize, number: u64) -> usize
-    requires { place + 22 ≤ length out.old }
-    ensures { Behind (bytes " " ++ decimal number) 22 out.old place out.new result }
+// The same of a long number: a twin, since a line has room for the digits of one such number and not of five.
+pub fn put_long_spaced<const N: usize>(out: &mut Output<N>, number: u64)
+    requires { length out.old + 22 ≤ N }
+    ensures { Put (bytes " " ++ decimal number) 22 out.old out.new }
 {
-    let next = put_byte(out, place, b' ');
-    put_number(out, next, number)
+    out.put_byte(b' ');
+    out.put_number(number);
 }

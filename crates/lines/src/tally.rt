@@ -18,24 +18,20 @@ pub fn count(tally: Tally, line: Line) -> Tally
     requires { Counting tally × (line_cents line ≤ most_line_cents) }
     ensures { Counted tally line result }
 {
-    let accepted = tally.accepted;
-    let refused = tally.refused;
-    let cents = tally.cents;
     match line {
         Line::Charged(entry) => Tally {
-            accepted: accepted + 1,
-            refused,
-            cents: cents + entry.cents,
+            accepted: tally.accepted + 1,
+            cents: tally.cents + entry.cents,
+            ..tally
         },
         Line::Both(one, other) => Tally {
-            accepted: accepted + 1,
-            refused,
-            cents: cents + one.cents + other.cents,
+            accepted: tally.accepted + 1,
+            cents: tally.cents + one.cents + other.cents,
+            ..tally
         },
         Line::Refused(_) => Tally {
-            accepted,
-            refused: refused + 1,
-            cents,
+            refused: tally.refused + 1,
+            ..tally
         },
     }
 }

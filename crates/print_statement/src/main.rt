@@ -2,86 +2,50 @@
 // This program only reads, takes turns and writes; what a turn does, and what it prints, is the library's.
 #![tactic(auto)]
 
-ghost use Rattle.std.specs.Prelude.{◌≡◌};
-ghost use Rattle.print_statement.specs.Clauses.{Running, went_on, StepTaken, Begun};
+ghost use Rattle.print_statement.specs.Clauses.{Running, StepTaken, Begun};
 
 use csv_table::rows::put_header;
 use csv_table::turns::{ROOM, Turn, take_turn};
 use std::io;
 use std::io::Read;
 use std::process::ExitCode;
-use streams::flow::{Flow, Flowed, INPUT, OUTPUT, make_room, read_more};
+use streams::flow::{Flow, INPUT, Next, OUTPUT, Run, go_on, make_room, read_more};
 use streams::output::{status_after, write};
+use text::output::Output;
 
-// How far a run has come: its buffers, and the records so far.
-#[derive(Clone, Copy)]
-pub struct Run {
-    pub flow: Flow,
-    pub number: u64,
-}
-
-// What comes after a turn.
-#[derive(Clone, Copy)]
-pub enum Next {
-    // another one
-    On(Run),
-    // another one, once the output's bytes up to here are written
-    Write { end: usize, on: Run },
-    // nothing but the output's bytes up to here: the run is over, or the statement could not be read any further, which was told on standard error
-    Last(usize),
-}
-
-// Another turn, where there is one.
-fn go_on(flowed: Flowed, number: u64) -> Next
-    ensures { result ≡ went_on flowed number }
-{
-    match flowed {
-        Flowed::On(flow) => Next::On(Run { flow, number }),
-        Flowed::Write { end, on } => Next::Write {
-            end,
-            on: Run { flow: on, number },
-        },
-        Flowed::Stopped(end) => Next::Last(end),
-    }
-}
-
-// A turn, and what it asks for: bytes read, or bytes to be written.
+// A turn, and what it asks for: bytes read, or bytes to be written. What turns carry on is the number of the records so far.
 fn take_step<F: Read>(
     rt: &impl Eprint,
     stdin: &mut F,
     input: &mut [u8],
-    out: &mut [u8],
-    run: Run,
-) -> Next
+    out: &mut Output<OUTPUT>,
+    run: Run<u64>,
+) -> Next<u64>
     requires { Running input.old out.old run }
     ensures { StepTaken run input.old out.old input.new out.new result }
 {
-    let flow = run.flow;
-    let from = flow.from;
-    let to = flow.to;
-    let more = flow.more;
-    match take_turn(&input[from..to], more, out, flow.end, run.number) {
-        Turn::More => go_on(read_more(rt, stdin, input, flow), run.number),
-        Turn::On { used, end, number } => {
+    let Run { flow, carried } = run;
+    match take_turn(&input[flow.from..flow.to], flow.more, out, carried) {
+        Turn::More => go_on(read_more(rt, stdin, input, flow), carried),
+        Turn::On { used, number } => {
             let on = Flow {
-                from: from + used,
-                to,
-                more,
-                end,
+                from: flow.from + used,
+                ..flow
             };
-            go_on(make_room(ROOM, on), number)
+            go_on(make_room(ROOM, out.len(), on), number)
         }
-        Turn::Over { end } => Next::Last(end),
+        Turn::Over => Next::Last,
     }
 }
 
 // Turn after turn, until the run is over. All that is written is written here, as each step tells it: this loop and `write` are trusted.
+// (A twin of `settle_roll`'s loop: a step of each has arguments of its own, and of a closure over them a proof would know nothing.)
 fn print_all<F: Read>(
     rt: &(impl Print + Eprint),
     stdin: &mut F,
     input: &mut [u8],
-    out: &mut [u8],
-    first: Run,
+    out: &mut Output<OUTPUT>,
+    first: Run<u64>,
 ) -> io::Result<()>
     requires { Begun input.old out.old first }
 {
@@ -91,12 +55,13 @@ fn print_all<F: Read>(
             Next::On(on) => {
                 run = on;
             }
-            Next::Write { end, on } => {
-                write(rt, out, end)?;
+            Next::Write(on) => {
+                write(rt, out.as_slice())?;
+                out.clear();
                 run = on;
             }
-            Next::Last(end) => {
-                return write(rt, out, end);
+            Next::Last => {
+                return write(rt, out.as_slice());
             }
         }
     }
@@ -104,16 +69,15 @@ fn print_all<F: Read>(
 
 fn main(rt: HostRuntime) -> ExitCode {
     let mut input = [0u8; INPUT];
-    let mut out = [0u8; OUTPUT];
-    let end = put_header(&mut out);
+    let mut out = Output::<OUTPUT>::new();
+    put_header(&mut out);
     let first = Run {
         flow: Flow {
             from: 0,
             to: 0,
             more: true,
-            end,
         },
-        number: 0,
+        carried: 0,
     };
     status_after(print_all(&rt, &mut rt.stdin(), &mut input, &mut out, first))
 }

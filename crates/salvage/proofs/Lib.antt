@@ -2,5 +2,4 @@ pub mod Records
 pub mod Cuts
 pub mod Pieces
 pub mod Texts
-pub mod Moves
 pub mod Passes

@@ -7,13 +7,14 @@ use native.Mathlib.Omega.{arith}
 use native.Mathlib.Decide.{dec_lt}
 use mathlib.Core.Path.{◌≡◌, refl, sym, ap, ◌∙◌}
 use mathlib.Core.List.{List, [], ◌∷◌, ◌++◌, append-nil, append_assoc}
+use Rattle.std.specs.Prelude.{Some}
 use borrow.Author.Tests.{lt-ltb, le-ltb}
 use lib.ListN.{length, take, drop, length-drop}
 use lib.Seq.{drop-drop, take-paste, drop-paste}
-use Rattle.text.specs.Clauses.{Behind}
+use Rattle.text.specs.Clauses.{Put}
 use Rattle.salvage.specs.declared.Pass.{Pass}
 use Rattle.salvage.specs.Salvage.{most_roll, kept_at, Piece, kept, run_of, kept_in, lines_in, kept_of, lines_of, too_long, salvaged, outcome_of}
-use Rattle.salvage.specs.Clauses.{room_size, most_line, Passing, Stepped, one_dropped, one_kept}
+use Rattle.salvage.specs.Clauses.{most_line, Passing, Stepped, one_dropped, one_kept}
 use Rattle.salvage.proofs.Records.{kept_range, kept_same}
 use Rattle.salvage.proofs.Cuts.{Cut, cut, when_over, when_dropped, when_kept}
 use Rattle.salvage.proofs.Pieces.{kept_behind, lines_behind}
@@ -21,27 +22,25 @@ use Rattle.salvage.proofs.Pieces.{kept_behind, lines_behind}
 pub record Reached (whole roll lines : List ℕ) (pass : Pass) : Type 0 where
   pub same_length : length roll ≡ length whole
   pub short : length whole ≤ most_roll
-  pub room : length lines ≡ room_size
   pub kept_before : pass.kept ≤ pass.from
   pub order : pass.from ≤ pass.at
   pub inside : pass.at ≤ length whole
-  pub few : 29 * pass.end ≤ 12 * pass.from
+  pub few : 29 * length lines ≤ 12 * pass.from
   pub others : drop pass.kept roll ≡ drop pass.kept whole
   pub rest : List Piece
   pub left : Cut whole pass.from pass.at rest
   pub keeps : kept_of whole ≡ take pass.kept roll ++ kept_in whole rest
-  pub tells : lines_of whole ≡ take pass.end lines ++ lines_in rest
+  pub tells : lines_of whole ≡ lines ++ lines_in rest
 
 abbrev pub start : Pass
-start = record { at = 0; from = 0; kept = 0; end = 0 }
+start = record { at = 0; from = 0; kept = 0 }
 
-pub begins : (whole lines : List ℕ) → length whole ≤ most_roll → length lines ≡ room_size → Reached whole whole lines start
+pub begins : (whole : List ℕ) → length whole ≤ most_roll → Reached whole whole [] start
 unfolding kept_of lines_of
-begins whole lines short room =
+begins whole short =
     record {
       same_length = refl;
       short = short;
-      room = room;
       kept_before = omega arith;
       order = omega arith;
       inside = omega arith;
@@ -57,7 +56,7 @@ begins whole lines short room =
 pub goes_on : {whole roll lines : List ℕ} {pass : Pass} → Reached whole roll lines pass → pass.at < length roll → Passing roll lines pass
 goes_on r more =
     record {
-      line_room = record { room = r.room; few = r.few; order = r.order; short = omega (arith, r.same_length, r.short) };
+      line_room = record { few = r.few; order = r.order; short = omega (arith, r.same_length, r.short) };
       kept_before = r.kept_before;
       left = more;
       short = omega (arith, r.same_length, r.short);
@@ -75,14 +74,6 @@ line_paid from at size end end' order long room few =
     elim (dec_lt from at) [
       | yes some ↦ let most : end' ≤ end + 12 = rw (lt-ltb from at some) at room in omega arith
       | no none ↦ let most : end' ≤ end + 0 = rw (le-ltb from at (omega arith)) at room in omega arith
-    ]
-
--- the last line has its room
-pub lines_fit : (from to end end' : ℕ) → from ≤ to → to ≤ most_roll → 29 * end ≤ 12 * from → end' ≤ end + most_line from to → end' ≤ room_size
-lines_fit from to end end' order short few room =
-    elim (dec_lt from to) [
-      | yes some ↦ let most : end' ≤ end + 12 = rw (lt-ltb from to some) at room in omega arith
-      | no none ↦ let most : end' ≤ end + 0 = rw (le-ltb from to (omega arith)) at room in omega arith
     ]
 
 -- a kept record goes behind what is kept so far, and the line of the run before it behind the lines so far
@@ -103,13 +94,12 @@ told_on front from at size pieces are =
 -- A step goes on by a piece, or by a byte of one.
 pub steps_on :
     {whole roll lines roll' lines' : List ℕ} {pass next : Pass} → Reached whole roll lines pass → pass.at < length roll → length roll' ≡ length roll
-    → length lines' ≡ length lines → Stepped roll lines pass roll' lines' next → Reached whole roll' lines' next × (pass.at < next.at)
-steps_on {whole} {roll} {lines} {pass = pass} r more same-roll same_lines (one_dropped is) =
+    → Stepped roll lines pass roll' lines' next → Reached whole roll' lines' next × (pass.at < next.at)
+steps_on {whole} {roll} {lines} {pass = pass} r more same-roll (one_dropped is) =
     let same = kept_same roll whole pass.at (omega (arith, r.same_length)) r.inside (from_place roll whole pass.kept pass.at r.others (omega (arith, r.kept_before, r.order))) in (
       record {
         same_length = r.same_length;
         short = r.short;
-        room = r.room;
         kept_before = r.kept_before;
         order = omega (arith, r.order);
         inside = omega (arith, r.same_length);
@@ -122,15 +112,15 @@ steps_on {whole} {roll} {lines} {pass = pass} r more same-roll same_lines (one_d
       },
       omega arith,
     )
-steps_on {whole} {roll} {lines} {roll'} {lines'} {pass} r more same-roll same_lines (one_kept {size = size} {end = end} is some behind moved) =
+steps_on {whole} {roll} {lines} {roll'} {lines'} {pass} r more same-roll (one_kept {size = size} is put moved) =
     let at = pass.at in
     let order = r.order in
     let kept_before = r.kept_before in
     let there = from_place roll whole pass.kept at r.others (omega arith) in
     let same = kept_same roll whole at (omega (arith, r.same_length)) r.inside there in
-    let is-kept : kept_at whole at ≡ size = sym same ∙ is in
-    let range = kept_range whole at size is-kept some in
-    let found = when_kept size r.left is-kept some in
+    let is-kept : kept_at whole at ≡ Some size = sym same ∙ is in
+    let range = kept_range whole at size is-kept in
+    let found = when_kept size r.left is-kept in
     let pieces = found.0 in
     let from-there : size ≤ length (drop at roll) = omega (arith, length-drop at roll, r.same_length) in
     let front : take (pass.kept + size) roll' ≡ take pass.kept roll ++ take size (drop at whole) =
@@ -144,27 +134,26 @@ steps_on {whole} {roll} {lines} {roll'} {lines'} {pass} r more same-roll same_li
       record {
         same_length = same-roll ∙ r.same_length;
         short = r.short;
-        room = same_lines ∙ r.room;
         kept_before = omega arith;
         order = omega arith;
         inside = range.0;
-        few = line_paid pass.from at size pass.end end order range.1 behind.room r.few;
+        few = line_paid pass.from at size (length lines) (length lines') order range.1 put.room r.few;
         others = back ∙ from_place roll whole pass.kept (pass.kept + size) r.others (omega arith);
         rest = pieces;
         left = found.1;
         keeps = r.keeps ∙ kept_on (take pass.kept roll) whole pass.from at size pieces found.2 ∙ ap (◌++ kept_in whole pieces) (sym front);
-        tells = r.tells ∙ told_on (take pass.end lines) pass.from at size pieces found.2 ∙ ap (◌++ lines_in pieces) (sym behind.put);
+        tells = r.tells ∙ told_on lines pass.from at size pieces found.2 ∙ ap (◌++ lines_in pieces) (sym put.put);
       },
       omega arith,
     )
 
 -- At the roll's end the last run's line is told, and that is all.
 pub all_done :
-    {whole roll lines lines' : List ℕ} {pass : Pass} {end : ℕ} → Reached whole roll lines pass → length whole ≤ pass.at
-    → Behind (lines_in (run_of pass.from (length whole))) (most_line pass.from (length whole)) lines pass.end lines' end
-    → outcome_of whole ≡ salvaged (take pass.kept roll) (take end lines')
+    {whole roll lines lines' : List ℕ} {pass : Pass} → Reached whole roll lines pass → length whole ≤ pass.at
+    → Put (lines_in (run_of pass.from (length whole))) (most_line pass.from (length whole)) lines lines'
+    → outcome_of whole ≡ salvaged (take pass.kept roll) lines'
 unfolding outcome_of kept_in
-all_done {whole} {roll} {lines} {pass = pass} r over behind =
+all_done {whole} {roll} {lines} {pass = pass} r over put =
     let here : pass.at ≡ length whole = omega (arith, r.inside) in
     let are : r.rest ≡ run_of pass.from (length whole) = rw here at (when_over r.left here) in
     let front = take pass.kept roll in
@@ -174,7 +163,7 @@ all_done {whole} {roll} {lines} {pass = pass} r over behind =
     rw (
       le-ltb most_roll (length whole) r.short,
       r.keeps ∙ ap (λ (p : List Piece). front ++ kept_in whole p) are ∙ ap (front ++◌) none_left ∙ append-nil front,
-      r.tells ∙ ap (λ (p : List Piece). take pass.end lines ++ lines_in p) are ∙ sym behind.put,
+      r.tells ∙ ap (λ (p : List Piece). lines ++ lines_in p) are ∙ sym put.put,
     )
 
 pub is_too_long : (whole : List ℕ) → most_roll < length whole → outcome_of whole ≡ too_long

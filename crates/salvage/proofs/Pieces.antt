@@ -7,6 +7,7 @@ use native.Mathlib.Decide.{dec_lt}
 use mathlib.Core.Path.{◌≡◌, refl, sym, ap, ◌∙◌}
 use mathlib.Core.Bool.{Bool, true, false}
 use mathlib.Core.List.{List, [], ◌∷◌, ◌++◌, append-nil}
+use Rattle.std.specs.Prelude.{None, Some}
 use borrow.Author.Tests.{lt-ltb, le-ltb}
 use lib.ListN.{length, take, drop, length-append, length-drop, drop_of_length-le, take-append-drop}
 use lib.Seq.{drop-drop, drop_at, take_at, length-take-le}
@@ -47,7 +48,7 @@ lines_behind from to rest =
 
 -- at none of the bytes between two places does a record begin that passes
 pub Clear : List ℕ → ℕ → ℕ → Type 0
-Clear roll from to = (i : ℕ) → from ≤ i → i < to → kept_at roll i ≡ 0
+Clear roll from to = (i : ℕ) → from ≤ i → i < to → kept_at roll i ≡ None
 
 -- behind a run, or none, come pieces that may stand behind both
 run_right :
@@ -78,9 +79,9 @@ cut_right {roll} {from} {at} (drops inside none rest) order clear =
       | yes earlier ↦ clear i from-it earlier
       | no here ↦ let same : i ≡ at = omega arith in rw same none
     ])
-cut_right {roll} {from} {at} (keeps {size = size} {rest = pieces} is some rest) order clear =
+cut_right {roll} {from} {at} (keeps {size = size} {rest = pieces} is rest) order clear =
     let behind = cut_right rest (omega arith) (λ i from-it before_it. absurd (omega arith)) in
-    run_right roll from at (kept at size ∷ pieces) order clear (λ after_run. a_record is some behind)
+    run_right roll from at (kept at size ∷ pieces) order clear (λ after_run. a_record is behind)
 
 pub pieces_right : (roll : List ℕ) → Right roll false 0 (pieces_of roll)
 unfolding Clear
@@ -95,7 +96,7 @@ front_and_back roll at size =
 right_joined : {roll : List ℕ} {after_run : Bool} {at : ℕ} {pieces : List Piece} → Right roll after_run at pieces → joined roll pieces ≡ drop at roll
 unfolding joined
 right_joined {roll} (at_end is) = rw is (sym (drop_of_length-le roll {i = length roll} (omega arith)))
-right_joined {roll} (a_record {at = at} {size = size} is some rest) =
+right_joined {roll} (a_record {at = at} {size = size} is rest) =
     ap (take size (drop at roll) ++◌) (right_joined rest) ∙ front_and_back roll at size
 right_joined {roll} (a_run {at = at} {size = size} some clear rest) =
     ap (take size (drop at roll) ++◌) (right_joined rest) ∙ front_and_back roll at size
@@ -110,9 +111,9 @@ right_lengths :
     → (at + (kept_length pieces + dropped_length pieces) ≡ length roll) × (length (kept_in roll pieces) ≡ kept_length pieces)
 unfolding kept_length dropped_length kept_in
 right_lengths (at_end is) = (omega arith, refl)
-right_lengths {roll} (a_record {at = at} {size = size} {rest = pieces} is some rest) =
+right_lengths {roll} (a_record {at = at} {size = size} {rest = pieces} is rest) =
     let on = right_lengths rest in
-    let range = kept_range roll at size is some in
+    let range = kept_range roll at size is in
     let there = length-drop at roll in
     let long : length (take size (drop at roll)) ≡ size = length-take-le size (drop at roll) (omega arith) in
     (omega (arith, on.0), length-append (take size (drop at roll)) (kept_in roll pieces) ∙ rw (long, on.1))
@@ -135,9 +136,9 @@ whole_from {roll} {at = at} no_more e inside c =
     (rw is, rw is)
 whole_from {roll} {at = at} (one_more {first = first} {rest = rest} p ps) e inside c =
     let size = length first in
-    let is : kept_at roll at ≡ size = sym (kept_drop roll at inside) ∙ ap (λ (l : List ℕ). kept_at l 0) e ∙ passes_in_front first rest p in
-    let range = kept_range roll at size is p.some in
-    let found = when_kept size c is p.some in
+    let is : kept_at roll at ≡ Some size = sym (kept_drop roll at inside) ∙ ap (λ (l : List ℕ). kept_at l 0) e ∙ passes_in_front first rest p in
+    let range = kept_range roll at size is in
+    let found = when_kept size c is in
     let pieces_are = rw (run_none at at (omega arith)) at found.2 in
     let behind : drop (at + size) roll ≡ rest = sym (drop-drop size at roll) ∙ ap (drop size) e ∙ drop_at first rest size refl in
     let on = whole_from ps behind (omega arith) found.1 in
@@ -153,7 +154,7 @@ kept_whole {roll} all = whole_from all refl (omega arith) (cut roll)
 right_passes : {roll : List ℕ} {after_run : Bool} {at : ℕ} {pieces : List Piece} → Right roll after_run at pieces → AllPass (kept_in roll pieces)
 unfolding kept_in
 right_passes (at_end is) = no_more
-right_passes {roll} (a_record {at = at} {size = size} is some rest) = one_more (passes roll at size is some) (right_passes rest)
+right_passes {roll} (a_record {at = at} {size = size} is rest) = one_more (passes roll at size is) (right_passes rest)
 right_passes (a_run some clear rest) = right_passes rest
 
 pub each_passes : (roll : List ℕ) → AllPass (kept_of roll)

@@ -5,10 +5,9 @@ use native.Mathlib.Omega.{arith}
 use native.Mathlib.Decide.{dec_lt}
 use mathlib.Core.Path.{◌≡◌, ap, ◌∙◌}
 use mathlib.Core.List.{List, [], ◌∷◌, append-nil}
-use lib.ListN.{length, take, length-append}
-use lib.Seq.{length-take-le}
+use lib.ListN.{length, length-append}
 use Rattle.text.specs.Texts.{digit, decimal}
-use Rattle.text.specs.Clauses.{Behind}
+use Rattle.text.specs.Clauses.{Put}
 use Rattle.text.proofs.Decimal.{one_digit, last_digit}
 use Rattle.salvage.specs.Salvage.{run_of, line_of, lines_in}
 use Rattle.salvage.proofs.Pieces.{run_some, run_none}
@@ -32,15 +31,11 @@ five_digits n within =
     (λ m small. one_more_digit 1 10 m (λ m small. omega (arith, ap length (one_digit m small))) (omega arith) small)
     (omega arith) small) (omega arith) small) (omega arith) within
 
--- what was put ends where its length says
-pub narrow :
-    {text : List ℕ} {m : ℕ} {a b : List ℕ} {place end : ℕ} (n : ℕ) → Behind text m a place b end → place ≤ length a → end ≤ length b
-    → length text ≤ n → Behind text n a place b end
-narrow {text = text} {a = a} {b = b} {place = place} {end = end} n x before after few =
-    let long = ap length x.put ∙ length-append (take place a) text in
-    let front = length-take-le place a before in
-    let all = length-take-le end b after in
-    record { put = x.put; order = x.order; room = omega arith }
+-- what was put is as long as its text
+pub narrow : {text : List ℕ} {m : ℕ} {a b : List ℕ} (n : ℕ) → Put text m a b → length text ≤ n → Put text n a b
+narrow {text = text} {a = a} n x few =
+    let long = ap length x.put ∙ length-append a text in
+    record { put = x.put; room = omega arith }
 
 -- a run's line, and none where there is no run
 pub run_line : (from to : ℕ) → from < to → lines_in (run_of from to) ≡ line_of from (to - from)

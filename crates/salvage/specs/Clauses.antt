@@ -1,9 +1,7 @@
 -- What the functions of `salvage` ask and answer.
-use Rattle.std.specs.Prelude.{ℕ, ◌+◌, ◌*◌, ◌≤◌, ◌<◌, ◌≡◌, List, cond, length, take, drop, ltb}
+use Rattle.std.specs.Prelude.{ℕ, ◌+◌, ◌*◌, ◌≤◌, ◌<◌, ◌≡◌, List, Option, None, Some, cond, length, take, drop, ltb}
 use Rattle.std.proofs.Math.Seq.{paste}
-use Rattle.text.specs.Clauses.{Behind}
-use Rattle.salvage.specs.declared.Salvaged.{Salvaged}
-use Rattle.salvage.specs.declared.Salvaged.TheVariants.{TooLong, Kept}
+use Rattle.text.specs.Clauses.{Put}
 use Rattle.salvage.specs.declared.Pass.{Pass}
 use Rattle.salvage.specs.Salvage.{most_roll, kept_at, run_of, lines_in, too_long, salvaged, outcome_of, printed}
 
@@ -13,9 +11,8 @@ abbrev pub room_size : ℕ
 room_size = 24841
 
 -- what a run's line asks: there are no more lines than the bytes before the run allow
-pub record LineRoom (lines : List ℕ) (place from to : ℕ) : Type 0 where
-  pub room : length lines ≡ room_size
-  pub few : 29 * place ≤ 12 * from
+pub record LineRoom (lines : List ℕ) (from to : ℕ) : Type 0 where
+  pub few : 29 * length lines ≤ 12 * from
   pub order : from ≤ to
   pub short : to ≤ most_roll
 
@@ -29,23 +26,22 @@ moved_to roll to from count = paste roll to (drop from roll) count
 
 -- what a step asks: a byte that is not passed yet
 pub record Passing (roll lines : List ℕ) (pass : Pass) : Type 0 where
-  pub line_room : LineRoom lines pass.end pass.from pass.at
+  pub line_room : LineRoom lines pass.from pass.at
   pub kept_before : pass.kept ≤ pass.from
   pub left : pass.at < length roll
   pub short : length roll ≤ most_roll
 
 -- one step: a byte is dropped; or a record is kept, behind the line of the run before it
 pub data Stepped (roll lines : List ℕ) (pass : Pass) : List ℕ → List ℕ → Pass → Type 0 where
-  one_dropped : kept_at roll pass.at ≡ 0
-      → Stepped roll lines pass roll lines (record { at = pass.at + 1; from = pass.from; kept = pass.kept; end = pass.end })
-  one_kept : {size end : ℕ} {roll' lines' : List ℕ} → kept_at roll pass.at ≡ size → 0 < size
-      → Behind (lines_in (run_of pass.from pass.at)) (most_line pass.from pass.at) lines pass.end lines' end
+  one_dropped : kept_at roll pass.at ≡ None
+      → Stepped roll lines pass roll lines (record { at = pass.at + 1; from = pass.from; kept = pass.kept })
+  one_kept : {size : ℕ} {roll' lines' : List ℕ} → kept_at roll pass.at ≡ Some size
+      → Put (lines_in (run_of pass.from pass.at)) (most_line pass.from pass.at) lines lines'
       → roll' ≡ moved_to roll pass.kept pass.at size
-      → Stepped roll lines pass roll' lines' (record { at = pass.at + size; from = pass.at + size; kept = pass.kept + size; end = end })
+      → Stepped roll lines pass roll' lines' (record { at = pass.at + size; from = pass.at + size; kept = pass.kept + size })
 
--- what is kept stands at the roll's front, whose other bytes stay, and what is printed at the lines' front
-abbrev pub Done : List ℕ → List ℕ → List ℕ → Salvaged → Type 0
-Done whole roll lines (TooLong end) = (outcome_of whole ≡ too_long) × ((take end lines ≡ printed too_long) × ((end ≤ room_size) × (roll ≡ whole)))
-Done whole roll lines (Kept bytes end) =
-    (outcome_of whole ≡ salvaged (take bytes roll) (take end lines))
-    × ((bytes ≤ length roll) × ((end ≤ room_size) × (drop bytes roll ≡ drop bytes whole)))
+-- what is kept stands at the roll's front, whose other bytes stay, and what is printed are the lines
+abbrev pub Done : List ℕ → List ℕ → List ℕ → Option ℕ → Type 0
+Done whole roll lines None = (outcome_of whole ≡ too_long) × ((lines ≡ printed too_long) × (roll ≡ whole))
+Done whole roll lines (Some bytes) =
+    (outcome_of whole ≡ salvaged (take bytes roll) lines) × ((bytes ≤ length roll) × (drop bytes roll ≡ drop bytes whole))

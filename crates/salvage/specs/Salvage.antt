@@ -1,5 +1,5 @@
 -- docs/RULES.md, section 22: a torn roll. What is kept of it, and what is printed, are functions of its bytes alone.
-use Rattle.std.specs.Prelude.{ℕ, zero, suc, ◌+◌, ◌-◌, List, [], ◌∷◌, ◌++◌, cond, length, take, drop, ltb, eqb}
+use Rattle.std.specs.Prelude.{ℕ, zero, suc, ◌+◌, ◌-◌, List, [], ◌∷◌, ◌++◌, Option, None, Some, cond, length, take, drop, ltb}
 use Rattle.text.specs.Texts.{bytes, decimal}
 use Rattle.trip.specs.declared.Shape.TheVariants.{Stops, NoTrip}
 use Rattle.trip.specs.Record.{trip_size, class_at, level_at, party_at, shape_at}
@@ -9,13 +9,13 @@ use Rattle.trip.specs.Trips.{party_right}
 abbrev pub most_roll : ℕ
 most_roll = 60000
 
--- the length of the record that is kept where it begins at a place, and 0 where none does: a whole frame, kind 7, a body of 20 + 2n, and class,
+-- the length of the record that is kept where it begins at a place: a whole frame, kind 7, a body of 20 + 2n, and class,
 -- level, party and n in their ranges
-unfoldable pub kept_at : List ℕ → ℕ → ℕ
+unfoldable pub kept_at : List ℕ → ℕ → Option ℕ
 kept_at roll at =
     elim (shape_at roll at) [
-      | NoTrip ↦ 0
-      | Stops n ↦ cond (party_right (class_at roll at) (level_at roll at) (party_at roll at) n) (trip_size n) 0
+      | NoTrip ↦ None
+      | Stops n ↦ cond (party_right (class_at roll at) (level_at roll at) (party_at roll at) n) (Some (trip_size n)) None
     ]
 
 -- a piece of a roll, by its offset and its length: a record that is kept, or a longest run of bytes that are dropped
@@ -32,10 +32,14 @@ run_of from to = cond (ltb from to) (dropped from (to - from) ∷ []) []
 unfoldable pub pieces_from : ℕ → List ℕ → ℕ → ℕ → List Piece
 pieces_from zero roll from at = run_of from at
 pieces_from (suc steps) roll from at =
-    let size = kept_at roll at in
     let one_dropped = pieces_from steps roll from (at + 1) in
-    let one_kept = run_of from at ++ (kept at size ∷ pieces_from steps roll (at + size) (at + size)) in
-    cond (ltb at (length roll)) (cond (eqb size 0) one_dropped one_kept) (run_of from at)
+    let next : List Piece =
+    elim (kept_at roll at) [
+      | None ↦ one_dropped
+      | Some size ↦ run_of from at ++ (kept at size ∷ pieces_from steps roll (at + size) (at + size))
+    ]
+    in
+    cond (ltb at (length roll)) next (run_of from at)
 
 unfoldable pub pieces_of : List ℕ → List Piece
 pieces_of roll = pieces_from (length roll) roll 0 0

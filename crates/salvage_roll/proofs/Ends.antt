@@ -1,16 +1,12 @@
--- What is written ends within what is lent.
+-- What is kept ends within the roll that is lent.
 -- Assumes nothing.
 use Prim.Native.Nat.{ℕ, ◌≤◌}
 use mathlib.Core.Path.{◌≡◌, subst}
 use mathlib.Core.List.{List}
+use Rattle.std.specs.Prelude.{Option, Some}
 use lib.ListN.{length}
-use Rattle.salvage.specs.declared.Salvaged.{Salvaged}
-use Rattle.salvage.specs.declared.Salvaged.TheVariants.{TooLong, Kept}
-use Rattle.salvage.specs.Clauses.{room_size, Done}
+use Rattle.salvage.specs.Clauses.{Done}
 
-module _ (whole roll lines : List ℕ) (r : Salvaged) (done : Done whole roll lines r) where
-  pub too_long_end : {end : ℕ} → r ≡ TooLong end → end ≤ room_size
-  too_long_end is = (subst (λ (r : Salvaged). Done whole roll lines r) is done).1.1.0
-
-  pub kept_ends : {bytes end : ℕ} → r ≡ Kept bytes end → (bytes ≤ length roll) × (end ≤ room_size)
-  kept_ends is = let d = subst (λ (r : Salvaged). Done whole roll lines r) is done in (d.1.0, d.1.1.0)
+pub kept_ends :
+    (whole roll lines : List ℕ) (r : Option ℕ) → Done whole roll lines r → {bytes : ℕ} → r ≡ Some bytes → bytes ≤ length roll
+kept_ends whole roll lines r done is = (subst (λ (r : Option ℕ). Done whole roll lines r) is done).1.0

@@ -1,45 +1,12 @@
 -- Whatever the pieces in which a roll comes: what stands in the room is the pieces one behind the other, so what comes of it is what comes of the roll.
 -- Assumes nothing.
-use Prim.Native.Nat.{ℕ, ◌+◌}
-use native.Mathlib.Omega.{arith}
-use mathlib.Core.Path.{◌≡◌, refl, sym, ap, ◌∙◌}
-use mathlib.Core.List.{List, [], ◌∷◌, ◌++◌, append-nil, append_assoc}
-use lib.ListN.{length, take, drop}
-use lib.Seq.{take-add}
-use Rattle.streams.specs.Clauses.{Came}
+use Prim.Native.Nat.{ℕ}
+use mathlib.Core.Path.{◌≡◌, ap}
+use mathlib.Core.List.{List}
+use lib.ListN.{take}
+use Rattle.streams.specs.Pieces.{together, Fills}
+use Rattle.streams.proofs.Pieces.{came_together}
 use Rattle.salvage.specs.Salvage.{outcome_of}
-use Rattle.salvage_roll.specs.Pieces.{together, Fills, nothing_yet, next_piece, Filled}
-
--- a piece behind the others
-one_behind : (pieces : List (List ℕ)) (piece : List ℕ) → together (pieces ++ (piece ∷ [])) ≡ together pieces ++ piece
-unfolding together
-one_behind [] piece = append-nil piece
-one_behind (first ∷ pieces) piece = ap (first ++◌) (one_behind pieces piece) ∙ sym (append_assoc first (together pieces) piece)
-
-pub came_together : {room : List ℕ} {count : ℕ} {pieces : List (List ℕ)} → Fills room count pieces → take count room ≡ together pieces
-unfolding together
-came_together nothing_yet = refl
-came_together (next_piece {room} {room'} {place} {bytes} {pieces} fills came) =
-    take-add place bytes room' ∙ ap (◌++ take bytes (drop place room')) (came.before_it ∙ came_together fills)
-    ∙ sym (one_behind pieces (take bytes (drop place room')))
 
 pub whatever_pieces : {room : List ℕ} {count : ℕ} {pieces : List (List ℕ)} → Fills room count pieces → outcome_of (take count room) ≡ outcome_of (together pieces)
 whatever_pieces fills = ap outcome_of (came_together fills)
-
--- ---- Reading, piece by piece.
-
-pub nothing_came : (room : List ℕ) → Filled room 0
-nothing_came room = record { fits = omega arith; pieces = []; came = nothing_yet }
-
-pub more_came :
-    {room room' : List ℕ} {place bytes : ℕ} → Filled room place → Came room place room' bytes → length room' ≡ length room → Filled room' (place + bytes)
-more_came f came same =
-    record { fits = omega (arith, came.fits); pieces = _; came = next_piece f.came came }
-
--- a read that gives nothing leaves what came
-pub none_came :
-    {room room' : List ℕ} {place bytes : ℕ} → Filled room place → Came room place room' bytes → length room' ≡ length room → Filled room' place
-none_came {room} {room'} {place} f came same =
-    let none : Came room place room' 0 = record { fits = omega (arith, f.fits); before_it = came.before_it } in
-    let there : place + 0 ≡ place = omega arith in
-    rw there at (more_came f none same)

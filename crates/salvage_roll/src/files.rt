@@ -3,36 +3,20 @@ use std::fs::OpenFile;
 use std::io::{ErrorKind, Write};
 use std::rt::Files;
 use std::{fs, io};
-use streams::failure::tell;
-
-// Whether it was done. A failure is told.
-fn is_done(rt: &impl Eprint, name: &str, done: io::Result<()>) -> bool {
-    match done {
-        Ok(()) => true,
-        Err(error) => {
-            tell(rt, name.as_bytes(), error);
-            false
-        }
-    }
-}
+use streams::failure::{Told, tell};
 
 // Removes a file of an earlier run, where there is one.
-fn remove(rt: &(impl Files + Eprint), name: &str) -> bool {
-    let removed = fs::remove_file(rt, name);
-    if let Err(error) = removed {
-        if error.kind() == ErrorKind::NotFound {
-            return true;
-        }
+fn remove(rt: &(impl Files + Eprint), name: &str) -> Result<(), Told> {
+    match fs::remove_file(rt, name) {
+        Err(error) if error.kind() != ErrorKind::NotFound => Err(tell(rt, name.as_bytes(), error)),
+        _ => Ok(()),
     }
-    is_done(rt, name, removed)
 }
 
 // Removes what earlier runs have left. Where that fails it is told, and nothing else is done.
-pub fn remove_earlier(rt: &(impl Files + Eprint)) -> bool {
-    if remove(rt, "kept.bin") {
-        return remove(rt, "kept.bin.new");
-    }
-    false
+pub fn remove_earlier(rt: &(impl Files + Eprint)) -> Result<(), Told> {
+    remove(rt, "kept.bin")?;
+    remove(rt, "kept.bin.new")
 }
 
 // Removes what a failed run has made.
@@ -49,23 +33,20 @@ fn fill(rt: &impl Files, name: &str, kept: &[u8]) -> io::Result<()> {
 }
 
 // Makes the file under its other name.
-fn make(rt: &(impl Files + Eprint), kept: &[u8]) -> bool {
+fn make(rt: &(impl Files + Eprint), kept: &[u8]) -> Result<(), Told> {
     let name = "kept.bin.new";
-    is_done(rt, name, fill(rt, name, kept))
+    fill(rt, name, kept).map_err(|error| tell(rt, name.as_bytes(), error))
 }
 
 // Gives the file its own name.
-fn give_name(rt: &(impl Files + Eprint)) -> bool {
-    is_done(rt, "kept.bin", fs::rename(rt, "kept.bin.new", "kept.bin"))
+fn give_name(rt: &(impl Files + Eprint)) -> Result<(), Told> {
+    fs::rename(rt, "kept.bin.new", "kept.bin").map_err(|error| tell(rt, b"kept.bin", error))
 }
 
 // Makes kept.bin. Where that fails it is told, and no file is left.
-pub fn save(rt: &(impl Files + Eprint), kept: &[u8]) -> bool {
-    let mut saved = make(rt, kept);
-    if saved {
-        saved = give_name(rt);
-    }
-    if !saved {
+pub fn save(rt: &(impl Files + Eprint), kept: &[u8]) -> Result<(), Told> {
+    let saved = make(rt, kept).and_then(|()| give_name(rt));
+    if saved.is_err() {
         discard(rt);
     }
     saved

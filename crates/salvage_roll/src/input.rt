@@ -1,29 +1,12 @@
 // The roll's bytes, in the pieces in which they come.
-ghost use Rattle.salvage_roll.specs.Pieces.{Filled};
+ghost use Rattle.streams.specs.Pieces.{Filled, bytes_come};
 
 use std::io::Read;
-use streams::input::{Got, read_next};
+use streams::input::{Failed, fill_or_tell};
 
 // Standard input's first bytes, piece behind piece: all of them, or as many as there is room for.
-pub fn read_roll<F: Read>(rt: &impl Eprint, stdin: &mut F, room: &mut [u8]) -> Got
-    ensures { Filled room.new result.bytes }
+pub fn read_roll<F: Read>(rt: &impl Eprint, stdin: &mut F, room: &mut [u8]) -> Result<usize, Failed>
+    ensures { Filled room.new (bytes_come result) }
 {
-    let mut bytes = 0;
-    while bytes < room.len() {
-        let got = read_next(rt, stdin, room, bytes);
-        if got.failed {
-            return Got {
-                failed: true,
-                bytes,
-            };
-        }
-        if got.bytes == 0 {
-            break;
-        }
-        bytes += got.bytes;
-    }
-    Got {
-        failed: false,
-        bytes,
-    }
+    fill_or_tell(rt, stdin, b"standard input", room)
 }

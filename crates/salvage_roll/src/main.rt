@@ -5,17 +5,15 @@
 // files.rt   kept.bin: an earlier one removed, a new one made
 #![tactic(auto)]
 
-ghost use Rattle.std.specs.Prelude.{◌≡◌, length};
-ghost use Rattle.salvage.specs.Clauses.{room_size};
-
 use files::{remove_earlier, save};
 use input::read_roll;
-use salvage::{LINES, ROLL, Salvaged, salvage};
+use salvage::{LINES, ROLL, salvage};
 use std::io;
 use std::io::Read;
 use std::process::ExitCode;
 use std::rt::Files;
 use streams::output::{status_after, write};
+use text::output::Output;
 
 mod files;
 mod input;
@@ -24,37 +22,29 @@ mod input;
 fn hand_over(
     rt: &(impl Files + Print + Eprint),
     roll: &mut [u8],
-    lines: &mut [u8],
-) -> io::Result<()>
-    requires { length lines.old ≡ room_size }
-{
-    match salvage(roll, lines) {
-        Salvaged::TooLong { end } => write(rt, lines, end),
-        Salvaged::Kept { bytes, end } => {
-            if save(rt, &roll[..bytes]) {
-                write(rt, lines, end)
-            } else {
-                Ok(())
-            }
+    lines: &mut Output<LINES>,
+) -> io::Result<()> {
+    if let Some(bytes) = salvage(roll, lines) {
+        if save(rt, &roll[..bytes]).is_err() {
+            return Ok(());
         }
     }
+    write(rt, lines.as_slice())
 }
 
 // A byte more than a roll may have is enough to tell that it is too long.
 fn salvage_input<F: Read>(rt: &(impl Files + Print + Eprint), stdin: &mut F) -> io::Result<()> {
     let mut roll = [0u8; ROLL + 1];
-    let got = read_roll(rt, stdin, &mut roll);
-    if got.failed {
+    let Ok(bytes) = read_roll(rt, stdin, &mut roll) else {
         return Ok(());
-    }
-    let bytes = got.bytes;
-    let mut lines = [0u8; LINES];
+    };
+    let mut lines = Output::<LINES>::new();
     hand_over(rt, &mut roll[..bytes], &mut lines)
 }
 
 fn main(rt: HostRuntime) -> ExitCode {
-    if remove_earlier(&rt) {
-        return status_after(salvage_input(&rt, &mut rt.stdin()));
+    if remove_earlier(&rt).is_err() {
+        return ExitCode::SUCCESS;
     }
-    ExitCode::SUCCESS
+    status_after(salvage_input(&rt, &mut rt.stdin()))
 }

@@ -1,46 +1,24 @@
 // The tariff's first bytes.
 ghost use Rattle.std.specs.Prelude.{◌≤◌, length};
+ghost use Rattle.streams.specs.Pieces.{bytes_come};
 
 use std::fs;
-use std::io::{ErrorKind, Read};
+use std::io::ErrorKind;
 use std::rt::Files;
 use streams::failure::tell;
-use streams::input::{Got, read_at};
+use streams::input::{Failed, fill_or_tell};
 
-// A file's first bytes: all of them, or as many as there is room for.
-fn read_start<F: Read>(rt: &impl Eprint, file: &mut F, name: &[u8], room: &mut [u8]) -> Got
-    ensures { result.bytes ≤ length room.old }
-{
-    let mut bytes = 0;
-    while bytes < room.len() {
-        let got = read_at(rt, file, name, room, bytes);
-        if got.failed {
-            return got;
-        }
-        if got.bytes == 0 {
-            break;
-        }
-        bytes += got.bytes;
-    }
-    Got {
-        failed: false,
-        bytes,
-    }
-}
-
-// The tariff's first bytes. A missing file counts as empty.
-pub fn load_tariff(rt: &(impl Files + Eprint), room: &mut [u8]) -> Got
-    ensures { result.bytes ≤ length room.old }
+// The tariff's first bytes: all of them, or as many as there is room for. A missing file counts as empty.
+pub fn load_tariff(rt: &(impl Files + Eprint), room: &mut [u8]) -> Result<usize, Failed>
+    ensures { bytes_come result ≤ length room.old }
 {
     let name = "tariff.bin";
     match fs::open(rt, name) {
-        Ok(mut file) => read_start(rt, &mut file, name.as_bytes(), room),
+        Ok(mut file) => fill_or_tell(rt, &mut file, name.as_bytes(), room),
+        Err(error) if error.kind() == ErrorKind::NotFound => Ok(0),
         Err(error) => {
-            let failed = error.kind() != ErrorKind::NotFound;
-            if failed {
-                tell(rt, name.as_bytes(), error);
-            }
-            Got { failed, bytes: 0 }
+            tell(rt, name.as_bytes(), error);
+            Err(Failed { bytes: 0, error })
         }
     }
 }

@@ -13,15 +13,16 @@ use std::io;
 use std::io::Read;
 use std::process::ExitCode;
 use streams::output::{status_after, write};
+use text::output::Output;
 
 mod input;
 mod run;
 
 // The one line of a refused tariff.
 fn print_fault(rt: &(impl Print + Eprint), number: u8, at: usize) -> io::Result<()> {
-    let mut out = [0u8; 64];
-    let end = put_fault(&mut out, number, at);
-    write(rt, &out, end)
+    let mut out = Output::<64>::new();
+    put_fault(&mut out, number, at);
+    write(rt, out.as_slice())
 }
 
 // A refused tariff gives its one line; under any other the roll is settled.
@@ -38,10 +39,8 @@ fn settle_or_refuse<F: Read>(
 
 fn main(rt: HostRuntime) -> ExitCode {
     let mut file = [0u8; DECIDING_BYTES];
-    let got = load_tariff(&rt, &mut file);
-    if got.failed {
+    let Ok(bytes) = load_tariff(&rt, &mut file) else {
         return ExitCode::SUCCESS;
-    }
-    let bytes = got.bytes;
+    };
     status_after(settle_or_refuse(&rt, &mut rt.stdin(), &file[..bytes]))
 }

@@ -1,8 +1,7 @@
 // The roll, turn by turn, on one book.
-ghost use Rattle.std.specs.Prelude.{◌≡◌};
 ghost use Rattle.editions.specs.Reading.{ReadFile};
 ghost use Rattle.roll.specs.Clauses.{StatementRoom};
-ghost use Rattle.settle_roll.specs.Clauses.{Running, went_on, StepTaken, Begun};
+ghost use Rattle.settle_roll.specs.Clauses.{Running, StepTaken, Begun};
 
 use editions::Editions;
 use lines::tally::Tally;
@@ -11,42 +10,11 @@ use lines::turns::{ROOM, Turn, take_turn};
 use roll::{fresh_book, statement_room};
 use std::io;
 use std::io::Read;
-use streams::flow::{Flow, Flowed, INPUT, OUTPUT, make_room, read_more};
+use streams::flow::{Flow, INPUT, Next, OUTPUT, Run, go_on, make_room, read_more};
 use streams::output::write;
+use text::output::Output;
 
-// How far a run has come: its buffers, and the records so far.
-#[derive(Clone, Copy)]
-pub struct Run {
-    pub flow: Flow,
-    pub tally: Tally,
-}
-
-// What comes after a turn.
-#[derive(Clone, Copy)]
-pub enum Next {
-    // another one
-    On(Run),
-    // another one, once the output's bytes up to here are written
-    Write { end: usize, on: Run },
-    // nothing but the output's bytes up to here: the run is over, or the roll could not be read any further, which was told on standard error
-    Last(usize),
-}
-
-// Another turn, where there is one.
-fn go_on(flowed: Flowed, tally: Tally) -> Next
-    ensures { result ≡ went_on flowed tally }
-{
-    match flowed {
-        Flowed::On(flow) => Next::On(Run { flow, tally }),
-        Flowed::Write { end, on } => Next::Write {
-            end,
-            on: Run { flow: on, tally },
-        },
-        Flowed::Stopped(end) => Next::Last(end),
-    }
-}
-
-// A turn, and what it asks for: bytes read, or bytes to be written.
+// A turn, and what it asks for: bytes read, or bytes to be written. What turns carry on, beside the book, is the tally.
 fn take_step<F: Read>(
     rt: &impl Eprint,
     stdin: &mut F,
@@ -54,44 +22,39 @@ fn take_step<F: Read>(
     editions: Editions,
     book: &mut [u8],
     input: &mut [u8],
-    out: &mut [u8],
+    out: &mut Output<OUTPUT>,
     statement: &mut [u8],
-    run: Run,
-) -> Next
+    run: Run<Tally>,
+) -> Next<Tally>
     requires { Running file.now editions book.old input.old out.old run × StatementRoom statement.old }
     ensures { StepTaken file.now editions run book.old input.old out.old
         book.new input.new out.new result }
 {
-    let flow = run.flow;
-    let from = flow.from;
-    let to = flow.to;
-    let more = flow.more;
+    let Run { flow, carried } = run;
     match take_turn(
         file,
         editions,
         book,
-        &input[from..to],
-        more,
+        &input[flow.from..flow.to],
+        flow.more,
         statement,
         out,
-        flow.end,
-        run.tally,
+        carried,
     ) {
-        Turn::More => go_on(read_more(rt, stdin, input, flow), run.tally),
-        Turn::On { used, end, tally } => {
+        Turn::More => go_on(read_more(rt, stdin, input, flow), carried),
+        Turn::On { used, tally } => {
             let on = Flow {
-                from: from + used,
-                to,
-                more,
-                end,
+                from: flow.from + used,
+                ..flow
             };
-            go_on(make_room(ROOM, on), tally)
+            go_on(make_room(ROOM, out.len(), on), tally)
         }
-        Turn::Over { end } => Next::Last(end),
+        Turn::Over => Next::Last,
     }
 }
 
 // Turn after turn, until the run is over. All that is written is written here, as each step tells it: this loop and `write` are trusted.
+// (A twin of `print_statement`'s loop: a step of each has arguments of its own, and of a closure over them a proof would know nothing.)
 fn settle_all<F: Read>(
     rt: &(impl Print + Eprint),
     stdin: &mut F,
@@ -99,9 +62,9 @@ fn settle_all<F: Read>(
     editions: Editions,
     book: &mut [u8],
     input: &mut [u8],
-    out: &mut [u8],
+    out: &mut Output<OUTPUT>,
     statement: &mut [u8],
-    first: Run,
+    first: Run<Tally>,
 ) -> io::Result<()>
     requires { Begun file.now editions book.old input.old out.old first × StatementRoom statement.old }
 {
@@ -111,12 +74,13 @@ fn settle_all<F: Read>(
             Next::On(on) => {
                 run = on;
             }
-            Next::Write { end, on } => {
-                write(rt, out, end)?;
+            Next::Write(on) => {
+                write(rt, out.as_slice())?;
+                out.clear();
                 run = on;
             }
-            Next::Last(end) => {
-                return write(rt, out, end);
+            Next::Last => {
+                return write(rt, out.as_slice());
             }
         }
     }
@@ -133,17 +97,16 @@ pub fn settle_roll<F: Read>(
 {
     let mut book = fresh_book();
     let mut input = [0u8; INPUT];
-    let mut out = [0u8; OUTPUT];
+    let mut out = Output::<OUTPUT>::new();
     let mut statement = statement_room();
-    let end = put_header(&mut out);
+    put_header(&mut out);
     let first = Run {
         flow: Flow {
             from: 0,
             to: 0,
             more: true,
-            end,
         },
-        tally: Tally {
+        carried: Tally {
             accepted: 0,
             refused: 0,
             cents: 0,

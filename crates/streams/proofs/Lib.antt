@@ -1,3 +1,4 @@
 pub mod Moves
+pub mod Pieces
 pub mod Printed
 pub mod Steps

@@ -1,48 +1,12 @@
--- Bytes moved to the start of a buffer, one by one: those that come are still to be moved, since each moves to an earlier place.
+-- Bytes that are kept, read behind those, and used.
 -- Assumes nothing.
-use Prim.Native.Nat.{ℕ, suc, ◌+◌, ◌-◌, ◌≤◌, ◌<◌}
+use Prim.Native.Nat.{ℕ, ◌+◌, ◌-◌, ◌≤◌}
 use native.Mathlib.Omega.{arith}
-use native.Mathlib.Numerals.{add-one}
-use mathlib.Core.Path.{◌≡◌, refl, sym, ap, ◌∙◌}
+use mathlib.Core.Path.{◌≡◌, sym, ◌∙◌}
 use mathlib.Core.List.{List, ◌++◌}
-use lib.ListN.{length, get_or, take, drop, set, length-drop}
-use lib.Seq.{take-suc, take-suc-set, take-add, length-take-le, drop_at, drop-set-lt, get_or-drop, drop-drop}
+use lib.ListN.{length, take, drop, length-drop}
+use lib.Seq.{take-add, length-take-le, drop_at, drop-drop}
 use Rattle.streams.specs.Clauses.{Came, Kept}
-
--- the first `i` bytes are moved, and the others stand where they stood
-pub record Moved (before : List ℕ) (from i : ℕ) (after : List ℕ) : Type 0 where
-  pub moved : take i after ≡ take i (drop from before)
-  pub others : drop i after ≡ drop i before
-
-pub none_moved : (before : List ℕ) (from : ℕ) → Moved before from 0 before
-none_moved before from = record { moved = refl; others = refl }
-
-module _ (before : List ℕ) (from i : ℕ) (after : List ℕ) (so_far : Moved before from i after) where
-  the-next : get_or after (from + i) 0 ≡ get_or (drop from before) i 0
-  the-next =
-      let swapped : from + i ≡ i + from = omega arith in
-      rw swapped (sym (get_or-drop i after from 0)) ∙ ap (λ (l : List ℕ). get_or l from 0) so_far.others ∙ get_or-drop i before from 0
-      ∙ rw (sym swapped) (sym (get_or-drop from before i 0))
-
-  pub one_moved : from + i < length before → i < length after → Moved before from (i + 1) (set after i (get_or after (from + i) 0))
-  one_moved within here =
-      let some : i < length (drop from before) = omega (arith, length-drop from before) in
-      rw add-one
-      (record {
-        moved =
-            take-suc-set after i (get_or after (from + i) 0) here ∙ rw (so_far.moved, the-next) (sym (take-suc (drop from before) i 0 some));
-        others =
-            drop-set-lt (suc i) after i (get_or after (from + i) 0) (omega arith) ∙ sym (one_more after) ∙ ap (drop 1) so_far.others ∙ one_more before;
-      })
-    where
-      one_more : (l : List ℕ) → drop 1 (drop i l) ≡ drop (suc i) l
-      one_more l = let next : i + 1 ≡ suc i = omega arith in drop-drop 1 i l ∙ rw next
-
--- all are moved
-pub all_moved :
-    (before : List ℕ) (from to i : ℕ) (after : List ℕ) → from ≤ to → i ≡ to - from → Moved before from i after
-    → Kept before from to after (to - from)
-all_moved before from to i after order all m = record { many = omega arith; moved = rw all at m.moved }
 
 -- ---- Bytes that are read behind those kept.
 

@@ -1,5 +1,10 @@
 -- What reading leaves in a room, and what is kept there for the next read.
-use Rattle.std.specs.Prelude.{ℕ, ◌+◌, ◌≤◌, ◌≡◌, List, length, take, drop}
+use Rattle.std.specs.Prelude.{ℕ, ◌+◌, ◌≤◌, ◌≡◌, List, length, take, drop, Result, Ok, Err}
+
+-- so many bytes as one read gave: none where it failed
+abbrev pub bytes_read : {E : Type 0} → Result ℕ E → ℕ
+bytes_read (Ok bytes) = bytes
+bytes_read (Err error) = 0
 
 -- bytes came behind a place, and what stood before it still does
 pub record Came (before : List ℕ) (place : ℕ) (after : List ℕ) (bytes : ℕ) : Type 0 where

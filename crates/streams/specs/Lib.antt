@@ -1,3 +1,4 @@
 pub mod Runs
 pub mod Clauses
+pub mod Pieces
 pub mod Flows

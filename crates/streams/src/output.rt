@@ -1,6 +1,4 @@
 // The only door out.
-ghost use Rattle.std.specs.Prelude.{◌≤◌, length};
-
 use crate::failure::tell;
 use std::io;
 use std::io::ErrorKind;
@@ -9,12 +7,10 @@ use std::process::ExitCode;
 // The status that is left of a program which the system ends where it writes and nobody reads any more: 128 and the number of that signal.
 const CLOSED: u8 = 141;
 
-// Writes a buffer's bytes up to a place. A failure is told on standard error; that nobody reads any more is not, since it is no failure of the
+// Writes some bytes. A failure is told on standard error; that nobody reads any more is not, since it is no failure of the
 // program's. Then some of the bytes may have been written, and the error is the system's: it is handed on, so that the program ends.
-pub fn write(rt: &(impl Print + Eprint), out: &[u8], end: usize) -> io::Result<()>
-    requires { end ≤ length out.now }
-{
-    let written = rt.write_all(&out[..end]);
+pub fn write(rt: &(impl Print + Eprint), out: &[u8]) -> io::Result<()> {
+    let written = rt.write_all(out);
     if let Err(error) = written {
         if error.kind() != ErrorKind::BrokenPipe {
             tell(rt, b"standard output", error);

@@ -1,16 +1,29 @@
 -- Texts put one behind another.
 -- Assumes nothing.
-use Prim.Native.Nat.{ℕ, zero, suc, ◌+◌, ◌-◌, ◌/◌, ◌%◌, ◌≤◌, ◌<◌}
-use native.Mathlib.Numerals.{add-one}
+use Prim.Native.Nat.{ℕ, zero, suc, ◌+◌, ◌-◌, ◌/◌, ◌%◌, ◌^◌, ◌≤◌, ◌<◌}
 use native.Mathlib.Omega.{arith}
-use mathlib.Core.Path.{◌≡◌, sym, ap, ◌∙◌}
+use native.Mathlib.Nat.{pow-suc, div-div-eq-div-mul}
+use mathlib.Core.Path.{◌≡◌, refl, sym, ap, ◌∙◌}
 use mathlib.Core.List.{List, [], ◌∷◌, ◌++◌, append-nil, append_assoc}
-use lib.ListN.{length, get_or, take, drop, set, length-set, length-drop, drop_of_length-le}
-use lib.Seq.{take-suc, take-suc-set, take_all, take-length, take-take, take-append-add, length-take-le}
-use Rattle.text.specs.Clauses.{Before, Behind}
+use lib.ListN.{length, take, drop, set, length-drop, drop_of_length-le}
+use lib.Seq.{take-suc-set, take_all, take-take, take-append-add, length-take-le}
+use Rattle.std.specs.Int.{byte_at, bytes_low_first}
+use Rattle.text.specs.Clauses.{Put, Before, Behind}
 use Rattle.text.specs.Fours.{first_bytes}
 
--- a text behind another
+-- a text put behind another
+pub put_join :
+    {first second : List ℕ} {m n : ℕ} {a b c : List ℕ}
+    → Put first m a b → Put second n b c → Put (first ++ second) (m + n) a c
+put_join x y = record { put = y.put ∙ rw (x.put, append_assoc); room = omega arith }
+
+-- the same text in other words, with more room to spare
+pub put_same :
+    {text same : List ℕ} {m n : ℕ} {a b : List ℕ}
+    → Put text m a b → text ≡ same → m ≤ n → Put same n a b
+put_same {a = a} x is wide = record { put = x.put ∙ ap (a ++◌) is; room = omega arith }
+
+-- a text behind another, on a slice from a place on
 pub behind_join :
     {first second : List ℕ} {m n : ℕ} {a b c : List ℕ} {place middle end : ℕ}
     → Behind first m a place b middle → Behind second n b middle c end → Behind (first ++ second) (m + n) a place c end
@@ -40,52 +53,21 @@ shorter {text = text} {a = a} {b = b} {place = place} {end = end} x within n few
     in
     record { put = sym (take-take (place + n) end b fewer) ∙ ap (take (place + n)) x.put ∙ first; order = omega arith; room = omega arith }
 
--- ---- A word put byte by byte, the lowest first.
+-- ---- A word's bytes: those that std gives, the lowest first, are the word's first ones.
 
-unfoldable pub put_word : ℕ → List ℕ → ℕ → ℕ → List ℕ
-put_word zero out place word = out
-put_word (suc count) out place word = put_word count (set out place (word % 256)) (place + 1) (word / 256)
+later_bytes : (i count word : ℕ) → bytes_low_first i count word ≡ first_bytes count (word / 256 ^ i)
+unfolding first_bytes
+later_bytes i zero word = refl
+later_bytes i (suc count) word =
+    let next : word / 256 ^ suc i ≡ word / 256 ^ i / 256 = sym (div-div-eq-div-mul word (256 ^ i) 256 ∙ ap (word /◌) (sym (pow-suc 256 i))) in
+    rw (byte_is i word, later_bytes (suc i) count word, next)
+  where
+    byte_is : (i word : ℕ) → byte_at i word ≡ word / 256 ^ i % 256
+    byte_is zero word = let whole : word / 1 ≡ word = omega arith in rw whole
+    byte_is (suc i) word = refl
 
-pub word_behind :
-    (count : ℕ) (out : List ℕ) (place word : ℕ) → place + count ≤ length out
-    → Behind (first_bytes count word) count out place (put_word count out place word) (place + count)
-unfolding put_word first_bytes
-word_behind zero out place word fits =
-    let none : place + 0 ≡ place = omega arith in
-    record { put = rw (none, append-nil (take place out)); order = omega arith; room = omega arith }
-word_behind (suc count) out place word fits =
-    let next : place + 1 + count ≡ place + suc count = omega arith in
-    let one = set out place (word % 256) in
-    let first = byte_behind out place (word % 256) (omega arith) in
-    let both = behind_join first (word_behind count one (place + 1) (word / 256) (omega (arith, length-set out place (word % 256)))) in
-    record {
-      put = ap (λ (end : ℕ). take end (put_word count one (place + 1) (word / 256))) (sym next) ∙ both.put;
-      order = omega arith;
-      room = omega arith;
-    }
-
--- ---- A text copied byte by byte.
-
-module _ (before text : List ℕ) (place : ℕ) where
-  pub none_copied : take (place + 0) before ≡ take place before ++ take 0 text
-  none_copied = let same : place + 0 ≡ place = omega arith in rw (same, append-nil (take place before))
-
-  pub byte_copied :
-      (after : List ℕ) (i : ℕ) → i < length text → place + i < length after → take (place + i) after ≡ take place before ++ take i text
-      → take (place + (i + 1)) (set after (place + i) (get_or text i 0)) ≡ take place before ++ take (i + 1) text
-  byte_copied after i some room so_far =
-      let one : place + (i + 1) ≡ suc (place + i) = omega arith in
-      rw (one, take-suc-set after (place + i) (get_or text i 0) room, so_far, add-one i, take-suc text i 0 some, append_assoc)
-
-  pub all_copied :
-      (after : List ℕ) (n : ℕ) → n ≡ length text → take (place + n) after ≡ take place before ++ take n text
-      → Behind text (length text) before place after (place + length text)
-  all_copied after n is so_far =
-      record {
-        put = rw is at so_far ∙ ap (take place before ++◌) (take-length text);
-        order = omega arith;
-        room = omega arith;
-      }
+pub low_first : (word : ℕ) → bytes_low_first 0 8 word ≡ first_bytes 8 word
+low_first word = let whole : word / 1 ≡ word = omega arith in later_bytes 0 8 word ∙ ap (first_bytes 8) whole
 
 -- ---- A text that is put together from its end on.
 

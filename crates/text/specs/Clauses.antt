@@ -1,5 +1,10 @@
--- What the contracts say: a text was put in front of a place of a buffer, or behind one.
-use Rattle.std.specs.Prelude.{ℕ, ◌+◌, ◌≤◌, ◌≡◌, List, ◌++◌, take, drop}
+-- What the contracts say: a text was put behind what was put before; or in front of a place of a slice, or behind one.
+use Rattle.std.specs.Prelude.{ℕ, ◌+◌, ◌≤◌, ◌≡◌, List, ◌++◌, length, take, drop}
+
+-- the text stands behind what was put before; it is at most so long
+pub record Put (text : List ℕ) (most : ℕ) (before after : List ℕ) : Type 0 where
+  pub put : after ≡ before ++ text
+  pub room : length after ≤ length before + most
 
 -- from `start` on stand the text, and behind it what stood from `end` on; it took at most so many places
 pub record Before (text : List ℕ) (most : ℕ) (before : List ℕ) (end : ℕ) (after : List ℕ) (start : ℕ) : Type 0 where

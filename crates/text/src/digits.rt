@@ -1,5 +1,5 @@
 // Numbers in decimal, put in front of a place: the last digit first, so that nobody has to count them. Each function answers where what
-// it has put begins.
+// it has put begins. (The place is counted by hand: the number says when its digits are at an end, and an iterator over places would not.)
 ghost use Rattle.std.specs.Prelude.{◌≤◌, length};
 ghost use Rattle.text.specs.Texts.{decimal};
 ghost use Rattle.text.specs.Clauses.{Before};

@@ -46,37 +46,16 @@ pub fn fours_of(front: u64, back: u64) -> Fours
     }
 }
 
-// A word's bytes, the lowest first: of this form the compiler makes one store.
+// A word's bytes, the lowest first: the compiler makes one store of it.
 fn put_eight(out: &mut [u8], place: usize, word: u64)
     requires { place + 8 ≤ length out.old }
     ensures { Behind (first_bytes 8 word) 8 out.old place out.new (place + 8) }
 {
-    out[place] = (word % 256) as u8;
-    let at1 = place + 1;
-    let word1 = word / 256;
-    out[at1] = (word1 % 256) as u8;
-    let at2 = at1 + 1;
-    let word2 = word1 / 256;
-    out[at2] = (word2 % 256) as u8;
-    let at3 = at2 + 1;
-    let word3 = word2 / 256;
-    out[at3] = (word3 % 256) as u8;
-    let at4 = at3 + 1;
-    let word4 = word3 / 256;
-    out[at4] = (word4 % 256) as u8;
-    let at5 = at4 + 1;
-    let word5 = word4 / 256;
-    out[at5] = (word5 % 256) as u8;
-    let at6 = at5 + 1;
-    let word6 = word5 / 256;
-    out[at6] = (word6 % 256) as u8;
-    let at7 = at6 + 1;
-    let word7 = word6 / 256;
-    out[at7] = (word7 % 256) as u8;
+    out[place..place + 8].copy_from_slice(&word.to_le_bytes());
 }
 
 // A number of eight digits at most. With 2^60 added the last digit's byte is not 0, so that 0 keeps its digit.
-pub fn put_up_to_eight(out: &mut [u8], place: usize, number: u32) -> usize
+pub(crate) fn put_up_to_eight(out: &mut [u8], place: usize, number: u32) -> usize
     requires { (number < 100000000) × (place + 8 ≤ length out.old) }
     ensures { Behind (decimal number) 8 out.old place out.new result }
 {
@@ -91,7 +70,7 @@ pub fn put_up_to_eight(out: &mut [u8], place: usize, number: u32) -> usize
 }
 
 // A number of four digits at most, which are at hand, and a mark behind it.
-pub fn put_four(out: &mut [u8], place: usize, number: u64, digits: u64, mark: u8) -> usize
+pub(crate) fn put_four(out: &mut [u8], place: usize, number: u64, digits: u64, mark: u8) -> usize
     requires { (number < 10000) × ((digits ≡ word_of (four number)) × (place + 8 ≤ length out.old)) }
     ensures { Behind (decimal number ++ (mark ∷ [])) 5 out.old place out.new result }
 {
@@ -105,7 +84,7 @@ pub fn put_four(out: &mut [u8], place: usize, number: u64, digits: u64, mark: u8
 }
 
 // A number of 32 bits has 10 digits at most. One of more than eight is put together from its end on, and copied.
-pub fn put_small(out: &mut [u8], place: usize, number: u32) -> usize
+pub(crate) fn put_small(out: &mut [u8], place: usize, number: u32) -> usize
     requires { place + 10 ≤ length out.old }
     ensures { Behind (decimal number) 10 out.old place out.new result }
 {

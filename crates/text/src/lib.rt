@@ -1,10 +1,12 @@
-// Words and numbers in decimal, put into a buffer that the caller lends. Whatever is printed is put together of these.
+// Words and numbers in decimal, put together in a room of a fixed size. Whatever is printed is put together of these.
 //
-// digits.rt  numbers in decimal, in front of a place
+// output.rt  what was put so far, and each piece that is put behind it
+// behind.rt  words and numbers, behind a place of a slice
 // fours.rt   numbers of 32 bits, behind a place
-// behind.rt  words and numbers, behind a place
+// digits.rt  numbers in decimal, in front of a place
 #![tactic(auto)]
 
-pub mod behind;
-pub mod digits;
+mod behind;
+mod digits;
 pub mod fours;
+pub mod output;

@@ -6,4 +6,4 @@ abbrev pub invariant-loop-on : goal.invariant-loop-on
 invariant-loop-on g l = Running l.input l.out l.run
 
 abbrev pub decreases-loop-on : goal.decreases-loop-on
-decreases-loop-on g l = left records_left l.run.flow l.run.number
+decreases-loop-on g l = left records_left l.run.flow l.run.carried

@@ -1,15 +1,17 @@
 -- `take_step` meets its contract: what the turn did is one step of the loop, and where its record is not whole yet there is room for more.
 use native.Mathlib.Omega.{arith}
-use Rattle.print_statement.proofs.Turns.{room_for_more, asked_on, still_few, fits, on_inside, on_few, on_made, over}
+use Rattle.streams.proofs.Steps.{still_on}
+use Rattle.print_statement.specs.Clauses.{Few}
+use Rattle.print_statement.proofs.Turns.{room_for_more, asked_on, fits, on_inside, on_put, on_few, on_made, over}
 use Rattle.print_statement.proofs.take_step.Goals as goal
 
 pub read_more-requires : goal.read_more-requires
 read_more-requires g c =
     let turned = c.take_turn in
-    let room = room_for_more c.args.input.now c.requires.range c.requires.sizes.of_input turned.ensures c.in-More.is in
+    let room = room_for_more c.args.input.now c.requires.range c.requires.size turned.ensures c.in-More.is in
     record {
-      size = c.requires.sizes.of_input;
-      range = record { order = c.requires.range.order; inside = c.requires.range.inside; fits = omega (arith, c.requires.range.room_left) };
+      size = c.requires.size;
+      range = record { order = c.requires.range.order; inside = c.requires.range.inside };
       more = room.0;
       room = room.1;
     }
@@ -17,12 +19,14 @@ read_more-requires g c =
 pub overflow_add-on : goal.overflow_add-on
 overflow_add-on g c =
     let turned = c.take_turn in
-    omega (arith, c.requires.range.inside, fits c.args.input.now c.requires.range c.requires.sizes.of_input turned.ensures c.in-On.is)
+    omega (arith, c.requires.range.inside, fits c.args.input.now c.requires.range c.requires.size turned.ensures c.in-On.is)
 
 pub make_room-requires : goal.make_room-requires
 make_room-requires g c =
-    let turned = c.take_turn in
-    (on_inside c.args.input.now c.requires.range c.requires.sizes.of_input turned.ensures c.in-On.is, omega arith)
+    let turned = c.take_turn in (
+      on_inside c.args.input.now c.requires.range c.requires.size turned.ensures c.in-On.is,
+      (omega arith, omega (arith, on_put c.args.input.now c.requires.range c.requires.size turned.ensures c.in-On.is, c.len.ensures)),
+    )
 
 pub returns-in-More : goal.returns-in-More
 returns-in-More g c =
@@ -30,8 +34,8 @@ returns-in-More g c =
     let read = c.read_more in
     rw c.go_on.ensures
     (record {
-      few = still_few read.result c.args.run.number c.requires.few;
-      advanced = asked_on c.args.input.now c.requires.range c.requires.sizes.of_input turned.ensures _ read.result c.in-More.is read.ensures;
+      few = still_on Few read.result c.args.run.carried c.requires.few;
+      advanced = asked_on c.args.input.now c.requires.range c.requires.size turned.ensures _ read.result c.in-More.is read.ensures;
     })
 
 pub returns-in-On : goal.returns-in-On
@@ -40,11 +44,11 @@ returns-in-On g c =
     let made = c.make_room in
     rw c.go_on-in-On.ensures
     (record {
-      few = on_few c.args.input.now c.requires.range c.requires.sizes.of_input turned.ensures c.in-On.is made.result;
-      advanced = on_made c.args.input.now c.requires.range c.requires.sizes.of_input turned.ensures c.in-On.is made.result made.ensures;
+      few = on_few c.args.input.now c.requires.range c.requires.size turned.ensures c.in-On.is made.result;
+      advanced = on_made c.args.input.now c.requires.range c.requires.size turned.ensures c.in-On.is made.result (rw c.len.ensures at made.ensures);
     })
 
 pub returns-in-Over : goal.returns-in-Over
 returns-in-Over g c =
     let turned = c.take_turn in
-    record { few = tt; advanced = over c.args.input.now c.requires.range c.requires.sizes.of_input turned.ensures c.in-Over.is }
+    record { few = tt; advanced = over c.args.input.now c.requires.range c.requires.size turned.ensures c.in-Over.is }

@@ -11,8 +11,8 @@ returns-then-from-to c =
     let args = c.args in
     rw (run_line args.from args.to (omega arith), lt-ltb args.from args.to (omega arith)) c.put_line.ensures
 
-pub returns : goal.returns
-returns c =
+pub returns-else-from-to : goal.returns-else-from-to
+returns-else-from-to c =
     let args = c.args in
     rw (no_line args.from args.to (omega arith), le-ltb args.from args.to (omega arith))
-    (record { put = sym (append-nil _); order = omega arith; room = omega arith })
+    (record { put = sym (append-nil _); room = omega arith })

@@ -5,4 +5,4 @@ use Rattle.csv_table.proofs.columns.put_marked.Goals as goal
 
 pub returns : goal.returns
 unfolding two_digits digit
-returns c = c.put_text.ensures
+returns g c = c.put_text.ensures

@@ -5,4 +5,4 @@ use Rattle.csv_table.proofs.rows.put_header.Goals as goal
 
 pub returns : goal.returns
 unfolding header bytes
-returns c = c.put_text.ensures
+returns g c = c.put_text.ensures

@@ -7,11 +7,11 @@ use Rattle.csv_table.proofs.Taken.{last_effect, on_effect}
 use Rattle.csv_table.proofs.turns.take_record.Goals as goal
 
 pub returns-then-number-eq-MOST_RECORDS : goal.returns-then-number-eq-MOST_RECORDS
-returns-then-number-eq-MOST_RECORDS c =
+returns-then-number-eq-MOST_RECORDS g c =
     let last : c.args.number ≡ most_records = omega arith in
-    rw (last_effect _ _ c.args.number last) (ended c.put_record-end.ensures)
+    rw (last_effect _ _ c.args.number last) (ended c.put_record.ensures)
 
 pub returns : goal.returns
-returns c =
+returns g c =
     let not_last : c.args.number ≡ most_records → ⊥ = λ is. omega arith in
-    rw (on_effect _ _ c.args.number not_last) (put c.put_record-end.ensures)
+    rw (on_effect _ _ c.args.number not_last) (put c.put_record.ensures)

@@ -2,13 +2,13 @@
 use native.Mathlib.Omega.{arith}
 use mathlib.Core.Path.{refl}
 use Rattle.text.specs.Texts.{bytes}
-use Rattle.text.proofs.Puts.{behind_join, behind_same}
+use Rattle.text.proofs.Puts.{put_join, put_same}
 use Rattle.lines.proofs.short.put_front.Goals as goal
 
 pub returns : goal.returns
 unfolding bytes
-returns c =
-    behind_same
-    (behind_join (behind_join (behind_join c.put_up_to_eight-after0.ensures c.put_byte-after1.ensures) c.put_four-after2.ensures) c.put_four.ensures)
+returns g c =
+    put_same
+    (put_join (put_join (put_join c.put_up_to_eight.ensures c.put_byte.ensures) c.put_four.ensures) c.put_four-2.ensures)
     refl
     (omega arith)

@@ -11,15 +11,6 @@ use Rattle.lines.proofs.tally.count.Goals as goal
 said : {line same : Line} → line ≡ same → line_cents line ≤ most_line_cents → line_cents same ≤ most_line_cents
 said is most = subst (λ (l : Line). line_cents l ≤ most_line_cents) is most
 
-pub overflow_add-result-in-Charged : goal.overflow_add-result-in-Charged
-overflow_add-result-in-Charged c = let charge = said c.in-Charged.is c.requires.1 in omega arith
-
-pub overflow_add-result-in-Both-2 : goal.overflow_add-result-in-Both-2
-overflow_add-result-in-Both-2 c = let charge = said c.in-Both.is c.requires.1 in omega arith
-
-pub overflow_add-result-in-Both-3 : goal.overflow_add-result-in-Both-3
-overflow_add-result-in-Both-3 c = let charge = said c.in-Both.is c.requires.1 in omega arith
-
 pub returns-in-Charged : goal.returns-in-Charged
 unfolding counted
 returns-in-Charged c =

@@ -5,14 +5,14 @@ use Rattle.lines.proofs.Taken.{last_taken, on_taken}
 use Rattle.lines.proofs.turns.take_line.Goals as goal
 
 pub returns-then-number-eq-MOST_RECORDS : goal.returns-then-number-eq-MOST_RECORDS
-returns-then-number-eq-MOST_RECORDS c =
+returns-then-number-eq-MOST_RECORDS g c =
     let args = c.args in
     let after = c.count-after in
     last_taken args.tally args.line args.used false after.result after.ensures (eq-eqb _ _ c.if-number-eq-MOST_RECORDS.true)
-    c.put_line-end.ensures c.put_tail.ensures
+    c.put_line.ensures c.put_tail.ensures
 
 pub returns : goal.returns
-returns c =
+returns g c =
     let args = c.args in
     let after = c.count-after in
-    on_taken args.tally args.line args.used false after.result after.ensures (ne_eqb _ _ c.if-number-eq-MOST_RECORDS.false) c.put_line-end.ensures
+    on_taken args.tally args.line args.used false after.result after.ensures (ne_eqb _ _ c.if-number-eq-MOST_RECORDS.false) c.put_line.ensures

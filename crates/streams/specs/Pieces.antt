@@ -1,5 +1,6 @@
--- What reading leaves: the pieces in which a roll comes stand one behind the other.
-use Rattle.std.specs.Prelude.{ℕ, ◌+◌, ◌≤◌, List, [], ◌∷◌, ◌++◌, length, take, drop}
+-- What reading leaves: the pieces in which a file comes stand one behind the other.
+use Rattle.std.specs.Prelude.{ℕ, ◌+◌, ◌≤◌, List, [], ◌∷◌, ◌++◌, length, take, drop, Result, Ok, Err}
+use Rattle.streams.specs.declared.input.Failed.{Failed}
 use Rattle.streams.specs.Clauses.{Came}
 
 -- pieces, one behind the other
@@ -18,3 +19,8 @@ pub record Filled (room : List ℕ) (count : ℕ) : Type 0 where
   pub fits : count ≤ length room
   pub pieces : List (List ℕ)
   pub came : Fills room count pieces
+
+-- so many bytes as have come, before a failed read too
+abbrev pub bytes_come : Result ℕ Failed → ℕ
+bytes_come (Ok bytes) = bytes
+bytes_come (Err failed) = failed.bytes

@@ -1,8 +1,8 @@
 use Prim.Native.Nat.{◌-◌}
 use mathlib.Core.Path.{◌≡◌}
 use lib.ListN.{length}
-use Rattle.salvage_roll.specs.Pieces.{Filled}
-use Rattle.salvage_roll.proofs.input.read_roll.Given as goal
+use Rattle.streams.specs.Pieces.{Filled}
+use Rattle.streams.proofs.input.fill_from.Given as goal
 
 abbrev pub invariant-loop-bytes : goal.invariant-loop-bytes
 invariant-loop-bytes g l = Filled l.room l.bytes × (length l.room ≡ length l.initial.room)
