@@ -133,7 +133,7 @@ def points(commit):
         ("4b", "conversions, copies and equality by hand", list(lines(source, r"fn (number|same_bytes|clear|move_to|keep|longer_of|shorter_of|smaller|marked|encoded|refuse)\("))),
         ("5a", "functions whose parameters travel together", list(together(source))),
         ("5b", "facts that three or more contracts ask for", list(facts(source))),
-        ("6", "buffers with a place or an end beside them", list(lines(source, r"^\s*(pub )?fn [a-z_]+\(.*(out|lines|text|fields|statement|room): &mut \[u8\], (place|end|at): usize"))),
+        ("6", "buffers with a place or an end beside them", list(lines(source, r"^\s*(pub(\(crate\))? )?fn [a-z_]+\(.*(out|lines|text|fields|statement|room): &mut \[u8\], (place|end|at): usize"))),
         ("7", "switches on which step to run", list(lines(source, r"for _ in 0\.\.2|if tag ==|match (next|take_turn|take_step|flowed)\b"))),
         ("8", "answers to goals", list(answers(proofs))),
     ]
