@@ -91,3 +91,4 @@ module _
       unfolding turn_at turn_after numbered
       over =
           at_last turn_after records_left run.flow run.carried input out r size out' (rw did_last.1) did_last.2.put
+          (omega (arith, did_last.2.room, r.room_left))

@@ -56,8 +56,7 @@ fn print_all<F: Read>(
                 run = on;
             }
             Next::Write(on) => {
-                write(rt, out.as_slice())?;
-                out.clear();
+                out.hand_over(|text| write(rt, text))?;
                 run = on;
             }
             Next::Last => {

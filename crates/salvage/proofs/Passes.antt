@@ -14,7 +14,7 @@ use lib.Seq.{drop-drop, take-paste, drop-paste}
 use Rattle.text.specs.Clauses.{Put}
 use Rattle.salvage.specs.declared.Pass.{Pass}
 use Rattle.salvage.specs.Salvage.{most_roll, kept_at, Piece, kept, run_of, kept_in, lines_in, kept_of, lines_of, too_long, salvaged, outcome_of}
-use Rattle.salvage.specs.Clauses.{most_line, Passing, Stepped, one_dropped, one_kept}
+use Rattle.salvage.specs.Clauses.{room_size, most_line, Passing, Stepped, one_dropped, one_kept}
 use Rattle.salvage.proofs.Records.{kept_range, kept_same}
 use Rattle.salvage.proofs.Cuts.{Cut, cut, when_over, when_dropped, when_kept}
 use Rattle.salvage.proofs.Pieces.{kept_behind, lines_behind}
@@ -74,6 +74,14 @@ line_paid from at size end end' order long room few =
     elim (dec_lt from at) [
       | yes some ↦ let most : end' ≤ end + 12 = rw (lt-ltb from at some) at room in omega arith
       | no none ↦ let most : end' ≤ end + 0 = rw (le-ltb from at (omega arith)) at room in omega arith
+    ]
+
+-- the last line has its room
+pub lines_fit : (from to end end' : ℕ) → from ≤ to → to ≤ most_roll → 29 * end ≤ 12 * from → end' ≤ end + most_line from to → end' ≤ room_size
+lines_fit from to end end' order short few room =
+    elim (dec_lt from to) [
+      | yes some ↦ let most : end' ≤ end + 12 = rw (lt-ltb from to some) at room in omega arith
+      | no none ↦ let most : end' ≤ end + 0 = rw (le-ltb from to (omega arith)) at room in omega arith
     ]
 
 -- a kept record goes behind what is kept so far, and the line of the run before it behind the lines so far

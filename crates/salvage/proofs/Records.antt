@@ -142,7 +142,7 @@ passes b at size e =
     let there = length-drop at b in
     let long : length (take size (drop at b)) ≡ size = length-take-le size (drop at b) (omega arith) in
     let all : take size (drop at b) ≡ take size (take size (drop at b)) = sym (take_all size (take size (drop at b)) (omega arith)) in
-    record { whole = same_record b (take size (drop at b)) at 0 size all (omega arith) e ∙ ap Some (sym long) }
+    record { whole = same_record b (take size (drop at b)) at 0 size all (omega arith) e ∙ ap Some (sym long); some = omega arith }
 
 pub passes_in_front : (first rest : List ℕ) → Passes first → kept_at (first ++ rest) 0 ≡ Some (length first)
 passes_in_front first rest p =

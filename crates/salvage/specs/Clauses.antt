@@ -40,8 +40,9 @@ pub data Stepped (roll lines : List ℕ) (pass : Pass) : List ℕ → List ℕ �
       → roll' ≡ moved_to roll pass.kept pass.at size
       → Stepped roll lines pass roll' lines' (record { at = pass.at + size; from = pass.at + size; kept = pass.kept + size })
 
--- what is kept stands at the roll's front, whose other bytes stay, and what is printed are the lines
+-- what is kept stands at the roll's front, whose other bytes stay, and what is printed are the lines, which have their room
 abbrev pub Done : List ℕ → List ℕ → List ℕ → Option ℕ → Type 0
-Done whole roll lines None = (outcome_of whole ≡ too_long) × ((lines ≡ printed too_long) × (roll ≡ whole))
+Done whole roll lines None = (outcome_of whole ≡ too_long) × ((lines ≡ printed too_long) × ((length lines ≤ room_size) × (roll ≡ whole)))
 Done whole roll lines (Some bytes) =
-    (outcome_of whole ≡ salvaged (take bytes roll) lines) × ((bytes ≤ length roll) × (drop bytes roll ≡ drop bytes whole))
+    (outcome_of whole ≡ salvaged (take bytes roll) lines)
+    × ((bytes ≤ length roll) × ((length lines ≤ room_size) × (drop bytes roll ≡ drop bytes whole)))

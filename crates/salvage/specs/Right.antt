@@ -31,6 +31,7 @@ dropped_length (dropped offset size ∷ rest) = size + dropped_length rest
 -- a record that passes the test and is nothing but itself
 pub record Passes (record-bytes : List ℕ) : Type 0 where
   pub whole : kept_at record-bytes 0 ≡ Some (length record-bytes)
+  pub some : 0 < length record-bytes
 
 -- records one behind the other, each of which passes
 pub data AllPass : List ℕ → Type 0 where

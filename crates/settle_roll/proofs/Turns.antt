@@ -124,7 +124,7 @@ module _
       unfolding turn_at turn_under on_book
       over =
           at_last (turn_under file) records_left run.flow before.carried input out r size out' (rw did_last.1)
-          did_last.2.put
+          did_last.2.put (omega (arith, did_last.2.room, r.room_left))
 
 -- What is known after a step, by its answer: another turn comes with the book that this one left.
 module _ (file : List ℕ) {flow₀ : Flow} {s : State Carried} (book : List ℕ) {input out : List ℕ} where
@@ -135,5 +135,11 @@ module _ (file : List ℕ) {flow₀ : Flow} {s : State Carried} (book : List ℕ
 
   pub writing_by :
       {t : Next Tally} {next : Run Tally} → Advanced (turn_under file) most_turn records_left flow₀ s input out (carrying (beside book) t) → t ≡ Write next
-      → InRange most_turn 0 next.flow × (left records_left next.flow (beside book next.carried) < left records_left flow₀ s.carried)
+      → (length out ≤ output_size)
+      × (InRange most_turn 0 next.flow × (left records_left next.flow (beside book next.carried) < left records_left flow₀ s.carried))
   writing_by a is = step.writing_by a (ap (carrying (beside book)) is)
+
+  pub last_by :
+      {t : Next Tally} → Advanced (turn_under file) most_turn records_left flow₀ s input out (carrying (beside book) t) → t ≡ Last
+      → length out ≤ output_size
+  last_by a is = step.last_by a (ap (carrying (beside book)) is)

@@ -75,8 +75,7 @@ fn settle_all<F: Read>(
                 run = on;
             }
             Next::Write(on) => {
-                write(rt, out.as_slice())?;
-                out.clear();
+                out.hand_over(|text| write(rt, text))?;
                 run = on;
             }
             Next::Last => {

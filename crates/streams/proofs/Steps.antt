@@ -18,7 +18,7 @@ use Rattle.streams.specs.declared.flow.Next.{Next}
 use Rattle.streams.specs.declared.flow.Next.TheVariants.{On, Write, Last}
 use Rattle.streams.specs.Clauses.{Came, Kept}
 use Rattle.streams.specs.Runs.{asks, puts, ends, Turns, State, turn_at, came, went, written, Goes, fed, holds, writes}
-use Rattle.streams.specs.Flows.{input_size, Inside, InRange, unused, state_of, unfilled, CameMore, Made, went_on, Still, carrying, left, Advanced, goes, goes_writing, finished, stops}
+use Rattle.streams.specs.Flows.{input_size, output_size, Inside, InRange, unused, state_of, unfilled, CameMore, Made, went_on, Still, carrying, left, Advanced, goes, goes_writing, finished, stops}
 use Rattle.streams.proofs.Moves.{joined_up, used_up}
 
 -- ---- Bytes read: there is room for fewer, or the input is at its end.
@@ -95,7 +95,7 @@ module _ {A : Type 0} (turn : Turns A) (budget : A → ℕ) {room : ℕ} (flow :
           (record { order = range.order; inside = range.inside; room_left = rw same r.room_left }) (omega arith)
           (subst (λ (s : State A). Goes turn before f.piece [] s) (sym (rw (f.kept_is, f.more_is, same))) (fed f.piece e))
       asked_on (flowed.Write next) none = absurd none
-      asked_on flowed.Stopped all = stops e same
+      asked_on flowed.Stopped all = stops (rw same (omega (arith, r.room_left))) e same
 
     -- it used bytes, and put a text
     module _ (used : ℕ) (out' : List ℕ) {text : List ℕ} {next : A} (e : turn_at turn before ≡ puts used text next)
@@ -116,8 +116,8 @@ module _ {A : Type 0} (turn : Turns A) (budget : A → ℕ) {room : ℕ} (flow :
         put_on (flowed.On there) (range, same) =
             goes {next = record { flow = there; carried = next }} {piece = []} range (less_left _ _ _ _ less (unfilled_few there))
             (rw same (subst (λ (s : State A). Goes turn before [] [] s) (sym went_there) (holds e)))
-        put_on (flowed.Write there) (range, same) =
-            goes_writing {next = record { flow = there; carried = next }} range (less_left _ _ _ _ less (unfilled_few there))
+        put_on (flowed.Write there) (range, (fits_out, same)) =
+            goes_writing {next = record { flow = there; carried = next }} fits_out range (less_left _ _ _ _ less (unfilled_few there))
             (rw same
             (subst (λ (all : List ℕ). Goes turn before [] all (state_of (onward flow used) next input [])) (sym put)
             (subst (λ (s : State A). Goes turn before [] (before.held ++ text) (written s)) (sym went_there) (writes e))))
@@ -125,22 +125,26 @@ module _ {A : Type 0} (turn : Turns A) (budget : A → ℕ) {room : ℕ} (flow :
 
     -- it put the last text
     pub at_last :
-        (out' : List ℕ) {text : List ℕ} → turn_at turn before ≡ ends text → out' ≡ out ++ text
+        (out' : List ℕ) {text : List ℕ} → turn_at turn before ≡ ends text → out' ≡ out ++ text → length out' ≤ output_size
         → Advanced turn room budget flow before input out' Last
-    at_last out' e put = finished (record { text = _; turn_is = e; is = put })
+    at_last out' e put fits = finished fits (record { text = _; turn_is = e; is = put })
 
 -- ---- What is known after a step, by its answer.
 
 module _ {A : Type 0} {turn : Turns A} {room : ℕ} {budget : A → ℕ} {flow : Flow} {s : State A} {input out : List ℕ} where
-  on_is :
+  pub on_is :
       {next : Run A} → Advanced turn room budget flow s input out (On next)
       → InRange room (length out) next.flow × (left budget next.flow next.carried < left budget flow s.carried)
   on_is (goes range less step) = (range, less)
 
-  writing_is :
+  pub writing_is :
       {next : Run A} → Advanced turn room budget flow s input out (Write next)
-      → InRange room 0 next.flow × (left budget next.flow next.carried < left budget flow s.carried)
-  writing_is (goes_writing range less step) = (range, less)
+      → (length out ≤ output_size) × (InRange room 0 next.flow × (left budget next.flow next.carried < left budget flow s.carried))
+  writing_is (goes_writing fits range less step) = (fits, (range, less))
+
+  pub last_is : Advanced turn room budget flow s input out Last → length out ≤ output_size
+  last_is (finished fits done) = fits
+  last_is (stops fits e held) = fits
 
   pub on_by :
       {t : Next A} {next : Run A} → Advanced turn room budget flow s input out t → t ≡ On next
@@ -149,8 +153,11 @@ module _ {A : Type 0} {turn : Turns A} {room : ℕ} {budget : A → ℕ} {flow :
 
   pub writing_by :
       {t : Next A} {next : Run A} → Advanced turn room budget flow s input out t → t ≡ Write next
-      → InRange room 0 next.flow × (left budget next.flow next.carried < left budget flow s.carried)
+      → (length out ≤ output_size) × (InRange room 0 next.flow × (left budget next.flow next.carried < left budget flow s.carried))
   writing_by a is = writing_is (subst (λ (t : Next A). Advanced turn room budget flow s input out t) is a)
+
+  pub last_by : {t : Next A} → Advanced turn room budget flow s input out t → t ≡ Last → length out ≤ output_size
+  last_by a is = last_is (subst (λ (t : Next A). Advanced turn room budget flow s input out t) is a)
 
 -- ---- What is carried on.
 

@@ -2,8 +2,7 @@
 ghost use Rattle.std.specs.Prelude.{◌≡◌, ◌≤◌};
 ghost use Rattle.streams.specs.Flows.{output_size, Inside, MoreToRead, CameMore, Made, went_on};
 
-use crate::failure::tell;
-use crate::input::{keep, read_at};
+use crate::input::{keep, read_next};
 use std::io::Read;
 
 // Room for the bytes that come: a record has 1,026 at most.
@@ -55,16 +54,13 @@ pub fn read_more<F: Read>(rt: &impl Eprint, stdin: &mut F, input: &mut [u8], flo
     ensures { CameMore flow input.old input.new result }
 {
     let kept = keep(input, flow.from, flow.to);
-    match read_at(stdin, input, kept) {
+    match read_next(rt, stdin, input, kept) {
         Ok(got) => Flowed::On(Flow {
             from: 0,
             to: kept + got,
             more: 0 < got,
         }),
-        Err(error) => {
-            tell(rt, b"standard input", error);
-            Flowed::Stopped
-        }
+        Err(_) => Flowed::Stopped,
     }
 }
 

@@ -1,9 +1,9 @@
 // Bytes of a file, read behind those that are there already.
-ghost use Rattle.std.specs.Prelude.{◌≤◌, length};
+ghost use Rattle.std.specs.Prelude.{◌≤◌, ◌<◌, length};
 ghost use Rattle.streams.specs.Clauses.{Came, Kept, bytes_read};
 ghost use Rattle.streams.specs.Pieces.{Filled, bytes_come};
 
-use crate::failure::tell;
+use crate::failure::{Told, tell};
 use std::io;
 use std::io::{Error, Read};
 
@@ -20,6 +20,22 @@ pub fn read_at<F: Read>(file: &mut F, room: &mut [u8], place: usize) -> io::Resu
     ensures { Came room.old place room.new (bytes_read result) }
 {
     file.read(&mut room[place..])
+}
+
+// Standard input's next bytes, behind those that are there already. A failure is told.
+pub fn read_next<F: Read>(
+    rt: &impl Eprint,
+    stdin: &mut F,
+    room: &mut [u8],
+    place: usize,
+) -> Result<usize, Told>
+    requires { place < length room.old }
+    ensures { Came room.old place room.new (bytes_read result) }
+{
+    match read_at(stdin, room, place) {
+        Ok(bytes) => Ok(bytes),
+        Err(error) => Err(tell(rt, b"standard input", error)),
+    }
 }
 
 // A file's first bytes, piece behind piece: all of them, or as many as there is room for. Each read says how far the place moves.

@@ -3,7 +3,7 @@
 // failure.rt  what is told where that fails
 // input.rt    bytes read, and those kept for the next read
 // output.rt   bytes written
-// flow.rt     the two buffers of a run
+// flow.rt     how far a run has come: its input, what its turns carry on, and what comes after one
 #![tactic(auto)]
 
 pub mod failure;

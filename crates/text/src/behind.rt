@@ -1,6 +1,6 @@
 // Words and numbers, put behind a place of a slice: each function answers the place behind what it has put. The digits are put several at a time
-// and the last ones of them are none of the number's: so these take a slice and a place, and only `Output` is offered.
-ghost use Rattle.std.specs.Prelude.{◌+◌, ◌≤◌, [], ◌∷◌, length};
+// and the last ones of them are none of the number's: so these take a slice and a place. An `Output` puts by them into its own room.
+ghost use Rattle.std.specs.Prelude.{◌+◌, ◌≤◌, [], ◌∷◌, ◌++◌, length};
 ghost use Rattle.text.specs.Texts.{decimal};
 ghost use Rattle.text.specs.Clauses.{Behind};
 
@@ -35,4 +35,13 @@ pub fn put_number(out: &mut [u8], place: usize, number: u64) -> usize
     let mut digits = [0u8; 21];
     let at = put_long_before(&mut digits, 21, number);
     put_text(out, place, &digits[at..])
+}
+
+// A text and a number behind it.
+pub fn put_named(out: &mut [u8], place: usize, text: &[u8], number: u64) -> usize
+    requires { place + length text.now + 21 ≤ length out.old }
+    ensures { Behind (text.now ++ decimal number) (length text.now + 21) out.old place out.new result }
+{
+    let start = put_text(out, place, text);
+    put_number(out, start, number)
 }

@@ -55,7 +55,7 @@ fn put_eight(out: &mut [u8], place: usize, word: u64)
 }
 
 // A number of eight digits at most. With 2^60 added the last digit's byte is not 0, so that 0 keeps its digit.
-pub(crate) fn put_up_to_eight(out: &mut [u8], place: usize, number: u32) -> usize
+pub fn put_up_to_eight(out: &mut [u8], place: usize, number: u32) -> usize
     requires { (number < 100000000) × (place + 8 ≤ length out.old) }
     ensures { Behind (decimal number) 8 out.old place out.new result }
 {
@@ -70,7 +70,7 @@ pub(crate) fn put_up_to_eight(out: &mut [u8], place: usize, number: u32) -> usiz
 }
 
 // A number of four digits at most, which are at hand, and a mark behind it.
-pub(crate) fn put_four(out: &mut [u8], place: usize, number: u64, digits: u64, mark: u8) -> usize
+pub fn put_four(out: &mut [u8], place: usize, number: u64, digits: u64, mark: u8) -> usize
     requires { (number < 10000) × ((digits ≡ word_of (four number)) × (place + 8 ≤ length out.old)) }
     ensures { Behind (decimal number ++ (mark ∷ [])) 5 out.old place out.new result }
 {
@@ -84,7 +84,7 @@ pub(crate) fn put_four(out: &mut [u8], place: usize, number: u64, digits: u64, m
 }
 
 // A number of 32 bits has 10 digits at most. One of more than eight is put together from its end on, and copied.
-pub(crate) fn put_small(out: &mut [u8], place: usize, number: u32) -> usize
+pub fn put_small(out: &mut [u8], place: usize, number: u32) -> usize
     requires { place + 10 ≤ length out.old }
     ensures { Behind (decimal number) 10 out.old place out.new result }
 {

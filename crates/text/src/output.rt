@@ -1,5 +1,6 @@
 // What is printed, put together piece behind piece in a room of a fixed size. A contract sees the bytes that were put so far.
 ghost use Rattle.std.specs.Prelude.{◌≡◌, ℕ, ◌+◌, ◌≤◌, ◌<◌, List, [], ◌∷◌, ◌++◌, length, take};
+ghost use Rattle.std.specs.Fn.{FnOnceReturnsAt};
 ghost use Rattle.text.specs.Texts.{decimal};
 ghost use Rattle.text.specs.Fours.{four, word_of};
 ghost use Rattle.text.specs.Clauses.{Put};
@@ -47,6 +48,18 @@ impl<const N: usize> Output<N> {
         ensures { self.new ≡ [] }
     {
         self.end = 0;
+    }
+
+    // All that was put is handed over at once, and the output is empty then. Which bytes are handed over is said here, so that whoever lends an output to
+    // be written can neither leave the write out nor come too late with it.
+    pub fn hand_over<R, F: FnOnce(&[u8]) -> R>(&mut self, to: F) -> R
+        requires { F.IsAlwaysCallable to }
+        ensures handed { FnOnceReturnsAt F.FnOnce to self.old result }
+        ensures emptied { self.new ≡ [] }
+    {
+        let answer = to(self.as_slice());
+        self.clear();
+        answer
     }
 
     pub fn put_byte(&mut self, byte: u8)

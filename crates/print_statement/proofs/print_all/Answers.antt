@@ -19,12 +19,12 @@ loop-on-preserved-in-On g c =
     }
 
 pub loop-on-smaller : goal.loop-on-smaller
-loop-on-smaller g c = (writing_by c.take_step.ensures.advanced c.in-Write.is).1
+loop-on-smaller g c = (writing_by c.take_step.ensures.advanced c.in-Write.is).1.1
 
 pub loop-on-preserved : goal.loop-on-preserved
 loop-on-preserved g c =
     record {
       size = omega arith;
-      range = rw c.clear.ensures (writing_by c.take_step.ensures.advanced c.in-Write.is).0;
+      range = rw c.hand_over.ensures.emptied (writing_by c.take_step.ensures.advanced c.in-Write.is).1.0;
       few = still_writing Few c.take_step.ensures.few c.in-Write.is;
     }

@@ -3,13 +3,14 @@ use native.Mathlib.Omega.{arith}
 use mathlib.Core.Path.{refl}
 use Rattle.text.specs.Texts.{bytes}
 use Rattle.salvage.specs.Salvage.{printed}
-use Rattle.salvage.proofs.Passes.{begins, goes_on, steps_on, all_done, is_too_long}
+use Rattle.salvage.proofs.Passes.{begins, goes_on, steps_on, lines_fit, all_done, is_too_long}
 use Rattle.salvage.proofs.salvage.Goals as goal
 
 pub returns-then-size-gt-ROLL : goal.returns-then-size-gt-ROLL
 unfolding printed bytes
 returns-then-size-gt-ROLL c =
-    (is_too_long c.args.roll.now (omega arith), (rw c.clear.ensures at c.put_text.ensures.put, refl))
+    let text = rw c.clear.ensures at c.put_text.ensures.put in
+    (is_too_long c.args.roll.now (omega arith), (text, (rw text (omega arith), refl)))
 
 pub loop-pass-init : goal.loop-pass-init
 loop-pass-init c = rw c.clear.ensures (begins c.args.roll.now (omega arith))
@@ -39,4 +40,10 @@ shape_of-roll c = omega (arith, c.loop-pass.invariant.same_length)
 pub returns : goal.returns
 returns c =
     let r = c.loop-pass.invariant in
-    (all_done r (omega (arith, r.inside)) c.put_run.ensures, (omega (arith, r.kept_before, r.order, r.inside, r.same_length), r.others))
+    let put = c.put_run.ensures in (
+      all_done r (omega (arith, r.inside)) put,
+      (
+        omega (arith, r.kept_before, r.order, r.inside, r.same_length),
+        (lines_fit _ _ _ _ (omega (arith, r.order, r.inside)) r.short r.few put.room, r.others),
+      ),
+    )

@@ -1,4 +1,4 @@
--- `records::put_rows` meets its contract. The loop's invariant: behind the place stand the lines of the first `i` charges. The measure is the
+-- `records::put_rows` meets its contract. The loop's invariant: behind what was put stand the lines of the first `i` charges. The measure is the
 -- charges that are left.
 use native.Mathlib.Omega.{arith}
 use mathlib.Core.Path.{◌≡◌, sym, ap, ◌∙◌}

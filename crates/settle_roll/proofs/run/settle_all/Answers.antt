@@ -33,7 +33,7 @@ loop-on-preserved-in-On g c =
     )
 
 pub loop-on-smaller : goal.loop-on-smaller
-loop-on-smaller g c = (writing_by _ _ c.take_step.ensures.advanced c.in-Write.is).1
+loop-on-smaller g c = (writing_by _ _ c.take_step.ensures.advanced c.in-Write.is).1.1
 
 pub loop-on-preserved : goal.loop-on-preserved
 loop-on-preserved g c =
@@ -45,7 +45,7 @@ loop-on-preserved g c =
       record {
         ready = step.ensures.again;
         size = omega (arith, size);
-        range = rw c.clear.ensures (writing_by _ {s = before} _ step.ensures.advanced c.in-Write.is).0;
+        range = rw c.hand_over.ensures.emptied (writing_by _ {s = before} _ step.ensures.advanced c.in-Write.is).1.0;
         counting = still_writing Counting step.ensures.counting c.in-Write.is;
       },
       omega (arith, inv.1),

@@ -7,6 +7,6 @@ use Rattle.streams.proofs.flow.read_more.Goals as goal
 pub returns-in-Ok : goal.returns-in-Ok
 returns-in-Ok g c =
     let kept = c.keep-kept in
-    let came = read_is c.read_at.ensures c.in-Ok.is in
-    more_came c.args.flow c.args.input.now kept.new.room c.read_at.new.room kept.result c.in-Ok.got c.requires.range c.requires.more
+    let came = read_is c.read_next.ensures c.in-Ok.is in
+    more_came c.args.flow c.args.input.now kept.new.room c.read_next.new.room kept.result c.in-Ok.got c.requires.range c.requires.more
     (omega arith) (omega (arith, came.fits)) kept.ensures came
