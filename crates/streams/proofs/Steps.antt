@@ -116,8 +116,8 @@ module _ {A : Type 0} (turn : Turns A) (budget : A → ℕ) {room : ℕ} (flow :
         put_on (flowed.On there) (range, same) =
             goes {next = record { flow = there; carried = next }} {piece = []} range (less_left _ _ _ _ less (unfilled_few there))
             (rw same (subst (λ (s : State A). Goes turn before [] [] s) (sym went_there) (holds e)))
-        put_on (flowed.Write there) (range, (fits_out, same)) =
-            goes_writing {next = record { flow = there; carried = next }} fits_out range (less_left _ _ _ _ less (unfilled_few there))
+        put_on (flowed.Write there) (range, (some, (fits_out, same))) =
+            goes_writing {next = record { flow = there; carried = next }} some fits_out range (less_left _ _ _ _ less (unfilled_few there))
             (rw same
             (subst (λ (all : List ℕ). Goes turn before [] all (state_of (onward flow used) next input [])) (sym put)
             (subst (λ (s : State A). Goes turn before [] (before.held ++ text) (written s)) (sym went_there) (writes e))))
@@ -140,7 +140,7 @@ module _ {A : Type 0} {turn : Turns A} {room : ℕ} {budget : A → ℕ} {flow :
   pub writing_is :
       {next : Run A} → Advanced turn room budget flow s input out (Write next)
       → (length out ≤ output_size) × (InRange room 0 next.flow × (left budget next.flow next.carried < left budget flow s.carried))
-  writing_is (goes_writing fits range less step) = (fits, (range, less))
+  writing_is (goes_writing some fits range less step) = (fits, (range, less))
 
   pub last_is : Advanced turn room budget flow s input out Last → length out ≤ output_size
   last_is (finished fits done) = fits

@@ -61,10 +61,10 @@ CameMore flow input input' (flowed.On next) = Inside next × ((unfilled next < u
 CameMore flow input input' (flowed.Write next) = ⊥
 CameMore flow input input' flowed.Stopped = Unit {0}
 
--- all that was put is held; or it is to be written
+-- all that was put is held; or it is to be written, where something was put
 abbrev pub Made : ℕ → ℕ → Flow → Flowed → Type 0
 Made room put flow (flowed.On next) = InRange room put next × (next ≡ flow)
-Made room put flow (flowed.Write next) = InRange room 0 next × ((put ≤ output_size) × (next ≡ flow))
+Made room put flow (flowed.Write next) = InRange room 0 next × ((0 < put) × ((put ≤ output_size) × (next ≡ flow)))
 Made room put flow flowed.Stopped = ⊥
 
 -- another turn, where there is one
@@ -100,7 +100,7 @@ pub record Finished {A : Type 0} (turn : Turns A) (s : State A) (all : List ℕ)
 pub data Advanced {A : Type 0} (turn : Turns A) (room : ℕ) (budget : A → ℕ) (flow : Flow) (s : State A) (input out : List ℕ) : Next A → Type 0 where
   goes : {next : Run A} {piece : List ℕ} → InRange room (length out) next.flow → left budget next.flow next.carried < left budget flow s.carried
       → Goes turn s piece [] (reached next input out) → Advanced turn room budget flow s input out (On next)
-  goes_writing : {next : Run A} → length out ≤ output_size → InRange room 0 next.flow
+  goes_writing : {next : Run A} → 0 < length out → length out ≤ output_size → InRange room 0 next.flow
       → left budget next.flow next.carried < left budget flow s.carried → Goes turn s [] out (reached next input []) → Advanced turn room budget flow s input out (Write next)
   finished : length out ≤ output_size → Finished turn s out → Advanced turn room budget flow s input out Last
   stops : length out ≤ output_size → turn_at turn s ≡ asks → out ≡ s.held → Advanced turn room budget flow s input out Last

@@ -50,10 +50,11 @@ impl<const N: usize> Output<N> {
         self.end = 0;
     }
 
-    // All that was put is handed over at once, and the output is empty then. Which bytes are handed over is said here, so that whoever lends an output to
-    // be written can neither leave the write out nor come too late with it.
+    // All that was put is handed over at once, and the output is empty then. Something has to be held: so what was put cannot be cleared, by a slip,
+    // before it is handed over.
     pub fn hand_over<R, F: FnOnce(&[u8]) -> R>(&mut self, to: F) -> R
-        requires { F.IsAlwaysCallable to }
+        requires callable { F.IsAlwaysCallable to }
+        requires some { 0 < length self.old }
         ensures handed { FnOnceReturnsAt F.FnOnce to self.old result }
         ensures emptied { self.new ≡ [] }
     {
